@@ -1,0 +1,261 @@
+-- Laws of live words: a word is its bits, what is written is read back, and every other bit stays.
+use mathlib.Core.Path.{_≡_, refl, sym, _∙_, ap, subst}
+use mathlib.Core.Bool.{Bool, true, false, not, _&&_, cond, and-true}
+use mathlib.Core.List.{List, [], _∷_, map}
+use Prim.Native.Nat.{ℕ, zero, suc, _+_, _*_, _-_, _/_, _%_, _^_, _≤_, _<_}
+use native.Mathlib.Nat.{add-zero, zero-add, add-suc, suc-add, pow-suc, pow-succ', div-div-eq-div-mul, le-of-suc-le-suc}
+use native.Mathlib.Omega.{arith}
+use native.Mathlib.Decide.{ℕ-discrete}
+use lib.Dec.{ltb, eqb}
+use lib.ListN.{length, getD, set, length-map, length-set}
+use lib.Seq.{ext-getD, getD-set-same, getD-set-other}
+use borrow.Author.Tests.{eqb-true, eqb-false, eq-eqb, ne-eqb, lt-ltb, ltb-true, ltb-false}
+use Rattle.model.specs.Limits.{wordBits}
+use Rattle.model.specs.Lists.{from}
+use Rattle.model.specs.TupleSet.{TupleSet, has, without}
+use Rattle.model.specs.LiveWords.{bit, isSet, isLive, living, digits, word, cleared, bitAfter, writtenFrom, written}
+use Rattle.model.proofs.Bools.{iff-eq}
+use Rattle.model.proofs.Lists.{length-from, getD-map-from}
+use Rattle.model.proofs.TupleSet.{restrict-has}
+
+-- ---- Bits of a number
+
+half : (b : Bool) (x : ℕ) → (cond b 1 0 + 2 * x) / 2 ≡ x
+half true x = omega arith
+half false x = omega arith
+
+low : (b : Bool) (x : ℕ) → isSet (cond b 1 0 + 2 * x) 0 ≡ b
+unfolding isSet bit
+low true x = eq-eqb ((1 + 2 * x) / 2 ^ 0 % 2) 1 (omega arith)
+low false x = ne-eqb ((0 + 2 * x) / 2 ^ 0 % 2) 1 (omega arith)
+
+-- bit j + 1 of a number is bit j of its half
+pub bit-suc : (w j : ℕ) → bit w (suc j) ≡ bit (w / 2) j
+unfolding bit
+bit-suc w j = ap (λ (x : ℕ). w / x % 2) (pow-succ' 2 j) ∙ ap (λ (x : ℕ). x % 2) (sym (div-div-eq-div-mul w 2 (2 ^ j)))
+
+pub isSet-suc : (w j : ℕ) → isSet w (suc j) ≡ isSet (w / 2) j
+unfolding isSet
+isSet-suc w j = ap (λ (x : ℕ). eqb x 1) (bit-suc w j)
+
+pub digits-isSet : (f : ℕ → Bool) (i k j : ℕ) → j < k → isSet (digits f i k) j ≡ f (i + j)
+digits-isSet f i zero j h = absurd (omega arith)
+digits-isSet f i (suc k) zero h = rw add-zero (low (f i) (digits f (suc i) k))
+digits-isSet f i (suc k) (suc j) h =
+    isSet-suc (digits f i (suc k)) j
+    ∙ ap (λ (x : ℕ). isSet x j) (half (f i) (digits f (suc i) k))
+    ∙ digits-isSet f (suc i) k j (omega arith)
+    ∙ ap f (suc-add i j ∙ sym (add-suc i j))
+
+pub digits-cong : (f g : ℕ → Bool) (i k : ℕ) → ((j : ℕ) → i ≤ j → j < i + k → f j ≡ g j) → digits f i k ≡ digits g i k
+digits-cong f g i zero h = refl
+digits-cong f g i (suc k) h =
+    let e = h i (omega arith) (omega arith) in
+    let r = digits-cong f g (suc i) k (λ j a b. h j (omega arith) (omega arith)) in
+    ap (λ (x : Bool). cond x 1 0 + 2 * digits f (suc i) k) e ∙ ap (λ (x : ℕ). cond (g i) 1 0 + 2 * x) r
+
+pub digits-below : (f : ℕ → Bool) (i k : ℕ) → digits f i k < 2 ^ k
+digits-below f i zero = omega arith
+digits-below f i (suc k) = go (f i) (digits-below f (suc i) k)
+  where
+    go : (b : Bool) → digits f (suc i) k < 2 ^ k → cond b 1 0 + 2 * digits f (suc i) k < 2 ^ suc k
+    go true h = rw pow-succ' (omega arith)
+    go false h = rw pow-succ' (omega arith)
+
+low-digit : (y : ℕ) (b : Bool) → eqb (y % 2) 1 ≡ b → cond b 1 0 ≡ y % 2
+low-digit y true e = sym (eqb-true (y % 2) 1 e)
+low-digit y false e = let d = eqb-false (y % 2) 1 e in omega arith
+
+digits-from : (w i k : ℕ) → w / 2 ^ i < 2 ^ k → digits (isSet w) i k ≡ w / 2 ^ i
+unfolding isSet bit
+digits-from w i zero h = omega arith
+digits-from w i (suc k) h =
+    let y = w / 2 ^ i in
+    let up : w / 2 ^ suc i ≡ y / 2 = ap (λ (x : ℕ). w / x) (pow-suc 2 i) ∙ sym (div-div-eq-div-mul w (2 ^ i) 2) in
+    let r : y / 2 < 2 ^ k = omega (arith, pow-succ' 2 k) in
+    let e = digits-from w (suc i) k (subst (λ (x : ℕ). x < 2 ^ k) (sym up) r) ∙ up in
+    omega (arith, e, low-digit y (eqb (y % 2) 1) refl)
+
+-- ---- Words
+
+pub word-isSet : (f : ℕ → Bool) (j : ℕ) → j < wordBits → isSet (word f) j ≡ f j
+unfolding word
+word-isSet f j h = digits-isSet f 0 wordBits j h ∙ ap f (zero-add j)
+
+pub word-cong : (f g : ℕ → Bool) → ((j : ℕ) → j < wordBits → f j ≡ g j) → word f ≡ word g
+unfolding word
+word-cong f g h = digits-cong f g 0 wordBits (λ j a b. h j (omega arith))
+
+pub word-below : (f : ℕ → Bool) → word f < 2 ^ 64
+unfolding word
+word-below f = digits-below f 0 wordBits
+
+-- a word is the word with its bits
+pub word-self : (w : ℕ) → w < 2 ^ 64 → word (isSet w) ≡ w
+unfolding word
+word-self w h = digits-from w 0 wordBits (omega arith) ∙ omega arith
+
+-- ---- Live ids
+
+pub living-length : (n : ℕ) (ws : List ℕ) → length (living n ws) ≡ n
+unfolding living
+living-length n ws = length-map (from 0 n) (isLive ws) ∙ length-from 0 n
+
+pub living-has : (n : ℕ) (ws : List ℕ) (g : ℕ) → g < n → has (living n ws) g ≡ isLive ws g
+unfolding living
+living-has n ws g h = getD-map-from (isLive ws) 0 n g false h ∙ ap (isLive ws) (zero-add g)
+
+-- bit j of word i is the bit of id 64 i + j
+pub isLive-at : (ws : List ℕ) (i j : ℕ) → j < wordBits → isLive ws (wordBits * i + j) ≡ isSet (getD ws i 0) j
+unfolding isLive
+isLive-at ws i j h =
+    let q : (wordBits * i + j) / wordBits ≡ i = omega arith in
+    let r : (wordBits * i + j) % wordBits ≡ j = omega arith in
+    ap (λ (x : ℕ). isSet (getD ws x 0) ((wordBits * i + j) % wordBits)) q ∙ ap (isSet (getD ws i 0)) r
+
+-- word lists with the same bits are the same
+pub words-ext : (vs ws : List ℕ) → length vs ≡ length ws → ((i : ℕ) → i < length vs → getD vs i 0 < 2 ^ 64) → ((i : ℕ) → i < length ws → getD ws i 0 < 2 ^ 64) → ((g : ℕ) → g < wordBits * length vs → isLive vs g ≡ isLive ws g) → vs ≡ ws
+words-ext vs ws l small-v small-w same =
+    ext-getD 0 vs ws l (λ i h.
+    sym (word-self (getD vs i 0) (small-v i h))
+    ∙ word-cong (isSet (getD vs i 0)) (isSet (getD ws i 0))
+    (λ j k. sym (isLive-at vs i j k) ∙ same (wordBits * i + j) (omega arith) ∙ isLive-at ws i j k)
+    ∙ word-self (getD ws i 0) (small-w i (omega arith)))
+
+-- ---- Words written
+
+writtenFrom-length : (k n : ℕ) (S : TupleSet) (ws : List ℕ) → length (writtenFrom k n S ws) ≡ length ws
+writtenFrom-length k n S [] = refl
+writtenFrom-length k n S (w ∷ ws) = ap suc (writtenFrom-length (suc k) n S ws)
+
+pub written-length : (n : ℕ) (S : TupleSet) (ws : List ℕ) → length (written n S ws) ≡ length ws
+unfolding written
+written-length n S ws = writtenFrom-length 0 n S ws
+
+writtenFrom-at : (k n : ℕ) (S : TupleSet) (ws : List ℕ) (i : ℕ) → i < length ws → getD (writtenFrom k n S ws) i 0 ≡ word (bitAfter n S (k + i) (getD ws i 0))
+writtenFrom-at k n S [] i h = absurd (omega arith)
+writtenFrom-at k n S (w ∷ ws) zero h = rw add-zero
+writtenFrom-at k n S (w ∷ ws) (suc i) h =
+    writtenFrom-at (suc k) n S ws i (le-of-suc-le-suc h)
+    ∙ ap (λ (x : ℕ). word (bitAfter n S x (getD ws i 0))) (suc-add k i ∙ sym (add-suc k i))
+
+pub written-at : (n : ℕ) (S : TupleSet) (ws : List ℕ) (i : ℕ) → i < length ws → getD (written n S ws) i 0 ≡ word (bitAfter n S i (getD ws i 0))
+unfolding written
+written-at n S ws i h = writtenFrom-at 0 n S ws i h ∙ ap (λ (x : ℕ). word (bitAfter n S x (getD ws i 0))) (zero-add i)
+
+-- an id below n is live as in S, every other bit is as it was
+pub written-isLive : (n : ℕ) (S : TupleSet) (ws : List ℕ) (g : ℕ) → g < wordBits * length ws → isLive (written n S ws) g ≡ cond (ltb g n) (has S g) (isLive ws g)
+unfolding isLive
+written-isLive n S ws g h =
+    let q = g / wordBits in
+    let r = g % wordBits in
+    let e : wordBits * q + r ≡ g = omega arith in
+    ap (λ (x : ℕ). isSet x r) (written-at n S ws q (omega arith))
+    ∙ word-isSet (bitAfter n S q (getD ws q 0)) r (omega arith)
+    ∙ ap (λ (x : ℕ). cond (ltb x n) (has S x) (isSet (getD ws q 0) r)) e
+
+pub living-written : (n : ℕ) (S : TupleSet) (ws : List ℕ) → length S ≡ n → n ≤ wordBits * length ws → living n (written n S ws) ≡ S
+living-written n S ws l h =
+    ext-getD false (living n (written n S ws)) S (living-length n (written n S ws) ∙ sym l)
+    (λ g k. let b : g < n = subst (λ (x : ℕ). g < x) (living-length n (written n S ws)) k in
+    living-has n (written n S ws) g b ∙ written-isLive n S ws g (omega arith) ∙ ap (λ (x : Bool). cond x (has S g) (isLive ws g)) (lt-ltb g n b))
+
+bitAfter-again : (n : ℕ) (S R : TupleSet) (k w j : ℕ) → j < wordBits → (x : Bool) → ltb (wordBits * k + j) n ≡ x → cond x (has S (wordBits * k + j)) (isSet (word (bitAfter n R k w)) j) ≡ cond x (has S (wordBits * k + j)) (isSet w j)
+bitAfter-again n S R k w j h true e = refl
+bitAfter-again n S R k w j h false e =
+    word-isSet (bitAfter n R k w) j h ∙ ap (λ (y : Bool). cond y (has R (wordBits * k + j)) (isSet w j)) e
+
+writtenFrom-again : (k n : ℕ) (S R : TupleSet) (ws : List ℕ) → writtenFrom k n S (writtenFrom k n R ws) ≡ writtenFrom k n S ws
+writtenFrom-again k n S R [] = refl
+writtenFrom-again k n S R (w ∷ ws) =
+    ap {B = List ℕ} (λ x. x ∷ writtenFrom (suc k) n S (writtenFrom (suc k) n R ws))
+    (word-cong (bitAfter n S k (word (bitAfter n R k w))) (bitAfter n S k w) (λ j h. bitAfter-again n S R k w j h (ltb (wordBits * k + j) n) refl))
+    ∙ ap {B = List ℕ} (λ t. word (bitAfter n S k w) ∷ t) (writtenFrom-again (suc k) n S R ws)
+
+-- what is written last stands
+pub written-written : (n : ℕ) (S R : TupleSet) (ws : List ℕ) → written n S (written n R ws) ≡ written n S ws
+unfolding written
+written-written n S R ws = writtenFrom-again 0 n S R ws
+
+-- to write what lives changes nothing
+pub written-living : (n : ℕ) (ws : List ℕ) → ((i : ℕ) → i < length ws → getD ws i 0 < 2 ^ 64) → written n (living n ws) ws ≡ ws
+written-living n ws small =
+    words-ext (written n (living n ws) ws) ws (written-length n (living n ws) ws)
+    (λ i h. subst (λ (x : ℕ). x < 2 ^ 64) (sym (written-at n (living n ws) ws i (omega (arith, written-length n (living n ws) ws)))) (word-below (bitAfter n (living n ws) i (getD ws i 0))))
+    small
+    (λ g h. written-isLive n (living n ws) ws g (omega (arith, written-length n (living n ws) ws)) ∙ same g (ltb g n) refl)
+  where
+    same : (g : ℕ) (x : Bool) → ltb g n ≡ x → cond x (has (living n ws) g) (isLive ws g) ≡ isLive ws g
+    same g true e = living-has n ws g (ltb-true g n e)
+    same g false e = refl
+
+-- ---- One id cleared
+
+pub cleared-length : (g : ℕ) (ws : List ℕ) → length (cleared g ws) ≡ length ws
+unfolding cleared
+cleared-length g ws = length-set ws (g / wordBits) (word (λ (j : ℕ). isSet (getD ws (g / wordBits) 0) j && not (eqb (g % wordBits) j)))
+
+-- the bits of word i once id g is cleared
+bits : ℕ → List ℕ → ℕ → ℕ → Bool
+bits g ws i j = isSet (getD ws i 0) j && not (eqb g (wordBits * i + j))
+
+same-place : (g j : ℕ) → j < wordBits → eqb (g % wordBits) j ≡ eqb g (wordBits * (g / wordBits) + j)
+same-place g j h =
+    iff-eq (eqb (g % wordBits) j) (eqb g (wordBits * (g / wordBits) + j))
+    (λ e. let q = eqb-true (g % wordBits) j e in eq-eqb g (wordBits * (g / wordBits) + j) (omega arith))
+    (λ e. let q = eqb-true g (wordBits * (g / wordBits) + j) e in eq-eqb (g % wordBits) j (omega arith))
+
+cleared-at : (g : ℕ) (ws : List ℕ) → ((i : ℕ) → i < length ws → getD ws i 0 < 2 ^ 64) → (i : ℕ) → i < length ws → Dec (i ≡ g / wordBits) → getD (cleared g ws) i 0 ≡ word (bits g ws i)
+unfolding cleared bits
+cleared-at g ws small i h (yes e) =
+    let k = g / wordBits in
+    let w = getD ws k 0 in
+    subst (λ (x : ℕ). getD (set ws k (word (λ (j : ℕ). isSet w j && not (eqb (g % wordBits) j)))) x 0 ≡ word (λ (j : ℕ). isSet (getD ws x 0) j && not (eqb g (wordBits * x + j)))) (sym e)
+    (getD-set-same ws k (word (λ (j : ℕ). isSet w j && not (eqb (g % wordBits) j))) 0 (omega arith)
+    ∙ word-cong (λ (j : ℕ). isSet w j && not (eqb (g % wordBits) j)) (λ (j : ℕ). isSet w j && not (eqb g (wordBits * k + j)))
+    (λ j hj. ap (λ (x : Bool). isSet w j && not x) (same-place g j hj)))
+cleared-at g ws small i h (no d) =
+    getD-set-other ws (g / wordBits) i (word (λ (j : ℕ). isSet (getD ws (g / wordBits) 0) j && not (eqb (g % wordBits) j))) 0 d
+    ∙ sym (word-self (getD ws i 0) (small i h))
+    ∙ word-cong (isSet (getD ws i 0)) (λ (j : ℕ). isSet (getD ws i 0) j && not (eqb g (wordBits * i + j)))
+    (λ j hj. sym (ap (λ (x : Bool). isSet (getD ws i 0) j && not x) (ne-eqb g (wordBits * i + j) (omega arith)) ∙ and-true (isSet (getD ws i 0) j)))
+
+-- every bit but id g's stays
+pub cleared-isLive : (g : ℕ) (ws : List ℕ) → ((i : ℕ) → i < length ws → getD ws i 0 < 2 ^ 64) → (h : ℕ) → h < wordBits * length ws → isLive (cleared g ws) h ≡ (isLive ws h && not (eqb g h))
+unfolding isLive bits
+cleared-isLive g ws small h below =
+    let q = h / wordBits in
+    let r = h % wordBits in
+    let e : wordBits * q + r ≡ h = omega arith in
+    ap (λ (x : ℕ). isSet x r) (cleared-at g ws small q (omega arith) (ℕ-discrete q (g / wordBits)))
+    ∙ word-isSet (bits g ws q) r (omega arith)
+    ∙ ap (λ (x : ℕ). isSet (getD ws q 0) r && not (eqb g x)) e
+
+pub written-below : (n : ℕ) (S : TupleSet) (ws : List ℕ) (i : ℕ) → i < length ws → getD (written n S ws) i 0 < 2 ^ 64
+written-below n S ws i h = subst (λ (x : ℕ). x < 2 ^ 64) (sym (written-at n S ws i h)) (word-below (bitAfter n S i (getD ws i 0)))
+
+bit-cleared : (n : ℕ) (S : TupleSet) (g i w j : ℕ) → g < n → (x : Bool) → ltb (wordBits * i + j) n ≡ x → (cond x (has S (wordBits * i + j)) (isSet w j) && not (eqb g (wordBits * i + j))) ≡ cond x (has (without (eqb g) S) (wordBits * i + j)) (isSet w j)
+bit-cleared n S g i w j h true e = sym (restrict-has (λ y. not (eqb g y)) S (wordBits * i + j))
+bit-cleared n S g i w j h false e =
+    let l = ltb-false (wordBits * i + j) n e in
+    ap (λ (y : Bool). isSet w j && not y) (ne-eqb g (wordBits * i + j) (omega arith)) ∙ and-true (isSet w j)
+
+-- to clear an id is to write the set without it
+pub cleared-written : (n : ℕ) (S : TupleSet) (g : ℕ) (ws : List ℕ) → g < n → cleared g (written n S ws) ≡ written n (without (eqb g) S) ws
+unfolding bits
+cleared-written n S g ws h =
+    ext-getD 0 (cleared g vs) (written n (without (eqb g) S) ws)
+    (cleared-length g vs ∙ written-length n S ws ∙ sym (written-length n (without (eqb g) S) ws))
+    (λ i k. at i (omega (arith, cleared-length g vs, written-length n S ws)))
+  where
+    vs : List ℕ
+    vs = written n S ws
+
+    at : (i : ℕ) → i < length ws → getD (cleared g vs) i 0 ≡ getD (written n (without (eqb g) S) ws) i 0
+    at i k =
+        cleared-at g vs (λ i l. written-below n S ws i (omega (arith, written-length n S ws))) i (omega (arith, written-length n S ws)) (ℕ-discrete i (g / wordBits))
+        ∙ word-cong (λ (j : ℕ). isSet (getD vs i 0) j && not (eqb g (wordBits * i + j))) (bitAfter n (without (eqb g) S) i (getD ws i 0))
+        (λ j hj.
+        ap (λ (x : Bool). x && not (eqb g (wordBits * i + j))) (ap (λ (x : ℕ). isSet x j) (written-at n S ws i k) ∙ word-isSet (bitAfter n S i (getD ws i 0)) j hj)
+        ∙ bit-cleared n S g i (getD ws i 0) j h (ltb (wordBits * i + j) n) refl)
+        ∙ sym (written-at n (without (eqb g) S) ws i k)

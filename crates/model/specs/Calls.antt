@@ -1,0 +1,80 @@
+-- Lists of change calls on one instance and its live words (document 01: the strike rule).
+use mathlib.Core.Path.{_≡_}
+use mathlib.Core.Bool.{Bool, true, false, _&&_, cond}
+use mathlib.Core.Option.{Option, none, some}
+use mathlib.Core.Logic.{_⊎_}
+use mathlib.Core.List.{List, [], _∷_, List·Memᴰ}
+use Prim.Native.Nat.{ℕ, _+_}
+use Rattle.model.specs.Lists.{any}
+use Rattle.model.specs.TupleSet.{TupleSet, without}
+use Rattle.model.specs.Network.{total}
+use Rattle.model.specs.Consistency.{filtered}
+use Rattle.model.specs.LiveWords.{living}
+use Rattle.model.specs.Request.{Change, Instance, combinationsOf, Request, removes}
+use Rattle.model.specs.Fault.{accepts}
+use Rattle.model.specs.Reply.{Reply, reply}
+
+-- One call: an instance, live words of its own or else the shared ones, a support list and a change.
+pub record Call : Type 0 where
+  pub given : Instance
+  pub own : Option (List ℕ)
+  pub supports : List ℕ
+  pub change : Change
+
+abbrev pub lentWords : Option (List ℕ) → List ℕ → List ℕ
+lentWords none shared = shared
+lentWords (some own) shared = own
+
+-- the call's request while the shared words are ws
+abbrev pub request : List ℕ → Call → Request
+request ws c = record { given = c .given; words = lentWords (c .own) ws; supports = c .supports; change = c .change }
+
+-- what the shared words hold after a call that leaves `after` in the words lent to it
+abbrev pub sharedAfter : Option (List ℕ) → List ℕ → List ℕ → List ℕ
+sharedAfter none shared after = after
+sharedAfter (some own) shared after = shared
+
+-- A list's calls are on the shared instance and words, but a call that is refused may be on others.
+abbrev pub Proper : Instance → List ℕ → List Call → Type 0
+Proper I ws calls =
+    (c : Call) → List·Memᴰ c calls → ((c .given ≡ I) × (c .own ≡ none)) ⊎ (accepts (request ws c) ≡ false)
+
+-- The shared words, how many tuples were withdrawn and deleted so far, and the last accepted call with its reply.
+pub record State : Type 0 where
+  pub words : List ℕ
+  pub gone : ℕ
+  pub last : Option (Call × Reply)
+
+abbrev pub start : List ℕ → State
+start ws = record { words = ws; gone = 0; last = none }
+
+-- one call made
+unfoldable pub make : State → Call → State
+make st c =
+    let q = request (st .words) c in
+    record {
+      words = sharedAfter (c .own) (st .words) ((reply q) .words);
+      gone = st .gone + (((reply q) .answer) .withdrawn + ((reply q) .answer) .deleted);
+      last = cond (accepts q) (some (c, reply q)) (st .last);
+    }
+
+-- the calls made one after the other, each on the words that the last one left
+abbrev pub makeAll : State → List Call → State
+makeAll st [] = st
+makeAll st (c ∷ cs) = makeAll (make st c) cs
+
+-- some call of the list is accepted; this depends on how many words there are, and not on what they hold
+unfoldable pub anyAccepted : List ℕ → List Call → Bool
+anyAccepted ws calls = any (λ (c : Call). accepts (request ws c)) calls
+
+-- an accepted call of the list removes tuple g
+unfoldable pub removedBy : Instance → List ℕ → List Call → ℕ → Bool
+removedBy I ws calls g = any (λ (c : Call). accepts (request ws c) && removes (I .network) (c .change) g) calls
+
+-- the starting tuples
+abbrev pub starting : Instance → List ℕ → TupleSet
+starting I ws = living (total (I .network)) ws
+
+-- one filtering of the starting tuples without all that accepted calls removed
+unfoldable pub remaining : Instance → List ℕ → List Call → TupleSet
+remaining I ws calls = filtered (I .network) (combinationsOf I) (without (removedBy I ws calls) (starting I ws))

@@ -1,0 +1,120 @@
+-- Document 01's examples P1 to P9, as one statement over their table.
+use mathlib.Core.Path.{_≡_, refl}
+use mathlib.Core.List.{List, [], _∷_, map}
+use Prim.Native.Nat.{ℕ}
+use lib.ListN.{length, replicate, take, drop}
+use Rattle.model.specs.declared.Relation.{Relation}
+use Rattle.model.specs.TupleSet
+use Rattle.model.specs.Network
+use Rattle.model.specs.Network.{Network}
+use Rattle.model.specs.Agreement
+use Rattle.model.specs.Combination
+use Rattle.model.specs.Support
+use Rattle.model.specs.Consistency
+use Rattle.model.specs.LiveWords
+use Rattle.model.specs.Request
+use Rattle.model.specs.Request.{Instance, Request, Change, filter, withdraw, choose}
+use Rattle.model.specs.Fault
+use Rattle.model.specs.Reply
+use Rattle.model.specs.Reply.{Numbers, reply}
+
+relation : ℕ → ℕ → Relation
+relation w n = record { width = w; tuples = n }
+
+-- book A
+networkA : Network
+unfolding relation
+networkA =
+    record {
+      relations = relation 2 3 ∷ relation 2 2 ∷ relation 2 2 ∷ [];
+      variables = 0 ∷ 1 ∷ 1 ∷ 2 ∷ 2 ∷ 0 ∷ [];
+      values = 1 ∷ 1 ∷ 1 ∷ 2 ∷ 2 ∷ 2 ∷ 1 ∷ 5 ∷ 2 ∷ 6 ∷ 5 ∷ 1 ∷ 6 ∷ 1 ∷ [];
+    }
+
+-- the book of P6 and P7
+triangle : Network
+unfolding relation
+triangle =
+    record {
+      relations = relation 2 2 ∷ relation 2 2 ∷ relation 2 2 ∷ [];
+      variables = 0 ∷ 1 ∷ 1 ∷ 2 ∷ 2 ∷ 0 ∷ [];
+      values = 0 ∷ 1 ∷ 1 ∷ 0 ∷ 0 ∷ 1 ∷ 1 ∷ 0 ∷ 0 ∷ 1 ∷ 1 ∷ 0 ∷ [];
+    }
+
+-- the book of P8
+lone : Network
+unfolding relation
+lone = record { relations = relation 1 1 ∷ relation 1 0 ∷ []; variables = 0 ∷ 0 ∷ []; values = 4 ∷ [] }
+
+pairs : List ℕ
+pairs = 0 ∷ 1 ∷ 0 ∷ 2 ∷ 1 ∷ 2 ∷ []
+
+-- a request with room for 40 support numbers, each of them 7 at entry
+asked : Network → ℕ → List ℕ → List ℕ → Change → Request
+asked N m members words change =
+    record { given = record { network = N; m = m; members = members }; words = words; supports = replicate 40 7; change = change }
+
+-- the next request on the lists that q leaves
+next : Request → Change → Request
+next q change = record { given = q .given; words = (reply q) .words; supports = (reply q) .supports; change = change }
+
+-- A request, the numbers of its answer, the words that it leaves, and what the support list holds from a place on.
+record Example : Type 0 where
+  request : Request
+  answer : Numbers
+  words : List ℕ
+  place : ℕ
+  supports : List ℕ
+
+numbers : ℕ → ℕ → ℕ → ℕ → ℕ → Numbers
+numbers kind subject left withdrawn deleted =
+    record { kind = kind; subject = subject; left = left; withdrawn = withdrawn; deleted = deleted }
+
+p1 : Request
+unfolding asked networkA pairs
+p1 = asked networkA 2 pairs (127 ∷ []) filter
+
+p3 : Request
+unfolding next p1
+p3 = next p1 (withdraw (5 ∷ []))
+
+table : List Example
+unfolding asked next p1 p3 networkA triangle lone pairs numbers
+table =
+    -- P1: tuple 2 of relation 0 falls, no other
+    record { request = p1; answer = numbers 0 64 6 0 1; words = 123 ∷ []; place = 0; supports = [] }
+    -- P2: the first combination's support of relation 1, tuple 1
+    ∷ record { request = p1; answer = numbers 0 64 6 0 1; words = 123 ∷ []; place = 8; supports = 1 ∷ 1 ∷ [] }
+    -- P3: ids 0 and 3 fall
+    ∷ record { request = p3; answer = numbers 0 64 3 1 2; words = 82 ∷ []; place = 0; supports = 65535 ∷ 65535 ∷ 1 ∷ 1 ∷ 65535 ∷ 65535 ∷ [] }
+    -- P4, and the numbers past the needed 28 are untouched
+    ∷ record { request = next p3 (withdraw (6 ∷ [])); answer = numbers 1 0 0 1 2; words = 0 ∷ []; place = 26; supports = 65535 ∷ 65535 ∷ 7 ∷ [] }
+    -- P5: P3's words
+    ∷ record { request = asked networkA 2 pairs (127 ∷ []) (withdraw (5 ∷ [])); answer = numbers 0 64 3 1 3; words = 82 ∷ []; place = 0; supports = [] }
+    -- P6
+    ∷ record { request = asked triangle 2 pairs (63 ∷ []) filter; answer = numbers 0 64 6 0 0; words = 63 ∷ []; place = 0; supports = 0 ∷ 1 ∷ [] }
+    -- P7
+    ∷ record { request = asked triangle 3 (0 ∷ 1 ∷ 2 ∷ []) (63 ∷ []) filter; answer = numbers 1 0 0 0 6; words = 0 ∷ []; place = 0; supports = 65535 ∷ [] }
+    -- P8
+    ∷ record { request = asked lone 2 [] (1 ∷ []) filter; answer = numbers 1 1 1 0 0; words = 1 ∷ []; place = 0; supports = 7 ∷ [] }
+    -- P9
+    ∷ record { request = asked networkA 2 pairs (127 ∷ []) (choose 2 6); answer = numbers 0 64 3 2 2; words = 82 ∷ []; place = 0; supports = [] }
+    ∷ []
+
+Seen : Type 0
+Seen = Numbers × List ℕ × List ℕ
+
+-- what the request's reply shows of an example
+given : Example → Seen
+unfolding Seen
+given e = ((reply (e .request)) .answer, (reply (e .request)) .words, take (length (e .supports)) (drop (e .place) ((reply (e .request)) .supports)))
+
+-- what the paper says of it
+said : Example → Seen
+unfolding Seen
+said e = (e .answer, e .words, e .supports)
+
+-- P1 to P9
+examples : map given table ≡ map said table
+unfolding table given said Seen asked next p1 p3 networkA triangle lone pairs numbers relation TupleSet.closure Network.relationOf Network.indexOf Network.scopeOf Network.valuesAt Network.tupleOf Agreement.fit Agreement.clash Agreement.agreeing Agreement.cellsOf Agreement.agree Agreement.share Combination.combinations Combination.connected Support.candidates Support.isSupport Support.supports Support.firstSupport Consistency.supported Consistency.filtered Consistency.supportList Consistency.needed LiveWords.bit LiveWords.isSet LiveWords.isLive LiveWords.living LiveWords.word LiveWords.written Request.removes Fault.faultsOn Fault.faults Reply.lowestEmpty Reply.answerFor Reply.remainder Reply.countsFor Reply.leaving Reply.accepted Reply.reply
+examples = refl

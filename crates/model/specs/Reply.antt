@@ -1,0 +1,133 @@
+-- What each call answers, and what it leaves in the lists lent to it.
+use mathlib.Core.Bool.{Bool, true, false, not, cond}
+use mathlib.Core.Option.{Option, none, some}
+use mathlib.Core.List.{List, _++_}
+use Prim.Native.Nat.{ℕ, _-_}
+use lib.Dec.{ltb}
+use lib.ListN.{length, drop}
+use Rattle.model.specs.declared.Counts.{Counts}
+use Rattle.model.specs.declared.Answer.{Answer}
+use Rattle.model.specs.declared.Answer.the-variants.{Settled, Emptied, Refused}
+use Rattle.model.specs.declared.Verdict.{Verdict}
+use Rattle.model.specs.declared.Verdict.the-variants as verdict
+use Rattle.model.specs.declared.Comparison.{Comparison}
+use Rattle.model.specs.declared.Comparison.the-variants as comparison
+use Rattle.model.specs.Limits.{maxRelations}
+use Rattle.model.specs.Lists.{from, any, select, firstOr}
+use Rattle.model.specs.TupleSet.{TupleSet, has, count, restrict, without}
+use Rattle.model.specs.Network.{Network, total, idsOf}
+use Rattle.model.specs.Agreement.{agree}
+use Rattle.model.specs.Combination.{Combination}
+use Rattle.model.specs.Consistency.{filtered, isConsistent, supportList, needed}
+use Rattle.model.specs.LiveWords.{living, written}
+use Rattle.model.specs.Request.{Change, Instance, combinationsOf, Request, removes}
+use Rattle.model.specs.Fault.{firstFault, faults, testFaults, compareFaults}
+
+-- The numbers of an answer. Kind: 0 settled, 1 emptied, 2 refused. Subject: 64 if settled, the relation if emptied, the
+-- refusal number if refused.
+pub record Numbers : Type 0 where
+  pub kind : ℕ
+  pub subject : ℕ
+  pub left : ℕ
+  pub withdrawn : ℕ
+  pub deleted : ℕ
+
+abbrev pub withCounts : ℕ → ℕ → Counts → Numbers
+withCounts kind subject k =
+    record { kind = kind; subject = subject; left = k .left; withdrawn = k .withdrawn; deleted = k .deleted }
+
+-- the papers' numbers for each case of the enum
+abbrev pub answerNumbers : Answer → Numbers
+answerNumbers (Settled k) = withCounts 0 maxRelations k
+answerNumbers (Emptied r k) = withCounts 1 r k
+answerNumbers (Refused f) = withCounts 2 f (record { left = 0; withdrawn = 0; deleted = 0 })
+
+-- What a change call answers, and what the live words and the support list hold at its end.
+pub record Reply : Type 0 where
+  pub answer : Numbers
+  pub words : List ℕ
+  pub supports : List ℕ
+
+-- relation r has no tuple in S
+abbrev pub isEmptied : Network → TupleSet → ℕ → Bool
+isEmptied N S r = not (any (has S) (idsOf N r))
+
+-- the lowest relation with no tuple in S; the number of relations where there is none
+unfoldable pub lowestEmpty : Network → TupleSet → ℕ
+lowestEmpty N S = firstOr (length (N .relations)) (select (isEmptied N S) (from 0 (length (N .relations))))
+
+-- Emptied with the lowest relation that has no tuple in S, or Settled
+unfoldable pub answerFor : Network → TupleSet → Counts → Answer
+answerFor N S k = cond (ltb (lowestEmpty N S) (length (N .relations))) (Emptied (lowestEmpty N S) k) (Settled k)
+
+-- what an accepted change leaves where S lives at entry
+unfoldable pub remainder : Instance → Change → TupleSet → TupleSet
+remainder I change S = filtered (I .network) (combinationsOf I) (without (removes (I .network) change) S)
+
+-- the tuples left; those that the change removed; those that the filter removed
+unfoldable pub countsFor : Instance → Change → TupleSet → Counts
+countsFor I change S =
+    record {
+      left = count (remainder I change S);
+      withdrawn = count (restrict (removes (I .network) change) S);
+      deleted = count (without (removes (I .network) change) S) - count (remainder I change S);
+    }
+
+-- the reply of a call that leaves the tuples L: the first supports in L, and the words with L; every other bit and number
+-- as lent
+unfoldable pub leaving : Instance → TupleSet → Counts → List ℕ → List ℕ → Reply
+leaving I L k words supports =
+    record {
+      answer = answerNumbers (answerFor (I .network) L k);
+      words = written (total (I .network)) L words;
+      supports = supportList (I .network) (combinationsOf I) L ++ drop (needed (I .network) (combinationsOf I)) supports;
+    }
+
+unfoldable pub accepted : Request → Reply
+accepted q =
+    let I = q .given in
+    let S = living (total (I .network)) (q .words) in
+    leaving I (remainder I (q .change) S) (countsFor I (q .change) S) (q .words) (q .supports)
+
+-- a refusal gives its number and leaves every list as lent
+abbrev pub refused : ℕ → Request → Reply
+refused f q = record { answer = answerNumbers (Refused f); words = q .words; supports = q .supports }
+
+abbrev pub replyTo : Option ℕ → Request → Reply
+replyTo none q = accepted q
+replyTo (some f) q = refused f q
+
+-- What filter, withdraw and choose answer and leave.
+unfoldable pub reply : Request → Reply
+reply q = replyTo (firstFault (faults q)) q
+
+-- The numbers of test's and compare's answers: 0 no, 1 yes, 2 refused; and the refusal number.
+abbrev pub verdictNumbers : Verdict → ℕ × ℕ
+verdictNumbers verdict.No = (0, 0)
+verdictNumbers verdict.Yes = (1, 0)
+verdictNumbers (verdict.Refused f) = (2, f)
+
+abbrev pub comparisonNumbers : Comparison → ℕ × ℕ
+comparisonNumbers comparison.Differ = (0, 0)
+comparisonNumbers comparison.Agree = (1, 0)
+comparisonNumbers (comparison.Refused f) = (2, f)
+
+abbrev pub verdictFor : Option ℕ → Bool → Verdict
+verdictFor none true = verdict.Yes
+verdictFor none false = verdict.No
+verdictFor (some f) b = verdict.Refused f
+
+abbrev pub comparisonFor : Option ℕ → Bool → Comparison
+comparisonFor none true = comparison.Agree
+comparisonFor none false = comparison.Differ
+comparisonFor (some f) b = comparison.Refused f
+
+-- What test answers: are the live words consistent. It writes nothing.
+unfoldable pub testReply : Instance → List ℕ → ℕ × ℕ
+testReply I ws =
+    verdictNumbers
+    (verdictFor (firstFault (testFaults I ws)) (isConsistent (I .network) (combinationsOf I) (living (total (I .network)) ws)))
+
+-- What compare answers: do the tuples with ids g and h agree. It writes nothing.
+unfoldable pub compareReply : Network → ℕ → ℕ → ℕ × ℕ
+compareReply N g h = comparisonNumbers (comparisonFor (firstFault (compareFaults N g h)) (agree N g h))

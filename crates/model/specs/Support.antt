@@ -1,0 +1,27 @@
+-- Supports of a tuple in a combination, in the papers' order.
+use mathlib.Core.Bool.{Bool, _&&_}
+use mathlib.Core.List.{List, map}
+use Prim.Native.Nat.{ℕ}
+use lib.ListN.{length, replicate}
+use Rattle.model.specs.Limits.{noSupport}
+use Rattle.model.specs.Lists.{all, elem, select, firstOr, pairwise, choices}
+use Rattle.model.specs.TupleSet.{TupleSet, has}
+use Rattle.model.specs.Network.{Network, idsOf, indexOf}
+use Rattle.model.specs.Agreement.{agree}
+use Rattle.model.specs.Combination.{Combination}
+
+-- one tuple of each member, by id: ordered by the first member's index, then by the second's, and so on
+unfoldable pub candidates : Network → Combination → List (List ℕ)
+candidates N c = choices (map (idsOf N) c)
+
+-- t is a support of tuple g while S lives: g is in it, all of it lives, every two of it agree
+unfoldable pub isSupport : Network → TupleSet → ℕ → List ℕ → Bool
+isSupport N S g t = elem g t && all (has S) t && pairwise (agree N) t
+
+-- the supports of tuple g in combination c
+unfoldable pub supports : Network → TupleSet → Combination → ℕ → List (List ℕ)
+supports N S c g = select (isSupport N S g) (candidates N c)
+
+-- the indices of the first support, one for each member; 65,535 for each where there is none
+unfoldable pub firstSupport : Network → TupleSet → Combination → ℕ → List ℕ
+firstSupport N S c g = firstOr (replicate (length c) noSupport) (map (map (indexOf N)) (supports N S c g))

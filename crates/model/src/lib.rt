@@ -1,0 +1,56 @@
+// The types of the interface, and the papers' limits.
+
+// Document 01's numbers. specs/Limits.antt names the same ones; code that used another would not be proved.
+pub const MAX_RELATIONS: usize = 64;
+
+pub const MAX_WIDTH: usize = 8;
+
+pub const MAX_TUPLES: usize = 4096;
+
+pub const VARIABLES: usize = 64;
+
+pub const MIN_MEMBERS: usize = 2;
+
+pub const MAX_MEMBERS: usize = 4;
+
+pub const MAX_COMBINATIONS: usize = 256;
+
+pub const MAX_SUPPORT_NUMBERS: usize = 32768;
+
+pub const NO_SUPPORT: u16 = 65535;
+
+pub const WORD_BITS: usize = 64;
+
+// A relation record (document 01: sheet record): how many variables its scope has, and how many tuples it holds.
+pub struct Relation {
+    pub width: u16,
+    pub tuples: u16,
+}
+
+// How many tuples are left, were withdrawn by the call, and were deleted by the filter.
+pub struct Counts {
+    pub left: u16,
+    pub withdrawn: u16,
+    pub deleted: u16,
+}
+
+// What filter, withdraw and choose answer: Emptied names the lowest relation that has no live tuple.
+pub enum Answer {
+    Settled(Counts),
+    Emptied(u16, Counts),
+    Refused(u8),
+}
+
+// What test answers.
+pub enum Verdict {
+    Yes,
+    No,
+    Refused(u8),
+}
+
+// What compare answers.
+pub enum Comparison {
+    Agree,
+    Differ,
+    Refused(u8),
+}
