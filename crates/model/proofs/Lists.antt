@@ -1,16 +1,16 @@
 -- Tests over lists against membership, and the choices of one element from each list.
 use mathlib.Core.Path.{_≡_, refl, sym, _∙_, ap, subst}
 use mathlib.Core.Bool.{Bool, true, false, not, _&&_, _||_, false≢true}
-use mathlib.Core.List.{List, [], _∷_, _++_, map, List·Memᴰ, List·Memᴰ·head, List·Memᴰ·tail, List·Memᴰ·eq-of-singleton, List·Memᴰ·cases-cons, List·Memᴰ·append-cases, Memᴰ·append-left, Memᴰ·append-right, Memᴰ·map, Memᴰ·of-map, Memᴰ·cast, List·Memᴰ·not-nil}
+use mathlib.Core.List.{List, [], _∷_, _++_, map, map-append, List·Memᴰ, List·Memᴰ·head, List·Memᴰ·tail, List·Memᴰ·eq-of-singleton, List·Memᴰ·cases-cons, List·Memᴰ·append-cases, Memᴰ·append-left, Memᴰ·append-right, Memᴰ·map, Memᴰ·of-map, Memᴰ·cast, List·Memᴰ·not-nil}
 use mathlib.Core.Logic.{_⊎_, inl, inr, ⊎-elim}
 use Prim.Native.Nat.{ℕ, zero, suc, _+_, _≤_, _<_}
 use native.Mathlib.Omega.{arith}
 use native.Mathlib.Decide.{ℕ-discrete}
 use native.Mathlib.Nat.{add-zero, add-suc, suc-add, le-of-suc-le-suc}
-use lib.Dec.{eqb}
+use lib.Dec.{ltb, eqb}
 use lib.ListN.{length, getD}
-use borrow.Author.Tests.{eqb-true, eq-eqb}
-use Rattle.model.specs.Lists.{all, any, elem, from, select, keepIf, firstOr, pairwise, choices, prefixed, each}
+use borrow.Author.Tests.{eqb-true, eq-eqb, ltb-true, lt-ltb}
+use Rattle.model.specs.Lists.{all, any, elem, from, select, keepIf, firstOr, pairwise, choices, prefixed, earlier}
 use Rattle.model.proofs.Bools.{and-left, and-right, and-intro, or-left, or-right, or-cases}
 
 module _ {ℓ} {A : Type ℓ} where
@@ -34,6 +34,10 @@ module _ {ℓ} {A : Type ℓ} where
   all-intro p [] f = refl
   all-intro p (x ∷ xs) f = and-intro (f x here) (all-intro p xs (λ y m. f y (List·Memᴰ·tail m)))
 
+  pub all-append : (p : A → Bool) (xs ys : List A) → all p xs ≡ true → all p ys ≡ true → all p (xs ++ ys) ≡ true
+  all-append p [] ys e f = f
+  all-append p (x ∷ xs) ys e f = and-intro (and-left (p x) (all p xs) e) (all-append p xs ys (and-right (p x) (all p xs) e) f)
+
   pub any-at : (p : A → Bool) (xs : List A) → any p xs ≡ true → (x : A) × List·Memᴰ x xs × (p x ≡ true)
   any-at p [] e = absurd (false≢true e)
   any-at p (x ∷ xs) e = ⊎-elim (λ h. (x, here, h)) (λ h. let r = any-at p xs h in (r .0, List·Memᴰ·tail (r .1), r .2)) (or-cases (p x) (any p xs) e)
@@ -46,6 +50,18 @@ module _ {ℓ} {A : Type ℓ} where
   pub pairwise-intro : (r : A → A → Bool) (xs : List A) → ((x y : A) → List·Memᴰ x xs → List·Memᴰ y xs → r x y ≡ true) → pairwise r xs ≡ true
   pairwise-intro r [] f = refl
   pairwise-intro r (x ∷ xs) f = and-intro (all-intro (r x) xs (λ y m. f x y here (List·Memᴰ·tail m))) (pairwise-intro r xs (λ y z m n. f y z (List·Memᴰ·tail m) (List·Memᴰ·tail n)))
+
+  pub pairwise-append : (r : A → A → Bool) (xs ys : List A) → pairwise r xs ≡ true → pairwise r ys ≡ true → ((x y : A) → List·Memᴰ x xs → List·Memᴰ y ys → r x y ≡ true) → pairwise r (xs ++ ys) ≡ true
+  pairwise-append r [] ys p q f = q
+  pairwise-append r (x ∷ xs) ys p q f =
+      and-intro
+      (all-append (r x) xs ys (and-left (all (r x) xs) (pairwise r xs) p) (all-intro (r x) ys (λ y m. f x y here m)))
+      (pairwise-append r xs ys (and-right (all (r x) xs) (pairwise r xs) p) q (λ y z m n. f y z (List·Memᴰ·tail m) n))
+
+  -- what stands before stands in the relation to all that stands after
+  pub pairwise-after : (r : A → A → Bool) (xs : List A) (t : A) (ys : List A) → pairwise r (xs ++ (t ∷ ys)) ≡ true → all (r t) ys ≡ true
+  pairwise-after r [] t ys p = and-left (all (r t) ys) (pairwise r ys) p
+  pairwise-after r (x ∷ xs) t ys p = pairwise-after r xs t ys (and-right (all (r x) (xs ++ (t ∷ ys))) (pairwise r (xs ++ (t ∷ ys))) p)
 
   -- one element of each list
   pub data Picks : List (List A) → List A → Type ℓ where
@@ -75,6 +91,61 @@ module _ {ℓ} {A : Type ℓ} where
   pub picks-choices : {xss : List (List A)} {t : List A} → Picks xss t → List·Memᴰ t (choices xss)
   picks-choices done = List·Memᴰ·head refl
   picks-choices (pick {xs} {xss} m p) = in-prefixed xs (choices xss) m (picks-choices p)
+
+-- ---- Selection
+
+module _ {ℓ} {A : Type ℓ} (p : A → Bool) where
+  keepIf-mem : (y : A) (xs : List A) {x : A} → (List·Memᴰ x (select p xs) → List·Memᴰ x xs × (p x ≡ true)) → (v : Bool) → p y ≡ v → List·Memᴰ x (keepIf v y (select p xs)) → List·Memᴰ x (y ∷ xs) × (p x ≡ true)
+  keepIf-mem y xs f true e m =
+      ⊎-elim (λ q. (List·Memᴰ·head q, ap p q ∙ e)) (λ h. (List·Memᴰ·tail (f h .0), f h .1)) (List·Memᴰ·cases-cons m)
+  keepIf-mem y xs f false e m = (List·Memᴰ·tail (f m .0), f m .1)
+
+  -- what is selected is in the list and passes
+  pub select-mem : (xs : List A) {x : A} → List·Memᴰ x (select p xs) → List·Memᴰ x xs × (p x ≡ true)
+  select-mem [] m = absurd (List·Memᴰ·not-nil m)
+  select-mem (y ∷ xs) m = keepIf-mem y xs (select-mem xs) (p y) refl m
+
+  keepIf-none : (y : A) (ys : List A) (v : Bool) → (v ≡ true → ⊥) → ys ≡ [] → keepIf v y ys ≡ []
+  keepIf-none y ys true f e = absurd (f refl)
+  keepIf-none y ys false f e = e
+
+  -- nothing is selected where nothing passes
+  pub select-none : (xs : List A) → ((x : A) → List·Memᴰ x xs → p x ≡ true → ⊥) → select p xs ≡ []
+  select-none [] f = refl
+  select-none (y ∷ xs) f = keepIf-none y (select p xs) (p y) (f y here) (select-none xs (λ x m. f x (List·Memᴰ·tail m)))
+
+  -- The list is cut at its first element that passes.
+  pub record Cut (xs : List A) : Type ℓ where
+    pub before : List A
+    pub at : A
+    pub after : List A
+    pub whole : xs ≡ before ++ (at ∷ after)
+    pub none-before : (x : A) → List·Memᴰ x before → p x ≡ false
+    pub passes : p at ≡ true
+
+  cut-keep : (y : A) (xs : List A) → (any p xs ≡ true → (c : Cut xs) × (select p xs ≡ c .at ∷ select p (c .after))) → (v : Bool) → p y ≡ v → (v || any p xs) ≡ true → (c : Cut (y ∷ xs)) × (keepIf v y (select p xs) ≡ c .at ∷ select p (c .after))
+  cut-keep y xs f true e h =
+      (record { before = []; at = y; after = xs; whole = refl; none-before = λ x m. absurd (List·Memᴰ·not-nil m); passes = e }, refl)
+  cut-keep y xs f false e h =
+      let k = f h in
+      let c = k .0 in (
+        record {
+          before = y ∷ c .before;
+          at = c .at;
+          after = c .after;
+          whole = ap {B = List A} (λ t. y ∷ t) (c .whole);
+          none-before = λ x m. ⊎-elim (λ q. ap p q ∙ e) (λ n. c .none-before x n) (List·Memᴰ·cases-cons m);
+          passes = c .passes;
+        },
+        k .1,
+      )
+
+  -- the first element selected is the first that passes
+  pub select-cut : (xs : List A) → any p xs ≡ true → (c : Cut xs) × (select p xs ≡ c .at ∷ select p (c .after))
+  select-cut [] h = absurd (false≢true h)
+  select-cut (y ∷ xs) h = cut-keep y xs (select-cut xs) (p y) refl h
+
+-- ---- Numbers
 
 pub elem-mem : (x : ℕ) (xs : List ℕ) → elem x xs ≡ true → List·Memᴰ x xs
 elem-mem x xs e = let k = any-at (eqb x) xs e in Memᴰ·cast (eqb-true x (k .0) (k .2)) (k .1)
@@ -107,3 +178,95 @@ pub getD-map-from {ℓ} : {A : Type ℓ} (f : ℕ → A) (i n k : ℕ) (d : A) �
 getD-map-from f i zero k d h = absurd (omega arith)
 getD-map-from f i (suc n) zero d h = rw add-zero
 getD-map-from f i (suc n) (suc k) d h = getD-map-from f (suc i) n k d (le-of-suc-le-suc h) ∙ ap f (suc-add i k ∙ sym (add-suc i k))
+
+-- The first number from i on that passes, and end where none does.
+pub record First (p : ℕ → Bool) (i end x : ℕ) : Type 0 where
+  pub from-i : i ≤ x
+  pub to-end : x ≤ end
+  pub none-before : (k : ℕ) → i ≤ k → k < x → p k ≡ false
+  pub passes : x < end → p x ≡ true
+
+first-keep : (p : ℕ → Bool) (i n end x : ℕ) → end ≡ i + suc n → First p (suc i) end x → (b : Bool) → p i ≡ b → First p i end (firstOr end (keepIf b i (x ∷ [])))
+first-keep p i n end x e f true q =
+    record { from-i = omega arith; to-end = omega arith; none-before = λ k h l. absurd (omega arith); passes = λ _. q }
+first-keep p i n end x e f false q =
+    record { from-i = omega (arith, f .from-i); to-end = f .to-end; none-before = λ k h l. before k h l (ℕ-discrete k i); passes = f .passes }
+  where
+    before : (k : ℕ) → i ≤ k → k < x → Dec (k ≡ i) → p k ≡ false
+    before k h l (yes c) = ap p c ∙ q
+    before k h l (no d) = f .none-before k (omega arith) l
+
+firstOr-keepIf : (b : Bool) (d i : ℕ) (xs : List ℕ) → firstOr d (keepIf b i (firstOr d xs ∷ [])) ≡ firstOr d (keepIf b i xs)
+firstOr-keepIf true d i xs = refl
+firstOr-keepIf false d i xs = refl
+
+-- the first number selected from a range is the first that passes
+pub select-from : (p : ℕ → Bool) (i n end : ℕ) → end ≡ i + n → First p i end (firstOr end (select p (from i n)))
+select-from p i zero end e =
+    record { from-i = omega arith; to-end = omega arith; none-before = λ k h l. absurd (omega arith); passes = λ h. absurd (omega arith) }
+select-from p i (suc n) end e =
+    subst (First p i end) (firstOr-keepIf (p i) end i (select p (from (suc i) n)))
+    (first-keep p i n end (firstOr end (select p (from (suc i) n))) e (select-from p (suc i) n end (omega arith)) (p i) refl)
+
+-- ---- Maps, and the order of choices
+
+module _ {ℓ κ} {A : Type ℓ} {B : Type κ} (f : A → B) where
+  pub all-map : (p : B → Bool) (xs : List A) → all p (map f xs) ≡ all (λ (x : A). p (f x)) xs
+  all-map p [] = refl
+  all-map p (x ∷ xs) = ap (λ (b : Bool). p (f x) && b) (all-map p xs)
+
+  pub pairwise-map : (r : B → B → Bool) (xs : List A) → pairwise r (map f xs) ≡ pairwise (λ (x y : A). r (f x) (f y)) xs
+  pairwise-map r [] = refl
+  pairwise-map r (x ∷ xs) = ap (λ (b : Bool). b && pairwise r (map f xs)) (all-map (r (f x)) xs) ∙ ap (λ (b : Bool). all (λ (y : A). r (f x) (f y)) xs && b) (pairwise-map r xs)
+
+  map-prefix : (x : A) (ts : List (List A)) → map (map f) (map (λ (t : List A). x ∷ t) ts) ≡ map (λ (t : List B). f x ∷ t) (map (map f) ts)
+  map-prefix x [] = refl
+  map-prefix x (t ∷ ts) = ap {B = List (List B)} (λ us. (f x ∷ map f t) ∷ us) (map-prefix x ts)
+
+module _ {ℓ κ} {A : Type ℓ} {B : Type κ} (f : A → B) where
+  map-prefixed : (xs : List A) (ts : List (List A)) → map (map f) (prefixed xs ts) ≡ prefixed (map f xs) (map (map f) ts)
+  map-prefixed [] ts = refl
+  map-prefixed (x ∷ xs) ts =
+      map-append (map f) (map (λ (t : List A). x ∷ t) ts) (prefixed xs ts)
+      ∙ ap (λ (us : List (List B)). us ++ map (map f) (prefixed xs ts)) (map-prefix f x ts)
+      ∙ ap (λ (us : List (List B)). map (λ (t : List B). f x ∷ t) (map (map f) ts) ++ us) (map-prefixed xs ts)
+
+  -- the choices of images are the images of the choices
+  pub map-choices : (xss : List (List A)) → map (map f) (choices xss) ≡ choices (map (map f) xss)
+  map-choices [] = refl
+  map-choices (xs ∷ xss) = map-prefixed xs (choices xss) ∙ ap (prefixed (map f xs)) (map-choices xss)
+
+earlier-same : (x : ℕ) (t u : List ℕ) → earlier t u ≡ true → earlier (x ∷ t) (x ∷ u) ≡ true
+earlier-same x t u e = or-right (ltb x x) (and-intro (eq-eqb x x refl) e)
+
+earlier-less : (x y : ℕ) (t u : List ℕ) → x < y → earlier (x ∷ t) (y ∷ u) ≡ true
+earlier-less x y t u h = or-left (eqb x y && earlier t u) (lt-ltb x y h)
+
+prefix-earlier : (x : ℕ) (ts : List (List ℕ)) → pairwise earlier ts ≡ true → pairwise earlier (map (λ (t : List ℕ). x ∷ t) ts) ≡ true
+prefix-earlier x [] e = refl
+prefix-earlier x (t ∷ ts) e =
+    and-intro
+    (all-map (λ (t : List ℕ). x ∷ t) (earlier (x ∷ t)) ts ∙ all-more (earlier t) (λ (u : List ℕ). earlier (x ∷ t) (x ∷ u)) ts (λ u k. earlier-same x t u k) (and-left (all (earlier t) ts) (pairwise earlier ts) e))
+    (prefix-earlier x ts (and-right (all (earlier t) ts) (pairwise earlier ts) e))
+
+prefixed-earlier : (xs : List ℕ) (ts : List (List ℕ)) → pairwise ltb xs ≡ true → pairwise earlier ts ≡ true → pairwise earlier (prefixed xs ts) ≡ true
+prefixed-earlier [] ts e f = refl
+prefixed-earlier (x ∷ xs) ts e f =
+    pairwise-append earlier (map (λ (t : List ℕ). x ∷ t) ts) (prefixed xs ts) (prefix-earlier x ts f) (prefixed-earlier xs ts (and-right (all (ltb x) xs) (pairwise ltb xs) e) f)
+    (λ t u m n.
+    let a = Memᴰ·of-map (λ (t : List ℕ). x ∷ t) ts m in
+    let b = of-prefixed xs ts n in
+    subst (λ (v : List ℕ). earlier t v ≡ true) (b .4) (subst (λ (v : List ℕ). earlier v (b .0 ∷ b .1) ≡ true) (a .2)
+    (earlier-less x (b .0) (a .0) (b .1) (ltb-true x (b .0) (all-at (ltb x) xs (and-left (all (ltb x) xs) (pairwise ltb xs) e) (b .2))))))
+
+-- the choices of rising lists stand in lexicographic order
+pub choices-earlier : (xss : List (List ℕ)) → all (pairwise ltb) xss ≡ true → pairwise earlier (choices xss) ≡ true
+choices-earlier [] e = refl
+choices-earlier (xs ∷ xss) e =
+    prefixed-earlier xs (choices xss) (and-left (pairwise ltb xs) (all (pairwise ltb) xss) e)
+    (choices-earlier xss (and-right (pairwise ltb xs) (all (pairwise ltb) xss) e))
+
+pub from-rises : (i n : ℕ) → pairwise ltb (from i n) ≡ true
+from-rises i zero = refl
+from-rises i (suc n) =
+    and-intro (all-intro (ltb i) (from (suc i) n) (λ x m. lt-ltb i x (omega (arith, from-mem (suc i) n x m)))) (from-rises (suc i) n)

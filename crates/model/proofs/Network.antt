@@ -40,7 +40,18 @@ found-at : (Rs : List Relation) (g : ℕ) → g < sum (map tuplesIn Rs) → Foun
 found-at [] g h = absurd (omega arith)
 found-at (R ∷ Rs) g h = found-cons R Rs g (found-at Rs (g - R .tuples)) h (decLt g (R .tuples))
 
+before-size : (Rs : List Relation) (r : ℕ) → before tuplesIn Rs r + sizeAt Rs r ≤ sum (map tuplesIn Rs)
+unfolding sizeAt
+before-size [] zero = omega arith
+before-size [] (suc r) = omega arith
+before-size (R ∷ Rs) zero = omega arith
+before-size (R ∷ Rs) (suc r) = omega (arith, before-size Rs r)
+
 module _ (N : Network) where
+  pub ids-below : {g : ℕ} (r : ℕ) → List·Memᴰ g (idsOf N r) → g < total N
+  unfolding sizeAt
+  ids-below {g} r m = omega (arith, from-mem (firstId N r) (size N r) g m, before-size (N .relations) r)
+
   pub relationOf-ids : {g : ℕ} (r : ℕ) → List·Memᴰ g (idsOf N r) → relationOf N g ≡ r
   unfolding relationOf Holds sizeAt
   relationOf-ids {g} r m = let k = from-mem (firstId N r) (size N r) g m in relationAt-holds (N .relations) r g (k .0, k .1)

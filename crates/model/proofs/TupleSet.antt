@@ -1,6 +1,6 @@
 -- Laws of sets of tuples; and for any rule that more live tuples only help, `closure` is the largest consistent set.
 use mathlib.Core.Path.{_≡_, refl, sym, _∙_, ap, subst}
-use mathlib.Core.Bool.{Bool, true, false, not, _&&_, _||_, false≢true}
+use mathlib.Core.Bool.{Bool, true, false, not, _&&_, _||_, and-true, false≢true}
 use mathlib.Core.List.{List, [], _∷_}
 use Prim.Native.Nat.{ℕ, zero, suc, _+_, _≤_, _<_}
 use native.Mathlib.Nat.{add-zero, zero-add, add-suc, suc-add, le-refl}
@@ -57,6 +57,12 @@ not-either false u t = refl
 
 pub without-length : (t : ℕ → Bool) (S : TupleSet) → length (without t S) ≡ length S
 without-length t S = restrict-length (λ g. not (t g)) S
+
+-- removing nothing changes nothing
+pub without-none : (S : TupleSet) → without (λ (g : ℕ). false) S ≡ S
+without-none S =
+    ext-getD false (without (λ (g : ℕ). false) S) S (without-length (λ (g : ℕ). false) S)
+    (λ g _. restrict-has (λ g. true) S g ∙ and-true (has S g))
 
 -- removing u and then t is removing both
 pub without-without : (t u : ℕ → Bool) (S : TupleSet) → without t (without u S) ≡ without (λ (g : ℕ). u g || t g) S

@@ -18,12 +18,11 @@ use Rattle.model.specs.Fault
 use Rattle.model.specs.Reply
 use Rattle.model.specs.Reply.{Numbers, reply}
 
-relation : ℕ → ℕ → Relation
+unfoldable pub relation : ℕ → ℕ → Relation
 relation w n = record { width = w; tuples = n }
 
 -- book A
-networkA : Network
-unfolding relation
+unfoldable pub networkA : Network
 networkA =
     record {
       relations = relation 2 3 ∷ relation 2 2 ∷ relation 2 2 ∷ [];
@@ -32,8 +31,7 @@ networkA =
     }
 
 -- the book of P6 and P7
-triangle : Network
-unfolding relation
+unfoldable pub triangle : Network
 triangle =
     record {
       relations = relation 2 2 ∷ relation 2 2 ∷ relation 2 2 ∷ [];
@@ -42,44 +40,46 @@ triangle =
     }
 
 -- the book of P8
-lone : Network
-unfolding relation
+unfoldable pub lone : Network
 lone = record { relations = relation 1 1 ∷ relation 1 0 ∷ []; variables = 0 ∷ 0 ∷ []; values = 4 ∷ [] }
 
-pairs : List ℕ
+unfoldable pub pairs : List ℕ
 pairs = 0 ∷ 1 ∷ 0 ∷ 2 ∷ 1 ∷ 2 ∷ []
 
 -- a request with room for 40 support numbers, each of them 7 at entry
-asked : Network → ℕ → List ℕ → List ℕ → Change → Request
+unfoldable pub asked : Network → ℕ → List ℕ → List ℕ → Change → Request
 asked N m members words change =
     record { given = record { network = N; m = m; members = members }; words = words; supports = replicate 40 7; change = change }
 
 -- the next request on the lists that q leaves
-next : Request → Change → Request
+unfoldable pub next : Request → Change → Request
 next q change = record { given = q .given; words = (reply q) .words; supports = (reply q) .supports; change = change }
 
 -- A request, the numbers of its answer, the words that it leaves, and what the support list holds from a place on.
-record Example : Type 0 where
-  request : Request
-  answer : Numbers
-  words : List ℕ
-  place : ℕ
-  supports : List ℕ
+pub record Example : Type 0 where
+  pub request : Request
+  pub answer : Numbers
+  pub words : List ℕ
+  pub place : ℕ
+  pub supports : List ℕ
 
-numbers : ℕ → ℕ → ℕ → ℕ → ℕ → Numbers
+unfoldable pub numbers : ℕ → ℕ → ℕ → ℕ → ℕ → Numbers
 numbers kind subject left withdrawn deleted =
     record { kind = kind; subject = subject; left = left; withdrawn = withdrawn; deleted = deleted }
 
-p1 : Request
-unfolding asked networkA pairs
+unfoldable pub p1 : Request
 p1 = asked networkA 2 pairs (127 ∷ []) filter
 
-p3 : Request
-unfolding next p1
+unfoldable pub p3 : Request
 p3 = next p1 (withdraw (5 ∷ []))
 
-table : List Example
-unfolding asked next p1 p3 networkA triangle lone pairs numbers
+unfoldable pub p6 : Request
+p6 = asked triangle 2 pairs (63 ∷ []) filter
+
+unfoldable pub p7 : Request
+p7 = asked triangle 3 (0 ∷ 1 ∷ 2 ∷ []) (63 ∷ []) filter
+
+unfoldable pub table : List Example
 table =
     -- P1: tuple 2 of relation 0 falls, no other
     record { request = p1; answer = numbers 0 64 6 0 1; words = 123 ∷ []; place = 0; supports = [] }
@@ -92,29 +92,27 @@ table =
     -- P5: P3's words
     ∷ record { request = asked networkA 2 pairs (127 ∷ []) (withdraw (5 ∷ [])); answer = numbers 0 64 3 1 3; words = 82 ∷ []; place = 0; supports = [] }
     -- P6
-    ∷ record { request = asked triangle 2 pairs (63 ∷ []) filter; answer = numbers 0 64 6 0 0; words = 63 ∷ []; place = 0; supports = 0 ∷ 1 ∷ [] }
+    ∷ record { request = p6; answer = numbers 0 64 6 0 0; words = 63 ∷ []; place = 0; supports = 0 ∷ 1 ∷ [] }
     -- P7
-    ∷ record { request = asked triangle 3 (0 ∷ 1 ∷ 2 ∷ []) (63 ∷ []) filter; answer = numbers 1 0 0 0 6; words = 0 ∷ []; place = 0; supports = 65535 ∷ [] }
+    ∷ record { request = p7; answer = numbers 1 0 0 0 6; words = 0 ∷ []; place = 0; supports = 65535 ∷ [] }
     -- P8
     ∷ record { request = asked lone 2 [] (1 ∷ []) filter; answer = numbers 1 1 1 0 0; words = 1 ∷ []; place = 0; supports = 7 ∷ [] }
     -- P9
     ∷ record { request = asked networkA 2 pairs (127 ∷ []) (choose 2 6); answer = numbers 0 64 3 2 2; words = 82 ∷ []; place = 0; supports = [] }
     ∷ []
 
-Seen : Type 0
+abbrev pub Seen : Type 0
 Seen = Numbers × List ℕ × List ℕ
 
 -- what the request's reply shows of an example
-given : Example → Seen
-unfolding Seen
+unfoldable pub given : Example → Seen
 given e = ((reply (e .request)) .answer, (reply (e .request)) .words, take (length (e .supports)) (drop (e .place) ((reply (e .request)) .supports)))
 
 -- what the paper says of it
-said : Example → Seen
-unfolding Seen
+unfoldable pub said : Example → Seen
 said e = (e .answer, e .words, e .supports)
 
 -- P1 to P9
-examples : map given table ≡ map said table
-unfolding table given said Seen asked next p1 p3 networkA triangle lone pairs numbers relation TupleSet.closure Network.relationOf Network.indexOf Network.scopeOf Network.valuesAt Network.tupleOf Agreement.fit Agreement.clash Agreement.agreeing Agreement.cellsOf Agreement.agree Agreement.share Combination.combinations Combination.connected Support.candidates Support.isSupport Support.supports Support.firstSupport Consistency.supported Consistency.filtered Consistency.supportList Consistency.needed LiveWords.bit LiveWords.isSet LiveWords.isLive LiveWords.living LiveWords.word LiveWords.written Request.removes Fault.faultsOn Fault.faults Reply.lowestEmpty Reply.answerFor Reply.remainder Reply.countsFor Reply.leaving Reply.accepted Reply.reply
+pub examples : map given table ≡ map said table
+unfolding table given said relation networkA triangle lone pairs asked next numbers p1 p3 p6 p7 TupleSet.closure Network.relationOf Network.indexOf Network.scopeOf Network.valuesAt Network.tupleOf Agreement.fit Agreement.clash Agreement.agreeing Agreement.cellsOf Agreement.agree Agreement.share Combination.combinations Combination.connected Support.candidates Support.isSupport Support.supports Support.firstSupport Consistency.supported Consistency.filtered Consistency.supportList Consistency.needed LiveWords.bit LiveWords.isSet LiveWords.isLive LiveWords.living LiveWords.word LiveWords.written Request.removes Fault.faultsOn Fault.faults Reply.lowestEmpty Reply.answerFor Reply.remainder Reply.countsFor Reply.leaving Reply.accepted Reply.reply
 examples = refl

@@ -2,7 +2,7 @@
 use mathlib.Core.Bool.{Bool, true, false, _&&_, _||_}
 use mathlib.Core.List.{List, [], _∷_, _++_, map}
 use Prim.Native.Nat.{ℕ, zero, suc, _+_}
-use lib.Dec.{eqb}
+use lib.Dec.{ltb, eqb}
 
 -- i, i + 1, .. : n numbers
 abbrev pub from : ℕ → ℕ → List ℕ
@@ -61,6 +61,12 @@ module _ {ℓ} {A : Type ℓ} where
 abbrev pub each {ℓ κ} : {A : Type ℓ} {B : Type κ} → (A → List B) → List A → List B
 each f [] = []
 each f (x ∷ xs) = f x ++ each f xs
+
+-- lexicographic order: xs comes before ys by their first different element
+abbrev pub earlier : List ℕ → List ℕ → Bool
+earlier [] ys = false
+earlier (x ∷ xs) [] = false
+earlier (x ∷ xs) (y ∷ ys) = ltb x y || (eqb x y && earlier xs ys)
 
 abbrev pub elem : ℕ → List ℕ → Bool
 elem x = any (eqb x)

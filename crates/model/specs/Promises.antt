@@ -1,1 +1,109 @@
--- placeholder
+-- What is promised of the calls, each as its sentence in the papers reads; proofs/Mission.antt proves every one of them of
+-- `reply`, which the contracts of the code cite.
+use mathlib.Core.Path.{_≡_}
+use mathlib.Core.Bool.{Bool, true, false, cond}
+use mathlib.Core.Option.{some}
+use mathlib.Core.Logic.{_⊎_}
+use mathlib.Core.List.{List, _∷_, _++_, map, List·Memᴰ}
+use Prim.Native.Nat.{ℕ, _+_, _*_, _<_}
+use lib.Dec.{ltb}
+use lib.ListN.{length, drop, replicate}
+use Rattle.model.specs.Limits.{maxRelations, noSupport, wordBits}
+use Rattle.model.specs.Lists.{earlier}
+use Rattle.model.specs.TupleSet.{TupleSet, has, count, without, Largest, Consistent}
+use Rattle.model.specs.Network.{Network, total, idsOf, relationOf, indexOf}
+use Rattle.model.specs.Combination.{Combination, Chain}
+use Rattle.model.specs.Support.{candidates, isSupport, firstSupport}
+use Rattle.model.specs.Consistency.{supported, supportList, needed}
+use Rattle.model.specs.Solution.{Assignment, isSolution}
+use Rattle.model.specs.LiveWords.{isLive, living}
+use Rattle.model.specs.Request.{Instance, combinationsOf, Request, removes}
+use Rattle.model.specs.Fault.{Fault, faults}
+use Rattle.model.specs.Reply.{Numbers, Reply, isEmptied, refused, reply}
+use Rattle.model.specs.Calls.{Call, State, start, makeAll, removedBy, starting, remaining}
+
+-- ---- What an accepted call says and leaves of the tuples L
+
+-- The answer is Settled if every relation has a tuple in L, Emptied with the lowest relation that has none otherwise;
+-- tuples left is the size of L.
+pub record Tells (N : Network) (L : TupleSet) (a : Numbers) : Type 0 where
+  pub settled : ((r : ℕ) → r < length (N .relations) → isEmptied N L r ≡ false) → (a .kind ≡ 0) × (a .subject ≡ maxRelations)
+  pub emptied : (r : ℕ) → r < length (N .relations) → isEmptied N L r ≡ true → ((s : ℕ) → s < r → isEmptied N L s ≡ false) → (a .kind ≡ 1) × (a .subject ≡ r)
+  pub left : a .left ≡ count L
+
+-- A tuple's bit is 1 exactly if it is in L; every other bit of every word is as lent.
+pub record Marked (N : Network) (L : TupleSet) (lent after : List ℕ) : Type 0 where
+  pub bits : (g : ℕ) → g < wordBits * length lent → isLive after g ≡ cond (ltb g (total N)) (has L g) (isLive lent g)
+  pub words : length after ≡ length lent
+
+-- The numbers of tuple g in combination c. Where g is not in L they are all 65,535. Otherwise they are the indices of a support
+-- of g in L, and every other support of g in c comes later by indices, first member first.
+pub record Numbered (N : Network) (L : TupleSet) (c : Combination) (g : ℕ) : Type 0 where
+  pub dead : has L g ≡ false → firstSupport N L c g ≡ replicate (length c) noSupport
+  pub live : has L g ≡ true → (t : List ℕ) × List·Memᴰ t (candidates N c) × (isSupport N L g t ≡ true) × (firstSupport N L c g ≡ map (indexOf N) t) × ((u : List ℕ) → List·Memᴰ u (candidates N c) → isSupport N L g u ≡ true → (u ≡ t) ⊎ (earlier (map (indexOf N) t) (map (indexOf N) u) ≡ true))
+
+-- The support list holds the first supports in L over its needed length, and is as lent beyond it.
+pub record Supports (I : Instance) (L : TupleSet) (lent after : List ℕ) : Type 0 where
+  pub list : after ≡ supportList (I .network) (combinationsOf I) L ++ drop (needed (I .network) (combinationsOf I)) lent
+  pub long : length (supportList (I .network) (combinationsOf I) L) ≡ needed (I .network) (combinationsOf I)
+  pub numbered : (c : Combination) → List·Memᴰ c (combinationsOf I) → (g : ℕ) → List·Memᴰ (relationOf (I .network) g) c → Numbered (I .network) L c g
+
+-- ---- Mission point 1
+
+-- A request is answered Settled or Emptied where it has no listed fault. Otherwise the first fault in checking order is
+-- its refusal number, and every list is as lent.
+pub record Answered (q : Request) : Type 0 where
+  pub accepted : ((f : Fault) → List·Memᴰ f (faults q) → f .1 ≡ false) → (((reply q) .answer) .kind ≡ 0) ⊎ (((reply q) .answer) .kind ≡ 1)
+  pub first : (before after : List Fault) (n : ℕ) → faults q ≡ before ++ ((n, true) ∷ after) → ((f : Fault) → List·Memᴰ f before → f .1 ≡ false) → reply q ≡ refused n q
+
+-- ---- Mission point 2
+
+-- the tuples that a request gives to the filter: the live ones without those that its change removes
+abbrev pub givenTuples : Request → TupleSet
+givenTuples q = without (removes (q .given .network) (q .change)) (living (total (q .given .network)) (q .words))
+
+-- the tuples that live after it
+abbrev pub leftTuples : Request → TupleSet
+leftTuples q = living (total (q .given .network)) ((reply q) .words)
+
+-- The tuples left are the largest consistent set inside those given, the only such set; no solution is lost; Emptied means
+-- that none exists; the counts add up to the live tuples at entry.
+pub record Filtered (q : Request) : Type 0 where
+  pub largest : Largest (supported (q .given .network) (combinationsOf (q .given))) (givenTuples q) (leftTuples q)
+  pub only : (T : TupleSet) → length T ≡ total (q .given .network) → Largest (supported (q .given .network) (combinationsOf (q .given))) (givenTuples q) T → T ≡ leftTuples q
+  pub solutions : (a : Assignment) → isSolution (q .given .network) (givenTuples q) a ≡ true → isSolution (q .given .network) (leftTuples q) a ≡ true
+  pub none : ((reply q) .answer) .kind ≡ 1 → (a : Assignment) → isSolution (q .given .network) (givenTuples q) a ≡ true → ⊥
+  pub tells : Tells (q .given .network) (leftTuples q) ((reply q) .answer)
+  pub marked : Marked (q .given .network) (leftTuples q) (q .words) ((reply q) .words)
+  pub supports : Supports (q .given) (leftTuples q) (q .supports) ((reply q) .supports)
+  pub sum : ((reply q) .answer) .left + ((reply q) .answer) .withdrawn + ((reply q) .answer) .deleted ≡ count (living (total (q .given .network)) (q .words))
+
+-- ---- Mission point 3
+
+-- The strike rule, of a list with an accepted call: the words, and the last accepted call's supports, answer and tuples left
+-- are those of one filtering of the starting tuples without all that accepted calls removed; and the number of starting
+-- tuples is those left and all withdrawn and deleted.
+pub record StrikeRule (I : Instance) (ws : List ℕ) (calls : List Call) : Type 0 where
+  pub marked : Marked (I .network) (remaining I ws calls) ws ((makeAll (start ws) calls) .words)
+  pub call : Call
+  pub reply : Reply
+  pub last : (makeAll (start ws) calls) .last ≡ some (call, reply)
+  pub supports : Supports I (remaining I ws calls) (call .supports) (reply .supports)
+  pub tells : Tells (I .network) (remaining I ws calls) (reply .answer)
+  pub sum : (reply .answer) .left + (makeAll (start ws) calls) .gone ≡ count (starting I ws)
+
+-- Relation r is apart from the calls: no chain of combinations joins it to a relation that holds a starting tuple which an
+-- accepted call removed, itself included.
+abbrev pub Apart : Instance → List ℕ → List Call → ℕ → Type 0
+Apart I ws calls r =
+    (g : ℕ) → has (starting I ws) g ≡ true → removedBy I ws calls g ≡ true → Chain (combinationsOf I) r (relationOf (I .network) g) → ⊥
+
+-- From a consistent start, a relation apart from the calls keeps exactly its tuples.
+abbrev pub Local : Instance → List ℕ → List Call → Type 0
+Local I ws calls =
+    Consistent (supported (I .network) (combinationsOf I)) (starting I ws)
+    → (r : ℕ)
+    → Apart I ws calls r
+    → (g : ℕ)
+    → List·Memᴰ g (idsOf (I .network) r)
+    → isLive ((makeAll (start ws) calls) .words) g ≡ isLive ws g

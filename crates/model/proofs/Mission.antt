@@ -1,0 +1,199 @@
+-- Mission points 1, 2 and 3, proved of `reply` for every request and every list of calls: read this module first. The
+-- statements are the records of specs/Promises.antt; no hypothesis is left that "no listed fault" gives.
+use mathlib.Core.Path.{_≡_, refl, sym, _∙_, ap, subst}
+use mathlib.Core.Bool.{Bool, true, false, not, cond}
+use mathlib.Core.Option.{Option, none}
+use mathlib.Core.Logic.{_⊎_, inl, inr}
+use mathlib.Core.List.{List, [], _∷_, _++_, map, List·Memᴰ}
+use Prim.Native.Nat.{ℕ, _+_, _*_, _≤_, _<_}
+use native.Mathlib.Omega.{arith}
+use native.Mathlib.Decide.{decLt}
+use lib.Dec.{ltb}
+use lib.ListN.{length, drop}
+use borrow.Author.Tests.{lt-ltb, not-true}
+use Rattle.model.specs.declared.Counts.{Counts}
+use Rattle.model.specs.Limits.{wordBits}
+use Rattle.model.specs.Lists.{from, any}
+use Rattle.model.specs.TupleSet.{TupleSet, has, count, without, Largest, Consistent}
+use Rattle.model.specs.Network.{Network, total, idsOf, relationOf}
+use Rattle.model.specs.Combination.{Combination, Chain}
+use Rattle.model.specs.Consistency.{supported, filtered, supportList, needed}
+use Rattle.model.specs.Solution.{Assignment, isSolution}
+use Rattle.model.specs.LiveWords.{isLive, living, written}
+use Rattle.model.specs.Request.{Change, filter, withdraw, choose, Instance, combinationsOf, Request, removes}
+use Rattle.model.specs.Fault.{Fault, firstFault, faultsOn, faults, testFaults, compareFaults, accepts}
+use Rattle.model.specs.Reply.{Reply, lowestEmpty, answerFor, answerNumbers, remainder, countsFor, leaving, accepted, refused, replyTo, reply}
+use Rattle.model.specs.Calls.{Call, Proper, State, start, makeAll, anyAccepted, removedBy, starting, remaining}
+use Rattle.model.specs.Promises.{Tells, Marked, Supports, Answered, givenTuples, leftTuples, Filtered, StrikeRule, Apart, Local}
+use Rattle.model.proofs.Lists.{mem-from, from-mem}
+use Rattle.model.proofs.TupleSet.{without-length}
+use Rattle.model.proofs.Network.{relationOf-ids, ids-below}
+use Rattle.model.proofs.Support.{firstSupport-dead, firstSupport-least}
+use Rattle.model.proofs.Consistency.{supported-at, filtered-largest, filtered-unique, supportList-length}
+use Rattle.model.proofs.Solution.{isSolution-filtered, isSolution-empty}
+use Rattle.model.proofs.Locality.{filtered-far}
+use Rattle.model.proofs.LiveWords.{written-isLive, written-length, written-written, living-written, living-length, living-has}
+use Rattle.model.proofs.Fault.{none-firstFault, firstFault-some, accepts-words, accepts-exist}
+use Rattle.model.proofs.Reply.{reply-accepted, lowestEmpty-first, answerFor-tells, answerFor-kind, emptied-low, remainder-length, leaving-sum}
+use Rattle.model.proofs.Calls.{After, makeAll-accepted, makeAll-none}
+
+-- ---- The calls' faults, in checking order
+
+-- filter uses 2 to 12, withdraw adds 13, choose 14; test uses 2 to 11, compare 2 to 6 and 13
+pub filter-checks : (I : Instance) (n k : ℕ) → map (λ (f : Fault). f .0) (faultsOn I n k filter) ≡ from 2 11
+unfolding faultsOn
+filter-checks I n k = refl
+
+pub withdraw-checks : (I : Instance) (n k : ℕ) (ids : List ℕ) → map (λ (f : Fault). f .0) (faultsOn I n k (withdraw ids)) ≡ from 2 11 ++ (13 ∷ [])
+unfolding faultsOn
+withdraw-checks I n k ids = refl
+
+pub choose-checks : (I : Instance) (n k x v : ℕ) → map (λ (f : Fault). f .0) (faultsOn I n k (choose x v)) ≡ from 2 11 ++ (14 ∷ [])
+unfolding faultsOn
+choose-checks I n k x v = refl
+
+pub test-checks : (I : Instance) (ws : List ℕ) → map (λ (f : Fault). f .0) (testFaults I ws) ≡ from 2 10
+unfolding testFaults
+test-checks I ws = refl
+
+pub compare-checks : (N : Network) (g h : ℕ) → map (λ (f : Fault). f .0) (compareFaults N g h) ≡ from 2 5 ++ (13 ∷ [])
+unfolding compareFaults
+compare-checks N g h = refl
+
+-- what is written of a set of tuples is marked by it
+marked-written : (N : Network) (L : TupleSet) (ws : List ℕ) → Marked N L ws (written (total N) L ws)
+marked-written N L ws = record { bits = written-isLive (total N) L ws; words = written-length (total N) L ws }
+
+-- the support list of a consistent set
+supports-consistent : (I : Instance) (L : TupleSet) (lent : List ℕ) → Consistent (supported (I .network) (combinationsOf I)) L → Supports I L lent (supportList (I .network) (combinationsOf I) L ++ drop (needed (I .network) (combinationsOf I)) lent)
+supports-consistent I L lent consistent =
+    record {
+      list = refl;
+      long = supportList-length (I .network) (combinationsOf I) L;
+      numbered = λ c m g n. record {
+        dead = firstSupport-dead (I .network) L c g;
+        live = λ e. firstSupport-least (I .network) L c g (supported-at (I .network) (combinationsOf I) L g c (consistent g e) m n);
+      };
+    }
+
+module _ (q : Request) where
+  abbrev I : Instance
+  I = q .given
+
+  abbrev N : Network
+  N = q .given .network
+
+  abbrev cs : List Combination
+  cs = combinationsOf (q .given)
+
+  abbrev entry : TupleSet
+  entry = living (total N) (q .words)
+
+  abbrev left : TupleSet
+  left = remainder I (q .change) entry
+
+  abbrev counts : Counts
+  counts = countsFor I (q .change) entry
+
+  -- ---- Point 1
+
+  -- every request is answered, and refused only for its first listed fault
+  pub answered : Answered q
+  unfolding reply accepted leaving
+  answered =
+      record {
+        accepted = λ h. subst (λ (p : Reply). ((p .answer) .kind ≡ 0) ⊎ ((p .answer) .kind ≡ 1))
+            (sym (ap (λ (o : Option ℕ). replyTo o q) (none-firstFault (faults q) h)))
+            (answerFor-kind N left counts (decLt (lowestEmpty N left) (length (N .relations))));
+        first = λ before after n e h. ap (λ (o : Option ℕ). replyTo o q) (ap firstFault e ∙ firstFault-some before after n h);
+      }
+
+  -- ---- Point 2
+
+  module _ (e : accepts q ≡ true) where
+    leftTuples-is : leftTuples q ≡ left
+    unfolding accepted leaving
+    leftTuples-is =
+        ap (λ (p : Reply). living (total N) (p .words)) (reply-accepted q e)
+        ∙ living-written (total N) left (q .words) (remainder-length I (q .change) entry ∙ living-length (total N) (q .words)) (accepts-words q e)
+
+    given-length : length (givenTuples q) ≡ total N
+    given-length = without-length (removes N (q .change)) entry ∙ living-length (total N) (q .words)
+
+    largest-left : Largest (supported N cs) (givenTuples q) left
+    unfolding remainder
+    largest-left = filtered-largest N cs (givenTuples q)
+
+    only-left : (T : TupleSet) → length T ≡ total N → Largest (supported N cs) (givenTuples q) T → T ≡ left
+    unfolding remainder
+    only-left T l m = filtered-unique N cs (givenTuples q) T (l ∙ sym given-length) m
+
+    solution-left : (a : Assignment) → isSolution N (givenTuples q) a ≡ true → isSolution N left a ≡ true
+    unfolding remainder
+    solution-left a s = isSolution-filtered N a cs (accepts-exist q e) (givenTuples q) given-length s
+
+    kind-is : ((reply q) .answer) .kind ≡ (answerNumbers (answerFor N left counts)) .kind
+    unfolding accepted leaving
+    kind-is = ap (λ (p : Reply). (p .answer) .kind) (reply-accepted q e)
+
+    no-solution : ((reply q) .answer) .kind ≡ 1 → (a : Assignment) → isSolution N (givenTuples q) a ≡ true → ⊥
+    no-solution h a s =
+        let low = emptied-low N left counts (decLt (lowestEmpty N left) (length (N .relations))) (sym kind-is ∙ h) in
+        isSolution-empty N a left (lowestEmpty N left) low (not-true (any (has left) (idsOf N (lowestEmpty N left))) (lowestEmpty-first N left .passes low)) (solution-left a s)
+
+    -- an accepted request leaves the largest consistent set and loses no solution
+    pub filtering : Filtered q
+    unfolding accepted leaving countsFor
+    filtering =
+        record {
+          largest = subst (Largest (supported N cs) (givenTuples q)) (sym leftTuples-is) largest-left;
+          only = λ T l m. only-left T l m ∙ sym leftTuples-is;
+          solutions = λ a s. subst (λ (X : TupleSet). isSolution N X a ≡ true) (sym leftTuples-is) (solution-left a s);
+          none = no-solution;
+          tells = subst (λ (p : Reply). Tells N (leftTuples q) (p .answer)) (sym (reply-accepted q e)) (subst (λ (X : TupleSet). Tells N X (answerNumbers (answerFor N left counts))) (sym leftTuples-is) (answerFor-tells N left counts refl));
+          marked = subst (λ (p : Reply). Marked N (leftTuples q) (q .words) (p .words)) (sym (reply-accepted q e)) (subst (λ (X : TupleSet). Marked N X (q .words) (written (total N) left (q .words))) (sym leftTuples-is) (marked-written N left (q .words)));
+          supports = subst (λ (p : Reply). Supports I (leftTuples q) (q .supports) (p .supports)) (sym (reply-accepted q e)) (subst (λ (X : TupleSet). Supports I X (q .supports) ((accepted q) .supports)) (sym leftTuples-is) (supports-consistent I left (q .supports) (largest-left .consistent)));
+          sum = subst (λ (p : Reply). (p .answer) .left + (p .answer) .withdrawn + (p .answer) .deleted ≡ count entry) (sym (reply-accepted q e)) (leaving-sum I (q .change) entry left (q .words) (q .supports));
+        }
+
+-- ---- Point 3
+
+module _ (I : Instance) (ws : List ℕ) (calls : List Call) (proper : Proper I ws calls) where
+  -- the strike rule
+  pub strike-rule : anyAccepted ws calls ≡ true → StrikeRule I ws calls
+  unfolding remaining leaving
+  strike-rule h =
+      let after = makeAll-accepted I ws calls proper h in
+      let L = filtered (I .network) (combinationsOf I) (without (removedBy I ws calls) (starting I ws)) in
+      let tells = answerFor-tells (I .network) L (after .counts) (after .left) in
+      record {
+        marked = subst (Marked (I .network) L ws) (sym (after .words)) (marked-written (I .network) L ws);
+        call = after .call;
+        reply = leaving I L (after .counts) ws ((after .call) .supports);
+        last = after .last;
+        supports = supports-consistent I L ((after .call) .supports) (filtered-largest (I .network) (combinationsOf I) (without (removedBy I ws calls) (starting I ws)) .consistent);
+        tells = tells;
+        sum = omega (arith, after .sum, tells .left);
+      }
+
+  -- a list with no accepted call writes nothing
+  pub nothing-written : anyAccepted ws calls ≡ false → makeAll (start ws) calls ≡ start ws
+  nothing-written h = makeAll-none ws calls h
+
+  -- locality: what is far from every removed tuple stays
+  local-case : Consistent (supported (I .network) (combinationsOf I)) (starting I ws) → (r : ℕ) → Apart I ws calls r → (g : ℕ) → List·Memᴰ g (idsOf (I .network) r) → (x : Bool) → anyAccepted ws calls ≡ x → isLive ((makeAll (start ws) calls) .words) g ≡ isLive ws g
+  local-case consistent r apart g m false e = ap (λ (s : State). isLive (s .words) g) (makeAll-none ws calls e)
+  local-case consistent r apart g m true e =
+      let after = makeAll-accepted I ws calls proper e in
+      let n = total (I .network) in
+      let below = ids-below (I .network) r m in
+      let L = filtered (I .network) (combinationsOf I) (without (removedBy I ws calls) (starting I ws)) in
+      ap (λ (v : List ℕ). isLive v g) (after .words)
+      ∙ written-isLive n L ws g (omega (arith, after .enough))
+      ∙ ap (λ (x : Bool). cond x (has L g) (isLive ws g)) (lt-ltb g n below)
+      ∙ filtered-far (I .network) (combinationsOf I) (starting I ws) consistent (removedBy I ws calls) g
+      (λ h lives removed chain. apart h lives removed (subst (λ (s : ℕ). Chain (combinationsOf I) s (relationOf (I .network) h)) (relationOf-ids (I .network) r m) chain))
+      ∙ living-has n ws g below
+
+  pub local : Local I ws calls
+  local consistent r apart g m = local-case consistent r apart g m (anyAccepted ws calls) refl
