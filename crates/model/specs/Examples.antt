@@ -4,6 +4,7 @@ use mathlib.Core.List.{List, [], _∷_, map}
 use Prim.Native.Nat.{ℕ}
 use lib.ListN.{length, replicate, take, drop}
 use Rattle.model.specs.declared.Relation.{Relation}
+use Rattle.model.specs.Lists.{from}
 use Rattle.model.specs.TupleSet
 use Rattle.model.specs.Network
 use Rattle.model.specs.Network.{Network}
@@ -95,8 +96,8 @@ table =
     ∷ record { request = p6; answer = numbers 0 64 6 0 0; words = 63 ∷ []; place = 0; supports = 0 ∷ 1 ∷ [] }
     -- P7
     ∷ record { request = p7; answer = numbers 1 0 0 0 6; words = 0 ∷ []; place = 0; supports = 65535 ∷ [] }
-    -- P8
-    ∷ record { request = asked lone 2 [] (1 ∷ []) filter; answer = numbers 1 1 1 0 0; words = 1 ∷ []; place = 0; supports = 7 ∷ [] }
+    -- P8, with spare bits and a spare word set
+    ∷ record { request = asked lone 2 [] (5 ∷ 7 ∷ []) filter; answer = numbers 1 1 1 0 0; words = 5 ∷ 7 ∷ []; place = 0; supports = 7 ∷ [] }
     -- P9
     ∷ record { request = asked networkA 2 pairs (127 ∷ []) (choose 2 6); answer = numbers 0 64 3 2 2; words = 82 ∷ []; place = 0; supports = [] }
     ∷ []
@@ -116,3 +117,41 @@ said e = (e .answer, e .words, e .supports)
 pub examples : map given table ≡ map said table
 unfolding table given said relation networkA triangle lone pairs asked next numbers p1 p3 p6 p7 TupleSet.closure Network.relationOf Network.indexOf Network.scopeOf Network.valuesAt Network.tupleOf Agreement.fit Agreement.clash Agreement.agreeing Agreement.cellsOf Agreement.agree Agreement.share Combination.combinations Combination.connected Support.candidates Support.isSupport Support.supports Support.firstSupport Consistency.supported Consistency.filtered Consistency.supportList Consistency.needed LiveWords.bit LiveWords.isSet LiveWords.isLive LiveWords.living LiveWords.word LiveWords.written Request.removes Fault.faultsOn Fault.faults Reply.lowestEmpty Reply.answerFor Reply.remainder Reply.countsFor Reply.leaving Reply.accepted Reply.reply
 examples = refl
+
+-- ---- The first fault wins
+
+-- two relations of one variable and one tuple each
+twins : List ℕ → Network
+twins variables = record { relations = relation 1 1 ∷ relation 1 1 ∷ []; variables = variables; values = 0 ∷ 0 ∷ [] }
+
+sized : List Relation → Network
+sized Rs = record { relations = Rs; variables = 64 ∷ []; values = [] }
+
+-- a request whose list of supports is empty
+bare : Network → ℕ → List ℕ → List ℕ → Request
+bare N m members words =
+    record { given = record { network = N; m = m; members = members }; words = words; supports = []; change = withdraw (2 ∷ []) }
+
+-- Requests with the faults 2 to 14: each has its own fault and nearly all later ones.
+damaged : List Request
+unfolding twins sized bare
+damaged =
+    bare (sized (replicate 65 (relation 0 65535))) 5 (9 ∷ []) []
+    ∷ bare (sized (relation 1 65535 ∷ relation 9 65535 ∷ [])) 5 (9 ∷ []) []
+    ∷ bare (sized (relation 1 4096 ∷ relation 8 1 ∷ [])) 5 (9 ∷ []) []
+    ∷ bare (sized (relation 1 1 ∷ relation 1 1 ∷ [])) 5 (9 ∷ []) []
+    ∷ bare (twins (0 ∷ 64 ∷ [])) 5 (9 ∷ []) []
+    ∷ bare (twins (0 ∷ 1 ∷ [])) 5 (9 ∷ []) []
+    ∷ bare (twins (0 ∷ 1 ∷ [])) 2 (9 ∷ []) []
+    ∷ bare (twins (0 ∷ 1 ∷ [])) 2 (0 ∷ 1 ∷ 0 ∷ 2 ∷ []) []
+    ∷ bare (twins (0 ∷ 1 ∷ [])) 2 (0 ∷ 1 ∷ []) []
+    ∷ bare (twins (0 ∷ 0 ∷ [])) 2 (0 ∷ 1 ∷ []) []
+    ∷ bare (twins (0 ∷ 0 ∷ [])) 2 (0 ∷ 1 ∷ []) (3 ∷ [])
+    ∷ asked (twins (0 ∷ 0 ∷ [])) 2 (0 ∷ 1 ∷ []) (3 ∷ []) (withdraw (0 ∷ 2 ∷ []))
+    ∷ asked (twins (0 ∷ 0 ∷ [])) 2 (0 ∷ 1 ∷ []) (3 ∷ []) (choose 64 0)
+    ∷ []
+
+-- each is refused with the number of its first fault
+first-fault-wins : map (λ (q : Request). (reply q) .answer) damaged ≡ map (λ (n : ℕ). numbers 2 n 0 0 0) (from 2 13)
+unfolding damaged twins sized bare relation asked numbers TupleSet.closure Network.relationOf Network.indexOf Network.scopeOf Network.valuesAt Network.tupleOf Agreement.fit Agreement.clash Agreement.agreeing Agreement.cellsOf Agreement.agree Agreement.share Combination.combinations Combination.connected Support.candidates Support.isSupport Support.supports Support.firstSupport Consistency.supported Consistency.filtered Consistency.supportList Consistency.needed LiveWords.bit LiveWords.isSet LiveWords.isLive LiveWords.living LiveWords.word LiveWords.written Request.removes Fault.faultsOn Fault.faults Reply.lowestEmpty Reply.answerFor Reply.remainder Reply.countsFor Reply.leaving Reply.accepted Reply.reply
+first-fault-wins = refl
