@@ -1,33 +1,34 @@
--- Laws of live words: a word is its bits, what is written is read back, and every other bit stays.
+-- Laws of live words: a word is its bits, live ids are counted part by part, what is written is read back, and every other bit stays.
+-- From the definitions, and the laws of lists and of sets of tuples.
 use mathlib.Core.Path.{_≡_, refl, sym, _∙_, ap, subst}
-use mathlib.Core.Bool.{Bool, true, false, not, _&&_, cond, and-true}
+use mathlib.Core.Bool.{Bool, true, false, not, _&&_, _||_, cond, and-true, or-false}
 use mathlib.Core.List.{List, [], _∷_, map}
 use Prim.Native.Nat.{ℕ, zero, suc, _+_, _*_, _-_, _/_, _%_, _^_, _≤_, _<_}
 use native.Mathlib.Nat.{add-zero, zero-add, add-suc, suc-add, pow-suc, pow-succ', div-div-eq-div-mul, le-of-suc-le-suc}
 use native.Mathlib.Omega.{arith}
-use native.Mathlib.Decide.{ℕ-discrete}
+use native.Mathlib.Decide.{ℕ-discrete, decLe}
 use lib.Dec.{ltb, eqb}
 use lib.ListN.{length, getD, set, length-map, length-set}
 use lib.Seq.{ext-getD, getD-set-same, getD-set-other}
 use borrow.Author.Tests.{eqb-true, eqb-false, eq-eqb, ne-eqb, lt-ltb, ltb-true, ltb-false}
 use Rattle.model.specs.Limits.{wordBits}
 use Rattle.model.specs.Lists.{from}
-use Rattle.model.specs.TupleSet.{TupleSet, has, without}
-use Rattle.model.specs.LiveWords.{bit, isSet, isLive, living, digits, word, cleared, bitAfter, writtenFrom, written}
+use Rattle.model.specs.TupleSet.{TupleSet, has, count, without}
+use Rattle.model.specs.LiveWords.{bit, isSet, isLive, livingFrom, living, nextLive, digits, word, cleared, raised, bitAfter, writtenFrom, written}
 use Rattle.model.proofs.Bools.{iff-eq}
 use Rattle.model.proofs.Lists.{length-from, getD-map-from}
-use Rattle.model.proofs.TupleSet.{restrict-has}
+use Rattle.model.proofs.TupleSet.{restrict-has, count-length}
 
 -- ---- Bits of a number
 
-half : (b : Bool) (x : ℕ) → (cond b 1 0 + 2 * x) / 2 ≡ x
-half true x = omega arith
-half false x = omega arith
+pub digit-half : (b : Bool) (x : ℕ) → (cond b 1 0 + 2 * x) / 2 ≡ x
+digit-half true x = omega arith
+digit-half false x = omega arith
 
-low : (b : Bool) (x : ℕ) → isSet (cond b 1 0 + 2 * x) 0 ≡ b
+pub digit-low : (b : Bool) (x : ℕ) → isSet (cond b 1 0 + 2 * x) 0 ≡ b
 unfolding isSet bit
-low true x = eq-eqb ((1 + 2 * x) / 2 ^ 0 % 2) 1 (omega arith)
-low false x = ne-eqb ((0 + 2 * x) / 2 ^ 0 % 2) 1 (omega arith)
+digit-low true x = eq-eqb ((1 + 2 * x) / 2 ^ 0 % 2) 1 (omega arith)
+digit-low false x = ne-eqb ((0 + 2 * x) / 2 ^ 0 % 2) 1 (omega arith)
 
 -- bit j + 1 of a number is bit j of its half
 pub bit-suc : (w j : ℕ) → bit w (suc j) ≡ bit (w / 2) j
@@ -40,10 +41,10 @@ isSet-suc w j = ap (λ (x : ℕ). eqb x 1) (bit-suc w j)
 
 pub digits-isSet : (f : ℕ → Bool) (i k j : ℕ) → j < k → isSet (digits f i k) j ≡ f (i + j)
 digits-isSet f i zero j h = absurd (omega arith)
-digits-isSet f i (suc k) zero h = rw add-zero (low (f i) (digits f (suc i) k))
+digits-isSet f i (suc k) zero h = rw add-zero (digit-low (f i) (digits f (suc i) k))
 digits-isSet f i (suc k) (suc j) h =
     isSet-suc (digits f i (suc k)) j
-    ∙ ap (λ (x : ℕ). isSet x j) (half (f i) (digits f (suc i) k))
+    ∙ ap (λ (x : ℕ). isSet x j) (digit-half (f i) (digits f (suc i) k))
     ∙ digits-isSet f (suc i) k j (omega arith)
     ∙ ap f (suc-add i j ∙ sym (add-suc i j))
 
@@ -62,9 +63,9 @@ digits-below f i (suc k) = go (f i) (digits-below f (suc i) k)
     go true h = rw pow-succ' (omega arith)
     go false h = rw pow-succ' (omega arith)
 
-low-digit : (y : ℕ) (b : Bool) → eqb (y % 2) 1 ≡ b → cond b 1 0 ≡ y % 2
-low-digit y true e = sym (eqb-true (y % 2) 1 e)
-low-digit y false e = let d = eqb-false (y % 2) 1 e in omega arith
+pub digit-mod : (y : ℕ) (b : Bool) → eqb (y % 2) 1 ≡ b → cond b 1 0 ≡ y % 2
+digit-mod y true e = sym (eqb-true (y % 2) 1 e)
+digit-mod y false e = let d = eqb-false (y % 2) 1 e in omega arith
 
 digits-from : (w i k : ℕ) → w / 2 ^ i < 2 ^ k → digits (isSet w) i k ≡ w / 2 ^ i
 unfolding isSet bit
@@ -74,7 +75,7 @@ digits-from w i (suc k) h =
     let up : w / 2 ^ suc i ≡ y / 2 = ap (λ (x : ℕ). w / x) (pow-suc 2 i) ∙ sym (div-div-eq-div-mul w (2 ^ i) 2) in
     let r : y / 2 < 2 ^ k = omega (arith, pow-succ' 2 k) in
     let e = digits-from w (suc i) k (subst (λ (x : ℕ). x < 2 ^ k) (sym up) r) ∙ up in
-    omega (arith, e, low-digit y (eqb (y % 2) 1) refl)
+    omega (arith, e, digit-mod y (eqb (y % 2) 1) refl)
 
 -- ---- Words
 
@@ -95,6 +96,39 @@ pub word-self : (w : ℕ) → w < 2 ^ 64 → word (isSet w) ≡ w
 unfolding word
 word-self w h = digits-from w 0 wordBits (omega arith) ∙ omega arith
 
+pub word-ext : (f : ℕ → Bool) (w : ℕ) → w < 2 ^ 64 → ((j : ℕ) → j < wordBits → isSet w j ≡ f j) → w ≡ word f
+word-ext f w h same = sym (word-self w h) ∙ word-cong (isSet w) f same
+
+-- ---- Tests of numbers in a row
+
+-- the same tests at two places
+pub map-from-cong : (f g : ℕ → Bool) (a b n : ℕ) → ((j : ℕ) → j < n → f (a + j) ≡ g (b + j)) → map f (from a n) ≡ map g (from b n)
+map-from-cong f g a b n same =
+    let l : length (map f (from a n)) ≡ n = length-map (from a n) f ∙ length-from a n in
+    ext-getD false (map f (from a n)) (map g (from b n)) (l ∙ sym (length-map (from b n) g ∙ length-from b n))
+    (λ j h. let k : j < n = omega arith in getD-map-from f a n j false k ∙ same j k ∙ sym (getD-map-from g b n j false k))
+
+pub count-cons : (b : Bool) (S : TupleSet) → count (b ∷ S) ≡ cond b 1 0 + count S
+count-cons true S = omega arith
+count-cons false S = omega arith
+
+pub count-from-le : (f : ℕ → Bool) (i n : ℕ) → count (map f (from i n)) ≤ n
+count-from-le f i n = omega (arith, count-length (map f (from i n)), length-map (from i n) f, length-from i n)
+
+count-add : (f : ℕ → Bool) (i m n : ℕ) → count (map f (from i (m + n))) ≡ count (map f (from i m)) + count (map f (from (i + m) n))
+count-add f i zero n = simp (zero-add, add-zero)
+count-add f i (suc m) n =
+    let e : suc i + m ≡ i + suc m = omega arith in
+    let r = rw e at (count-add f (suc i) m n) in
+    rw suc-add (omega (arith, r, count-cons (f i) (map f (from (suc i) (m + n))), count-cons (f i) (map f (from (suc i) m))))
+
+-- the numbers from a to b and those from b to e are counted apart
+pub count-split : (f : ℕ → Bool) (a b e : ℕ) → a ≤ b → b ≤ e → count (map f (from a (e - a))) ≡ count (map f (from a (b - a))) + count (map f (from b (e - b)))
+count-split f a b e h k =
+    let p : e - a ≡ (b - a) + (e - b) = omega arith in
+    let q : a + (b - a) ≡ b = omega arith in
+    rw p (rw q at (count-add f a (b - a) (e - b)))
+
 -- ---- Live ids
 
 pub living-length : (n : ℕ) (ws : List ℕ) → length (living n ws) ≡ n
@@ -112,6 +146,35 @@ isLive-at ws i j h =
     let q : (wordBits * i + j) / wordBits ≡ i = omega arith in
     let r : (wordBits * i + j) % wordBits ≡ j = omega arith in
     ap (λ (x : ℕ). isSet (getD ws x 0) ((wordBits * i + j) % wordBits)) q ∙ ap (isSet (getD ws i 0)) r
+
+-- the ids of word i are live as its bits are set
+pub livingFrom-word : (ws : List ℕ) (i k : ℕ) → k ≤ wordBits → livingFrom (wordBits * i) k ws ≡ map (isSet (getD ws i 0)) (from 0 k)
+livingFrom-word ws i k h =
+    map-from-cong (isLive ws) (isSet (getD ws i 0)) (wordBits * i) 0 k
+    (λ j l. isLive-at ws i j (omega arith) ∙ ap (isSet (getD ws i 0)) (sym (zero-add j)))
+
+-- ---- The next live id
+
+pub nextLive-past : (ws : List ℕ) (i end : ℕ) → end ≤ i → nextLive ws i end ≡ end
+unfolding nextLive
+nextLive-past ws i end h = let e : end - i ≡ 0 = omega arith in rw e
+
+pub nextLive-here : (ws : List ℕ) (i end : ℕ) → i < end → isLive ws i ≡ true → nextLive ws i end ≡ i
+unfolding nextLive
+nextLive-here ws i end h live = let e : end - i ≡ suc (end - suc i) = omega arith in rw (e, live)
+
+nextLive-step : (ws : List ℕ) (i end : ℕ) → isLive ws i ≡ false → Dec (end ≤ i) → nextLive ws i end ≡ nextLive ws (suc i) end
+unfolding nextLive
+nextLive-step ws i end dead (yes h) = nextLive-past ws i end h ∙ sym (nextLive-past ws (suc i) end (omega arith))
+nextLive-step ws i end dead (no h) = let e : end - i ≡ suc (end - suc i) = omega arith in rw (e, dead)
+
+-- dead ids are passed over
+pub nextLive-skip : (ws : List ℕ) (i n end : ℕ) → ((j : ℕ) → j < n → isLive ws (i + j) ≡ false) → nextLive ws i end ≡ nextLive ws (i + n) end
+nextLive-skip ws i zero end dead = rw add-zero
+nextLive-skip ws i (suc n) end dead =
+    nextLive-skip ws i n end (λ j l. dead j (omega arith))
+    ∙ nextLive-step ws (i + n) end (dead n (omega arith)) (decLe end (i + n))
+    ∙ ap (λ (x : ℕ). nextLive ws x end) (sym (add-suc i n))
 
 -- word lists with the same bits are the same
 pub words-ext : (vs ws : List ℕ) → length vs ≡ length ws → ((i : ℕ) → i < length vs → getD vs i 0 < 2 ^ 64) → ((i : ℕ) → i < length ws → getD ws i 0 < 2 ^ 64) → ((g : ℕ) → g < wordBits * length vs → isLive vs g ≡ isLive ws g) → vs ≡ ws
@@ -189,15 +252,15 @@ written-living n ws small =
     same g true e = living-has n ws g (ltb-true g n e)
     same g false e = refl
 
--- ---- One id cleared
+-- ---- One id changed
 
-pub cleared-length : (g : ℕ) (ws : List ℕ) → length (cleared g ws) ≡ length ws
-unfolding cleared
-cleared-length g ws = length-set ws (g / wordBits) (word (λ (j : ℕ). isSet (getD ws (g / wordBits) 0) j && not (eqb (g % wordBits) j)))
+-- the words once each bit of id g's word is what `f` makes of it, told whether it is g's
+abbrev changed : (Bool → Bool → Bool) → ℕ → List ℕ → List ℕ
+changed f g ws = set ws (g / wordBits) (word (λ (j : ℕ). f (isSet (getD ws (g / wordBits) 0) j) (eqb (g % wordBits) j)))
 
--- the bits of word i once id g is cleared
-bits : ℕ → List ℕ → ℕ → ℕ → Bool
-bits g ws i j = isSet (getD ws i 0) j && not (eqb g (wordBits * i + j))
+-- the bits of word i then
+bits : (Bool → Bool → Bool) → ℕ → List ℕ → ℕ → ℕ → Bool
+bits f g ws i j = f (isSet (getD ws i 0) j) (eqb g (wordBits * i + j))
 
 same-place : (g j : ℕ) → j < wordBits → eqb (g % wordBits) j ≡ eqb g (wordBits * (g / wordBits) + j)
 same-place g j h =
@@ -205,31 +268,51 @@ same-place g j h =
     (λ e. let q = eqb-true (g % wordBits) j e in eq-eqb g (wordBits * (g / wordBits) + j) (omega arith))
     (λ e. let q = eqb-true g (wordBits * (g / wordBits) + j) e in eq-eqb (g % wordBits) j (omega arith))
 
-cleared-at : (g : ℕ) (ws : List ℕ) → ((i : ℕ) → i < length ws → getD ws i 0 < 2 ^ 64) → (i : ℕ) → i < length ws → Dec (i ≡ g / wordBits) → getD (cleared g ws) i 0 ≡ word (bits g ws i)
-unfolding cleared bits
-cleared-at g ws small i h (yes e) =
-    let k = g / wordBits in
-    let w = getD ws k 0 in
-    subst (λ (x : ℕ). getD (set ws k (word (λ (j : ℕ). isSet w j && not (eqb (g % wordBits) j)))) x 0 ≡ word (λ (j : ℕ). isSet (getD ws x 0) j && not (eqb g (wordBits * x + j)))) (sym e)
-    (getD-set-same ws k (word (λ (j : ℕ). isSet w j && not (eqb (g % wordBits) j))) 0 (omega arith)
-    ∙ word-cong (λ (j : ℕ). isSet w j && not (eqb (g % wordBits) j)) (λ (j : ℕ). isSet w j && not (eqb g (wordBits * k + j)))
-    (λ j hj. ap (λ (x : Bool). isSet w j && not x) (same-place g j hj)))
-cleared-at g ws small i h (no d) =
-    getD-set-other ws (g / wordBits) i (word (λ (j : ℕ). isSet (getD ws (g / wordBits) 0) j && not (eqb (g % wordBits) j))) 0 d
-    ∙ sym (word-self (getD ws i 0) (small i h))
-    ∙ word-cong (isSet (getD ws i 0)) (λ (j : ℕ). isSet (getD ws i 0) j && not (eqb g (wordBits * i + j)))
-    (λ j hj. sym (ap (λ (x : Bool). isSet (getD ws i 0) j && not x) (ne-eqb g (wordBits * i + j) (omega arith)) ∙ and-true (isSet (getD ws i 0) j)))
+module _ (f : Bool → Bool → Bool) (keeps : (b : Bool) → f b false ≡ b) (g : ℕ) (ws : List ℕ) (small : (i : ℕ) → i < length ws → getD ws i 0 < 2 ^ 64) where
+  changed-at : (i : ℕ) → i < length ws → Dec (i ≡ g / wordBits) → getD (changed f g ws) i 0 ≡ word (bits f g ws i)
+  unfolding bits
+  changed-at i h (yes e) =
+      let k = g / wordBits in
+      let w = getD ws k 0 in
+      subst (λ (x : ℕ). getD (changed f g ws) x 0 ≡ word (λ (j : ℕ). f (isSet (getD ws x 0) j) (eqb g (wordBits * x + j)))) (sym e)
+      (getD-set-same ws k (word (λ (j : ℕ). f (isSet w j) (eqb (g % wordBits) j))) 0 (omega arith)
+      ∙ word-cong (λ (j : ℕ). f (isSet w j) (eqb (g % wordBits) j)) (λ (j : ℕ). f (isSet w j) (eqb g (wordBits * k + j)))
+      (λ j hj. ap (f (isSet w j)) (same-place g j hj)))
+  changed-at i h (no d) =
+      let w = getD ws i 0 in
+      getD-set-other ws (g / wordBits) i (word (λ (j : ℕ). f (isSet (getD ws (g / wordBits) 0) j) (eqb (g % wordBits) j))) 0 d
+      ∙ word-ext (λ (j : ℕ). f (isSet w j) (eqb g (wordBits * i + j))) w (small i h)
+      (λ j hj. sym (ap (f (isSet w j)) (ne-eqb g (wordBits * i + j) (omega arith)) ∙ keeps (isSet w j)))
+
+  changed-isLive : (h : ℕ) → h < wordBits * length ws → isLive (changed f g ws) h ≡ f (isLive ws h) (eqb g h)
+  unfolding isLive bits
+  changed-isLive h below =
+      let q = h / wordBits in
+      let r = h % wordBits in
+      let e : wordBits * q + r ≡ h = omega arith in
+      ap (λ (x : ℕ). isSet x r) (changed-at q (omega arith) (ℕ-discrete q (g / wordBits)))
+      ∙ word-isSet (bits f g ws q) r (omega arith)
+      ∙ ap (λ (x : ℕ). f (isSet (getD ws q 0) r) (eqb g x)) e
+
+abbrev clears : Bool → Bool → Bool
+clears b here = b && not here
+
+pub cleared-length : (g : ℕ) (ws : List ℕ) → length (cleared g ws) ≡ length ws
+unfolding cleared
+cleared-length g ws = simp length-set
 
 -- every bit but id g's stays
 pub cleared-isLive : (g : ℕ) (ws : List ℕ) → ((i : ℕ) → i < length ws → getD ws i 0 < 2 ^ 64) → (h : ℕ) → h < wordBits * length ws → isLive (cleared g ws) h ≡ (isLive ws h && not (eqb g h))
-unfolding isLive bits
-cleared-isLive g ws small h below =
-    let q = h / wordBits in
-    let r = h % wordBits in
-    let e : wordBits * q + r ≡ h = omega arith in
-    ap (λ (x : ℕ). isSet x r) (cleared-at g ws small q (omega arith) (ℕ-discrete q (g / wordBits)))
-    ∙ word-isSet (bits g ws q) r (omega arith)
-    ∙ ap (λ (x : ℕ). isSet (getD ws q 0) r && not (eqb g x)) e
+unfolding cleared
+cleared-isLive = changed-isLive clears and-true
+
+pub raised-length : (g : ℕ) (ws : List ℕ) → length (raised g ws) ≡ length ws
+unfolding raised
+raised-length g ws = simp length-set
+
+pub raised-isLive : (g : ℕ) (ws : List ℕ) → ((i : ℕ) → i < length ws → getD ws i 0 < 2 ^ 64) → (h : ℕ) → h < wordBits * length ws → isLive (raised g ws) h ≡ (isLive ws h || eqb g h)
+unfolding raised
+raised-isLive = changed-isLive (λ b here. b || here) or-false
 
 pub written-below : (n : ℕ) (S : TupleSet) (ws : List ℕ) (i : ℕ) → i < length ws → getD (written n S ws) i 0 < 2 ^ 64
 written-below n S ws i h = subst (λ (x : ℕ). x < 2 ^ 64) (sym (written-at n S ws i h)) (word-below (bitAfter n S i (getD ws i 0)))
@@ -242,7 +325,7 @@ bit-cleared n S g i w j h false e =
 
 -- to clear an id is to write the set without it
 pub cleared-written : (n : ℕ) (S : TupleSet) (g : ℕ) (ws : List ℕ) → g < n → cleared g (written n S ws) ≡ written n (without (eqb g) S) ws
-unfolding bits
+unfolding cleared bits
 cleared-written n S g ws h =
     ext-getD 0 (cleared g vs) (written n (without (eqb g) S) ws)
     (cleared-length g vs ∙ written-length n S ws ∙ sym (written-length n (without (eqb g) S) ws))
@@ -253,7 +336,7 @@ cleared-written n S g ws h =
 
     at : (i : ℕ) → i < length ws → getD (cleared g vs) i 0 ≡ getD (written n (without (eqb g) S) ws) i 0
     at i k =
-        cleared-at g vs (λ i l. written-below n S ws i (omega (arith, written-length n S ws))) i (omega (arith, written-length n S ws)) (ℕ-discrete i (g / wordBits))
+        changed-at clears and-true g vs (λ i l. written-below n S ws i (omega (arith, written-length n S ws))) i (omega (arith, written-length n S ws)) (ℕ-discrete i (g / wordBits))
         ∙ word-cong (λ (j : ℕ). isSet (getD vs i 0) j && not (eqb g (wordBits * i + j))) (bitAfter n (without (eqb g) S) i (getD ws i 0))
         (λ j hj.
         ap (λ (x : Bool). x && not (eqb g (wordBits * i + j))) (ap (λ (x : ℕ). isSet x j) (written-at n S ws i k) ∙ word-isSet (bitAfter n S i (getD ws i 0)) j hj)

@@ -1,5 +1,5 @@
 -- Live words (document 01: marks): a set of tuples as the bits of 64-bit words.
-use mathlib.Core.Bool.{Bool, not, _&&_, cond}
+use mathlib.Core.Bool.{Bool, not, _&&_, _||_, cond}
 use mathlib.Core.List.{List, [], _∷_, map}
 use Prim.Native.Nat.{ℕ, zero, suc, _+_, _-_, _*_, _/_, _%_, _^_}
 use lib.Dec.{ltb, eqb}
@@ -44,6 +44,11 @@ word f = digits f 0 wordBits
 unfoldable pub cleared : ℕ → List ℕ → List ℕ
 cleared g ws =
     set ws (g / wordBits) (word (λ (j : ℕ). isSet (getD ws (g / wordBits) 0) j && not (eqb (g % wordBits) j)))
+
+-- the words once id g is live, every other bit as it was
+unfoldable pub raised : ℕ → List ℕ → List ℕ
+raised g ws =
+    set ws (g / wordBits) (word (λ (j : ℕ). isSet (getD ws (g / wordBits) 0) j || eqb (g % wordBits) j))
 
 -- bit j of word k once S is written: an id below n is as in S, any other bit as it was
 abbrev pub bitAfter : ℕ → TupleSet → ℕ → ℕ → ℕ → Bool

@@ -1,0 +1,2 @@
+-- The laws of the machine's operations on words.
+pub mod Bits

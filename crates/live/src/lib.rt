@@ -1,0 +1,79 @@
+// Live words: sixty-four ids to a word, id g at bit g mod 64 of word g / 64, and live where the bit is 1.
+ghost use mathlib.Core.Path.{_≡_};
+ghost use Prim.Native.Nat.{_-_, _*_, _/_, _%_, _≤_, _<_};
+ghost use lib.ListN.{length};
+ghost use Rattle.model.specs.TupleSet.{count};
+ghost use Rattle.model.specs.LiveWords.{isLive, livingFrom, nextLive, cleared, raised};
+
+// Is id g live.
+pub fn is_live(words: &[u64], g: u16) -> bool
+    requires { ⌜ g < 64 * length (now words) ⌝ }
+    ensures { λ r. ⌜ r ≡ isLive (now (words .entry)) g ⌝ }
+{
+    let w = words[(g / 64) as usize];
+    (w >> (g % 64)) % 2 == 1
+}
+
+// Id g is dead, and every other bit of every word stays.
+pub fn clear(words: &mut [u64], g: u16)
+    requires { ⌜ g < 64 * length (now words) ⌝ }
+    ensures { λ _. ⌜ now (words .exit) ≡ cleared g (now (words .entry)) ⌝ }
+{
+    let i = (g / 64) as usize;
+    words[i] = words[i] & !(1u64 << (g % 64));
+}
+
+// Id g is live, and every other bit of every word stays.
+pub fn set(words: &mut [u64], g: u16)
+    requires { ⌜ g < 64 * length (now words) ⌝ }
+    ensures { λ _. ⌜ now (words .exit) ≡ raised g (now (words .entry)) ⌝ }
+{
+    let i = (g / 64) as usize;
+    words[i] = words[i] | (1u64 << (g % 64));
+}
+
+// How many ids below end are live in end's own word.
+fn count_below(words: &[u64], end: usize) -> usize
+    requires { ⌜ end ≤ 64 * length (now words) ⌝ }
+    ensures { λ r. ⌜ r ≡ count (livingFrom (64 * (end / 64)) (end % 64) (now (words .entry))) ⌝ }
+{
+    let k = end % 64;
+    if k == 0 {
+        return 0;
+    }
+    u64::count_ones(words[end / 64] % (1u64 << k)) as usize
+}
+
+// How many ids from start on and below end are live.
+pub fn count(words: &[u64], start: u16, end: u16) -> u16
+    requires { ⌜ (start ≤ end) × (end ≤ 64 * length (now words)) × (end ≤ 4096) ⌝ }
+    ensures { λ r. ⌜ r ≡ count (livingFrom start (end - start) (now (words .entry))) ⌝ }
+{
+    let start = start as usize;
+    let end = end as usize;
+    let mut n: usize = 0;
+    let mut i = start / 64;
+    while i < end / 64 {
+        n += u64::count_ones(words[i]) as usize;
+        i += 1;
+    }
+    (n + count_below(words, end) - count_below(words, start)) as u16
+}
+
+// The first live id from start on and below end; end if there is none.
+pub fn next(words: &[u64], start: u16, end: u16) -> u16
+    requires { ⌜ (start ≤ end) × (end ≤ 64 * length (now words)) × (end ≤ 4096) ⌝ }
+    ensures { λ r. ⌜ r ≡ nextLive (now (words .entry)) start end ⌝ }
+{
+    let stop = end as usize;
+    let mut at = start as usize;
+    while at < stop {
+        let w = words[at / 64] >> (at % 64);
+        if w != 0 {
+            let g = at + u64::trailing_zeros(w) as usize;
+            return if g < stop { g as u16 } else { end };
+        }
+        at = (at / 64 + 1) * 64;
+    }
+    end
+}
