@@ -3,4 +3,5 @@ pub mod Bools
 pub mod Lists
 pub mod TupleSet
 pub mod Network
+pub mod Agreement
 pub mod LiveWords
