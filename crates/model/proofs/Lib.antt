@@ -4,4 +4,5 @@ pub mod Lists
 pub mod TupleSet
 pub mod Network
 pub mod Agreement
+pub mod Fault
 pub mod LiveWords

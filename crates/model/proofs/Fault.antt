@@ -1,0 +1,112 @@
+-- Laws of the first fault of a table, and what a network without network faults has.
+-- From the definitions alone.
+use mathlib.Core.Path.{_≡_, refl, sym, _∙_, ap}
+use mathlib.Core.Bool.{Bool, true, false, not, _&&_, cond, false≢true}
+use mathlib.Core.Option.{Option, none, some}
+use mathlib.Core.List.{List, [], _∷_, _++_, map, List·Memᴰ, List·Memᴰ·tail, List·Memᴰ·cases-cons, List·Memᴰ·not-nil}
+use mathlib.Core.Logic.{⊎-elim}
+use Prim.Native.Nat.{ℕ, _≤_, _<_}
+use native.Mathlib.Omega.{arith}
+use lib.Dec.{leb, ltb, eqb}
+use lib.ListN.{length}
+use borrow.Author.Tests.{ltb-true, ltb-false, leb-true, eqb-true, not-false}
+use Rattle.model.specs.Limits.{maxRelations, maxWidth, maxTuples}
+use Rattle.model.specs.Lists.{from, sum, all}
+use Rattle.model.specs.declared.Relation.{Relation}
+use Rattle.model.specs.Network.{Network, total, variablesIn, valuesIn, scopeOf}
+use Rattle.model.specs.Fault.{Fault, firstFault, refusal, within, properScope, properLengths, networkFaults}
+use Rattle.model.proofs.Bools.{and-left, and-right}
+use Rattle.model.proofs.Lists.{here}
+
+-- ---- Reading a table in order
+
+module _ (f : Fault) (fs : List Fault) where
+  pub fault-here : f .1 ≡ true → firstFault (f ∷ fs) ≡ some (f .0)
+  fault-here e = ap (λ (b : Bool). cond b (some (f .0)) (firstFault fs)) e
+
+  pub fault-next : f .1 ≡ false → firstFault (f ∷ fs) ≡ firstFault fs
+  fault-next e = ap (λ (b : Bool). cond b (some (f .0)) (firstFault fs)) e
+
+some-none : {k : ℕ} → some k ≡ none → ⊥
+some-none {k} e = let z : _≡_ {A = ℕ} 0 1 = cc in omega arith
+
+none-first : (b : Bool) (k : ℕ) (o : Option ℕ) → cond b (some k) o ≡ none → (b ≡ false) × (o ≡ none)
+none-first true k o e = absurd (some-none e)
+none-first false k o e = (refl, e)
+
+-- no fault at all: neither the first test nor a later one finds any
+pub no-fault-here : (f : Fault) (fs : List Fault) → firstFault (f ∷ fs) ≡ none → f .1 ≡ false
+no-fault-here f fs e = none-first (f .1) (f .0) (firstFault fs) e .0
+
+pub no-fault-next : (f : Fault) (fs : List Fault) → firstFault (f ∷ fs) ≡ none → firstFault fs ≡ none
+no-fault-next f fs e = none-first (f .1) (f .0) (firstFault fs) e .1
+
+-- .. and so no test of the table finds any
+pub no-fault-at : (fs : List Fault) → firstFault fs ≡ none → {f : Fault} → List·Memᴰ f fs → f .1 ≡ false
+no-fault-at [] e m = absurd (List·Memᴰ·not-nil m)
+no-fault-at (g ∷ fs) e {f} m =
+    ⊎-elim
+    (λ h. ap (λ (k : Fault). k .1) h ∙ no-fault-here g fs e)
+    (λ h. no-fault-at fs (no-fault-next g fs e) h)
+    (List·Memᴰ·cases-cons m)
+
+-- two tables, one after the other
+pub firstFault-append-none : (fs gs : List Fault) → firstFault fs ≡ none → firstFault (fs ++ gs) ≡ firstFault gs
+firstFault-append-none [] gs e = refl
+firstFault-append-none (f ∷ fs) gs e =
+    fault-next f (fs ++ gs) (no-fault-here f fs e) ∙ firstFault-append-none fs gs (no-fault-next f fs e)
+
+append-some : (b : Bool) (k j : ℕ) (o p : Option ℕ) → (o ≡ some k → p ≡ some k) → cond b (some j) o ≡ some k → cond b (some j) p ≡ some k
+append-some true k j o p f e = e
+append-some false k j o p f e = f e
+
+pub firstFault-append-some : (fs gs : List Fault) (k : ℕ) → firstFault fs ≡ some k → firstFault (fs ++ gs) ≡ some k
+firstFault-append-some [] gs k e = absurd (some-none (sym e))
+firstFault-append-some (f ∷ fs) gs k e =
+    append-some (f .1) k (f .0) (firstFault fs) (firstFault (fs ++ gs)) (firstFault-append-some fs gs k) e
+
+-- ---- The first fault from its refusal number
+
+pub refusal-some : (o : Option ℕ) (k : ℕ) → refusal o ≡ k → (k ≡ 0 → ⊥) → o ≡ some k
+refusal-some none k e d = absurd (d (sym e))
+refusal-some (some j) k e d = ap some e
+
+refusal-first : (b : Bool) (k : ℕ) (o : Option ℕ) → ltb 0 k ≡ true → (refusal o ≡ 0 → o ≡ none) → refusal (cond b (some k) o) ≡ 0 → cond b (some k) o ≡ none
+refusal-first true k o h f e = absurd (let l = ltb-true 0 k h in omega arith)
+refusal-first false k o h f e = f e
+
+pub refusal-none : (fs : List Fault) → all (λ (f : Fault). ltb 0 (f .0)) fs ≡ true → refusal (firstFault fs) ≡ 0 → firstFault fs ≡ none
+refusal-none [] h e = refl
+refusal-none (f ∷ fs) h e =
+    refusal-first (f .1) (f .0) (firstFault fs) (and-left (ltb 0 (f .0)) (all (λ (g : Fault). ltb 0 (g .0)) fs) h)
+    (refusal-none fs (and-right (ltb 0 (f .0)) (all (λ (g : Fault). ltb 0 (g .0)) fs) h)) e
+
+-- ---- A network without network faults
+
+pub record Faultless (N : Network) : Type 0 where
+  pub some-relation : 1 ≤ length (N .relations)
+  pub relations : length (N .relations) ≤ maxRelations
+  pub widths : all (λ (R : Relation). within 1 maxWidth (R .width)) (N .relations) ≡ true
+  pub tuples : total N ≤ maxTuples
+  pub variables : length (N .variables) ≡ sum (map variablesIn (N .relations))
+  pub values : length (N .values) ≡ sum (map valuesIn (N .relations))
+  pub scopes : all (λ (r : ℕ). properScope (scopeOf N r)) (from 0 (length (N .relations))) ≡ true
+
+pub faultless : (N : Network) → firstFault (networkFaults N) ≡ none → Faultless N
+faultless N e =
+    let n = length (N .relations) in
+    let variables = eqb (length (N .variables)) (sum (map variablesIn (N .relations))) in
+    let values = eqb (length (N .values)) (sum (map valuesIn (N .relations))) in
+    let count : within 1 maxRelations n ≡ true = not-false _ (no-fault-at (networkFaults N) e here) in
+    let lengths : properLengths N ≡ true =
+        not-false _ (no-fault-at (networkFaults N) e (List·Memᴰ·tail (List·Memᴰ·tail (List·Memᴰ·tail here))))
+    in
+    record {
+      some-relation = leb-true 1 n (and-left (leb 1 n) (leb n maxRelations) count);
+      relations = leb-true n maxRelations (and-right (leb 1 n) (leb n maxRelations) count);
+      widths = not-false _ (no-fault-at (networkFaults N) e (List·Memᴰ·tail here));
+      tuples = ltb-false maxTuples (total N) (no-fault-at (networkFaults N) e (List·Memᴰ·tail (List·Memᴰ·tail here)));
+      variables = eqb-true _ _ (and-left variables values lengths);
+      values = eqb-true _ _ (and-right variables values lengths);
+      scopes = not-false _ (no-fault-at (networkFaults N) e (List·Memᴰ·tail (List·Memᴰ·tail (List·Memᴰ·tail (List·Memᴰ·tail here)))));
+    }
