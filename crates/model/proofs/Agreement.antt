@@ -1,18 +1,41 @@
--- Laws of agreement: of values that fit, cells that clash, and tuples that agree.
-use mathlib.Core.Path.{_≡_, refl, sym, _∙_, ap}
-use mathlib.Core.Bool.{Bool, true, false, not, _&&_}
-use mathlib.Core.List.{List, List·Memᴰ}
-use Prim.Native.Nat.{ℕ}
+-- Laws of agreement: two tuples agree exactly if no cell of the one, at whatever place, clashes with a cell of the other.
+-- From the definitions alone; the laws of `fit` and `clash` are all that code needs to know of when values fit.
+use mathlib.Core.Path.{_≡_, refl, sym, _∙_, ap, ap₂}
+use mathlib.Core.Bool.{Bool, true, false, not, _&&_, and-false}
+use mathlib.Core.List.{List, [], _∷_, List·Memᴰ}
+use Prim.Native.Nat.{ℕ, zero, suc, _+_, _-_, _≤_, _<_}
+use native.Mathlib.Nat.{le-of-suc-le-suc}
+use native.Mathlib.Omega.{arith}
 use lib.Dec.{eqb}
-use borrow.Author.Tests.{eqb-true, eq-eqb}
+use lib.ListN.{length, getD}
+use borrow.Author.Tests.{eq-eqb, ne-eqb, eqb-true, not-true}
 use Rattle.model.specs.Lists.{all}
-use Rattle.model.specs.Agreement.{fit, Cell, clash, agreeing}
-use Rattle.model.proofs.Lists.{all-intro}
+use Rattle.model.specs.Network.{Network, size, firstId, relationOf, indexOf, scopeOf, valuesAt, tupleOf}
+use Rattle.model.specs.Agreement.{Cell, fit, cells, clash, agreeing, cellsOf, agree}
+use Rattle.model.proofs.Bools.{and-intro, iff-eq}
+use Rattle.model.proofs.Lists.{all-at, all-intro}
+use Rattle.model.proofs.Network.{relationOf-at, indexOf-at}
+
+-- ---- When values fit
+
+pub fit-same : (a b : ℕ) → a ≡ b → fit a b ≡ true
+unfolding fit
+fit-same a b e = eq-eqb a b e
+
+pub fit-different : (a b : ℕ) → (a ≡ b → ⊥) → fit a b ≡ false
+unfolding fit
+fit-different a b d = ne-eqb a b d
+
+pub fit-sym : (a b : ℕ) → fit a b ≡ fit b a
+unfolding fit
+fit-sym a b = iff-eq (eqb a b) (eqb b a) (λ h. eq-eqb b a (sym (eqb-true a b h))) (λ h. eq-eqb a b (sym (eqb-true b a h)))
 
 -- values that fit one value fit each other
 pub fit-common : (u v w : ℕ) → fit u w ≡ true → fit v w ≡ true → fit u v ≡ true
 unfolding fit
 fit-common u v w e f = eq-eqb u v (eqb-true u w e ∙ sym (eqb-true v w f))
+
+-- ---- When cells clash
 
 clash-case : (x y : Cell) (b : Bool) → eqb (x .0) (y .0) ≡ b → (x .0 ≡ y .0 → fit (x .1) (y .1) ≡ true) → (b && not (fit (x .1) (y .1))) ≡ false
 clash-case x y true e f = ap not (f (eqb-true (x .0) (y .0) e))
@@ -23,8 +46,84 @@ pub clash-none : (x y : Cell) → (x .0 ≡ y .0 → fit (x .1) (y .1) ≡ true)
 unfolding clash
 clash-none x y f = clash-case x y (eqb (x .0) (y .0)) refl f
 
+pub clash-other-variable : (x y : Cell) → (x .0 ≡ y .0 → ⊥) → clash x y ≡ false
+clash-other-variable x y d = clash-none x y (λ e. absurd (d e))
+
+pub clash-same-value : (x y : Cell) → x .1 ≡ y .1 → clash x y ≡ false
+clash-same-value x y e = clash-none x y (λ _. fit-same (x .1) (y .1) e)
+
+pub clash-different-value : (x y : Cell) → x .0 ≡ y .0 → (x .1 ≡ y .1 → ⊥) → clash x y ≡ true
+unfolding clash
+clash-different-value x y e d =
+    ap₂ (λ (a b : Bool). a && not b) (eq-eqb (x .0) (y .0) e) (fit-different (x .1) (y .1) d)
+
+pub clash-sym : (x y : Cell) → clash x y ≡ clash y x
+unfolding clash
+clash-sym x y = ap₂ (λ (a b : Bool). a && not b) (eqb-sym (x .0) (y .0)) (fit-sym (x .1) (y .1))
+  where
+    eqb-sym : (a b : ℕ) → eqb a b ≡ eqb b a
+    eqb-sym a b = iff-eq (eqb a b) (eqb b a) (λ h. eq-eqb b a (sym (eqb-true a b h))) (λ h. eq-eqb a b (sym (eqb-true b a h)))
+
+-- ---- Agreement by places
+
+-- the cell at place k of a scope and its values
+abbrev pub cellAt : List ℕ → List ℕ → ℕ → Cell
+cellAt xs vs k = (getD xs k 0, getD vs k 0)
+
+cells-all : (p : Cell → Bool) (xs vs : List ℕ) → ((k : ℕ) → k < length xs → p (cellAt xs vs k) ≡ true) → all p (cells xs vs) ≡ true
+cells-all p [] vs f = refl
+cells-all p (x ∷ xs) [] f = refl
+cells-all p (x ∷ xs) (v ∷ vs) f = and-intro (f 0 (omega arith)) (cells-all p xs vs (λ k h. f (suc k) (omega arith)))
+
+cells-false : (p : Cell → Bool) (xs vs : List ℕ) (k : ℕ) → length xs ≡ length vs → k < length xs → p (cellAt xs vs k) ≡ false → all p (cells xs vs) ≡ false
+cells-false p [] vs k l h e = absurd (omega arith)
+cells-false p (x ∷ xs) [] k l h e = absurd (omega arith)
+cells-false p (x ∷ xs) (v ∷ vs) zero l h e = ap (λ (b : Bool). b && all p (cells xs vs)) e
+cells-false p (x ∷ xs) (v ∷ vs) (suc k) l h e =
+    ap (λ (b : Bool). p (x, v) && b) (cells-false p xs vs k (omega arith) (le-of-suc-le-suc h) e) ∙ and-false (p (x, v))
+
+module _ (xs vs ys ws : List ℕ) where
+  -- no two places clash
+  pub agreeing-places : ((k : ℕ) → k < length xs → (l : ℕ) → l < length ys → clash (cellAt xs vs k) (cellAt ys ws l) ≡ false) → agreeing (cells xs vs) (cells ys ws) ≡ true
+  unfolding agreeing
+  agreeing-places f =
+      cells-all (λ (x : Cell). all (λ (y : Cell). not (clash x y)) (cells ys ws)) xs vs
+      (λ k h. cells-all (λ (y : Cell). not (clash (cellAt xs vs k) y)) ys ws (λ l m. ap not (f k h l m)))
+
+  -- places k and l clash
+  pub agreeing-clash : (k l : ℕ) → length xs ≡ length vs → length ys ≡ length ws → k < length xs → l < length ys → clash (cellAt xs vs k) (cellAt ys ws l) ≡ true → agreeing (cells xs vs) (cells ys ws) ≡ false
+  unfolding agreeing
+  agreeing-clash k l ex ey hk hl e =
+      cells-false (λ (x : Cell). all (λ (y : Cell). not (clash x y)) (cells ys ws)) xs vs k ex hk
+      (cells-false (λ (y : Cell). not (clash (cellAt xs vs k) y)) ys ws l ey hl (ap not e))
+
+-- ---- Agreement of tuples
+
 pub agreeing-intro : (xs ys : List Cell) → ((x y : Cell) → List·Memᴰ x xs → List·Memᴰ y ys → clash x y ≡ false) → agreeing xs ys ≡ true
 unfolding agreeing
 agreeing-intro xs ys f =
     all-intro (λ (x : Cell). all (λ (y : Cell). not (clash x y)) ys) xs
     (λ x mx. all-intro (λ (y : Cell). not (clash x y)) ys (λ y my. ap not (f x y mx my)))
+
+pub agreeing-at : (xs ys : List Cell) {x y : Cell} → agreeing xs ys ≡ true → List·Memᴰ x xs → List·Memᴰ y ys → clash x y ≡ false
+unfolding agreeing
+agreeing-at xs ys {x} {y} e mx my =
+    not-true (clash x y) (all-at (λ (z : Cell). not (clash x z)) ys (all-at (λ (w : Cell). all (λ (z : Cell). not (clash w z)) ys) xs e mx) my)
+
+agreeing-turned : (xs ys : List Cell) → agreeing xs ys ≡ true → agreeing ys xs ≡ true
+agreeing-turned xs ys e = agreeing-intro ys xs (λ y x my mx. clash-sym y x ∙ agreeing-at xs ys e mx my)
+
+pub agree-sym : (N : Network) (g h : ℕ) → agree N g h ≡ agree N h g
+unfolding agree
+agree-sym N g h =
+    iff-eq (agreeing (cellsOf N g) (cellsOf N h)) (agreeing (cellsOf N h) (cellsOf N g))
+    (agreeing-turned (cellsOf N g) (cellsOf N h)) (agreeing-turned (cellsOf N h) (cellsOf N g))
+
+cells-at : (N : Network) (r x : ℕ) → x < size N r → cellsOf N (firstId N r + x) ≡ cells (scopeOf N r) (valuesAt N r x)
+unfolding cellsOf tupleOf
+cells-at N r x h = rw (relationOf-at N r x h, indexOf-at N r x h)
+
+-- by relation and index
+pub agree-at : (N : Network) (r x s y : ℕ) → x < size N r → y < size N s → agree N (firstId N r + x) (firstId N s + y) ≡ agreeing (cells (scopeOf N r) (valuesAt N r x)) (cells (scopeOf N s) (valuesAt N s y))
+unfolding agree
+agree-at N r x s y hx hy = ap₂ agreeing (cells-at N r x hx) (cells-at N s y hy)

@@ -1,49 +1,134 @@
--- Laws of the fault tables: the first fault, and what a request without faults gives.
-use mathlib.Core.Path.{_≡_, refl, sym, _∙_, ap, subst}
-use mathlib.Core.Bool.{Bool, true, false, not, _&&_, _||_, cond, false≢true, true≢false}
+-- Laws of the first fault of a table, and what a network and a request without faults have.
+-- From the definitions alone.
+use mathlib.Core.Path.{_≡_, refl, sym, _∙_, ap}
+use mathlib.Core.Bool.{Bool, true, false, not, _&&_, cond, false≢true, true≢false}
 use mathlib.Core.Option.{Option, none, some}
-use mathlib.Core.List.{List, [], _∷_, _++_, List·Memᴰ, List·Memᴰ·head, List·Memᴰ·tail, List·Memᴰ·cases-cons, List·Memᴰ·not-nil, Memᴰ·append-left, Memᴰ·append-right}
+use mathlib.Core.List.{List, [], _∷_, _++_, map, List·Memᴰ, List·Memᴰ·tail, List·Memᴰ·cases-cons, List·Memᴰ·not-nil, Memᴰ·append-left, Memᴰ·append-right}
 use mathlib.Core.Logic.{⊎-elim}
-use Prim.Native.Nat.{ℕ, _+_, _*_, _≤_, _<_}
+use Prim.Native.Nat.{ℕ, _*_, _≤_, _<_}
 use native.Mathlib.Omega.{arith}
-use lib.Dec.{ltb}
+use lib.Dec.{leb, ltb, eqb}
 use lib.ListN.{length}
-use borrow.Author.Tests.{ltb-true, ltb-false, not-false}
-use Rattle.model.specs.Limits.{wordBits}
-use Rattle.model.specs.Lists.{all, pairwise}
-use Rattle.model.specs.Network.{Network, total}
+use borrow.Author.Tests.{ltb-true, ltb-false, leb-true, eqb-true, not-false}
+use Rattle.model.specs.Limits.{maxRelations, maxWidth, maxTuples, wordBits}
+use Rattle.model.specs.Lists.{from, sum, all, pairwise}
+use Rattle.model.specs.declared.Relation.{Relation}
+use Rattle.model.specs.Network.{Network, total, variablesIn, valuesIn, scopeOf}
 use Rattle.model.specs.Combination.{Combination}
-use Rattle.model.specs.Consistency.{needed}
-use Rattle.model.specs.Request.{Change, Instance, combinationsOf, Request}
-use Rattle.model.specs.Fault.{Fault, firstFault, networkFaults, combinationFaults, wordsFault, supportsFault, changeFaults, properMembers, faultsOn, faults, isNone, accepts}
-use Rattle.model.proofs.Bools.{and-left, and-right, or-false-left}
-use Rattle.model.proofs.Lists.{all-at, here}
+use Rattle.model.specs.Request.{Instance, combinationsOf, Request}
+use Rattle.model.specs.Fault.{Fault, firstFault, refusal, within, properScope, properLengths, networkFaults, combinationFaults, wordsFault, supportsFault, changeFaults, properMembers, faultsOn, faults, isNone, accepts}
+use Rattle.model.proofs.Bools.{and-left, and-right}
+use Rattle.model.proofs.Lists.{here, all-at}
 
--- ---- The first fault
+-- ---- Reading a table in order
 
-none-cases : (b : Bool) (n : ℕ) (o : Option ℕ) → isNone (cond b (some n) o) ≡ true → (b ≡ false) × (isNone o ≡ true)
-none-cases true n o e = absurd (false≢true e)
-none-cases false n o e = (refl, e)
+module _ (f : Fault) (fs : List Fault) where
+  pub fault-here : f .1 ≡ true → firstFault (f ∷ fs) ≡ some (f .0)
+  fault-here e = ap (λ (b : Bool). cond b (some (f .0)) (firstFault fs)) e
 
--- where no fault is found, every test is false
-pub firstFault-none : (fs : List Fault) {f : Fault} → isNone (firstFault fs) ≡ true → List·Memᴰ f fs → f .1 ≡ false
-firstFault-none [] e m = absurd (List·Memᴰ·not-nil m)
-firstFault-none (g ∷ fs) e m =
-    let k = none-cases (g .1) (g .0) (firstFault fs) e in
-    ⊎-elim (λ h. ap (λ (x : Fault). x .1) h ∙ k .0) (λ h. firstFault-none fs (k .1) h) (List·Memᴰ·cases-cons m)
+  pub fault-next : f .1 ≡ false → firstFault (f ∷ fs) ≡ firstFault fs
+  fault-next e = ap (λ (b : Bool). cond b (some (f .0)) (firstFault fs)) e
 
--- and where every test is false, none is found
+some-none : {k : ℕ} → some k ≡ none → ⊥
+some-none {k} e = let z : _≡_ {A = ℕ} 0 1 = cc in omega arith
+
+none-first : (b : Bool) (k : ℕ) (o : Option ℕ) → cond b (some k) o ≡ none → (b ≡ false) × (o ≡ none)
+none-first true k o e = absurd (some-none e)
+none-first false k o e = (refl, e)
+
+-- no fault at all: neither the first test nor a later one finds any
+pub no-fault-here : (f : Fault) (fs : List Fault) → firstFault (f ∷ fs) ≡ none → f .1 ≡ false
+no-fault-here f fs e = none-first (f .1) (f .0) (firstFault fs) e .0
+
+pub no-fault-next : (f : Fault) (fs : List Fault) → firstFault (f ∷ fs) ≡ none → firstFault fs ≡ none
+no-fault-next f fs e = none-first (f .1) (f .0) (firstFault fs) e .1
+
+-- .. and so no test of the table finds any
+pub no-fault-at : (fs : List Fault) → firstFault fs ≡ none → {f : Fault} → List·Memᴰ f fs → f .1 ≡ false
+no-fault-at [] e m = absurd (List·Memᴰ·not-nil m)
+no-fault-at (g ∷ fs) e {f} m =
+    ⊎-elim
+    (λ h. ap (λ (k : Fault). k .1) h ∙ no-fault-here g fs e)
+    (λ h. no-fault-at fs (no-fault-next g fs e) h)
+    (List·Memᴰ·cases-cons m)
+
+-- two tables, one after the other
+pub firstFault-append-none : (fs gs : List Fault) → firstFault fs ≡ none → firstFault (fs ++ gs) ≡ firstFault gs
+firstFault-append-none [] gs e = refl
+firstFault-append-none (f ∷ fs) gs e =
+    fault-next f (fs ++ gs) (no-fault-here f fs e) ∙ firstFault-append-none fs gs (no-fault-next f fs e)
+
+append-some : (b : Bool) (k j : ℕ) (o p : Option ℕ) → (o ≡ some k → p ≡ some k) → cond b (some j) o ≡ some k → cond b (some j) p ≡ some k
+append-some true k j o p f e = e
+append-some false k j o p f e = f e
+
+pub firstFault-append-some : (fs gs : List Fault) (k : ℕ) → firstFault fs ≡ some k → firstFault (fs ++ gs) ≡ some k
+firstFault-append-some [] gs k e = absurd (some-none (sym e))
+firstFault-append-some (f ∷ fs) gs k e =
+    append-some (f .1) k (f .0) (firstFault fs) (firstFault (fs ++ gs)) (firstFault-append-some fs gs k) e
+
+-- where every test is false, none is found
 pub none-firstFault : (fs : List Fault) → ((f : Fault) → List·Memᴰ f fs → f .1 ≡ false) → firstFault fs ≡ none
 none-firstFault [] h = refl
-none-firstFault (g ∷ fs) h =
-    ap (λ (b : Bool). cond b (some (g .0)) (firstFault fs)) (h g here) ∙ none-firstFault fs (λ f m. h f (List·Memᴰ·tail m))
+none-firstFault (g ∷ fs) h = fault-next g fs (h g here) ∙ none-firstFault fs (λ f m. h f (List·Memᴰ·tail m))
 
 -- the first fault is the one before which every test is false
 pub firstFault-some : (before after : List Fault) (n : ℕ) → ((f : Fault) → List·Memᴰ f before → f .1 ≡ false) → firstFault (before ++ ((n, true) ∷ after)) ≡ some n
-firstFault-some [] after n h = refl
-firstFault-some (g ∷ before) after n h =
-    ap (λ (b : Bool). cond b (some (g .0)) (firstFault (before ++ ((n, true) ∷ after)))) (h g here)
-    ∙ firstFault-some before after n (λ f m. h f (List·Memᴰ·tail m))
+firstFault-some before after n h = firstFault-append-none before ((n, true) ∷ after) (none-firstFault before h)
+
+-- ---- The first fault from its refusal number
+
+pub isNone-none : (o : Option ℕ) → isNone o ≡ true → o ≡ none
+isNone-none none e = refl
+isNone-none (some n) e = absurd (false≢true e)
+
+pub isNone-some : (o : Option ℕ) → isNone o ≡ false → (n : ℕ) × (o ≡ some n)
+isNone-some none e = absurd (true≢false e)
+isNone-some (some n) e = (n, refl)
+
+pub refusal-some : (o : Option ℕ) (k : ℕ) → refusal o ≡ k → (k ≡ 0 → ⊥) → o ≡ some k
+refusal-some none k e d = absurd (d (sym e))
+refusal-some (some j) k e d = ap some e
+
+refusal-first : (b : Bool) (k : ℕ) (o : Option ℕ) → ltb 0 k ≡ true → (refusal o ≡ 0 → o ≡ none) → refusal (cond b (some k) o) ≡ 0 → cond b (some k) o ≡ none
+refusal-first true k o h f e = absurd (let l = ltb-true 0 k h in omega arith)
+refusal-first false k o h f e = f e
+
+pub refusal-none : (fs : List Fault) → all (λ (f : Fault). ltb 0 (f .0)) fs ≡ true → refusal (firstFault fs) ≡ 0 → firstFault fs ≡ none
+refusal-none [] h e = refl
+refusal-none (f ∷ fs) h e =
+    refusal-first (f .1) (f .0) (firstFault fs) (and-left (ltb 0 (f .0)) (all (λ (g : Fault). ltb 0 (g .0)) fs) h)
+    (refusal-none fs (and-right (ltb 0 (f .0)) (all (λ (g : Fault). ltb 0 (g .0)) fs) h)) e
+
+-- ---- A network without network faults
+
+pub record Faultless (N : Network) : Type 0 where
+  pub some-relation : 1 ≤ length (N .relations)
+  pub relations : length (N .relations) ≤ maxRelations
+  pub widths : all (λ (R : Relation). within 1 maxWidth (R .width)) (N .relations) ≡ true
+  pub tuples : total N ≤ maxTuples
+  pub variables : length (N .variables) ≡ sum (map variablesIn (N .relations))
+  pub values : length (N .values) ≡ sum (map valuesIn (N .relations))
+  pub scopes : all (λ (r : ℕ). properScope (scopeOf N r)) (from 0 (length (N .relations))) ≡ true
+
+pub faultless : (N : Network) → firstFault (networkFaults N) ≡ none → Faultless N
+faultless N e =
+    let n = length (N .relations) in
+    let variables = eqb (length (N .variables)) (sum (map variablesIn (N .relations))) in
+    let values = eqb (length (N .values)) (sum (map valuesIn (N .relations))) in
+    let count : within 1 maxRelations n ≡ true = not-false _ (no-fault-at (networkFaults N) e here) in
+    let lengths : properLengths N ≡ true =
+    not-false _ (no-fault-at (networkFaults N) e (List·Memᴰ·tail (List·Memᴰ·tail (List·Memᴰ·tail here))))
+    in
+    record {
+      some-relation = leb-true 1 n (and-left (leb 1 n) (leb n maxRelations) count);
+      relations = leb-true n maxRelations (and-right (leb 1 n) (leb n maxRelations) count);
+      widths = not-false _ (no-fault-at (networkFaults N) e (List·Memᴰ·tail here));
+      tuples = ltb-false maxTuples (total N) (no-fault-at (networkFaults N) e (List·Memᴰ·tail (List·Memᴰ·tail here)));
+      variables = eqb-true _ _ (and-left variables values lengths);
+      values = eqb-true _ _ (and-right variables values lengths);
+      scopes = not-false _ (no-fault-at (networkFaults N) e (List·Memᴰ·tail (List·Memᴰ·tail (List·Memᴰ·tail (List·Memᴰ·tail here)))));
+    }
 
 -- ---- A request without faults
 
@@ -56,7 +141,7 @@ module _ (q : Request) (e : accepts q ≡ true) where
 
   absent : {f : Fault} → List·Memᴰ f (faults q) → f .1 ≡ false
   unfolding accepts
-  absent m = firstFault-none (faults q) e m
+  absent m = no-fault-at (faults q) (isNone-none (firstFault (faults q)) e) m
 
   -- its lists' faults stand behind those of the network and the combinations
   lists : {f : Fault} → List·Memᴰ f (wordsFault N (length (q .words)) ∷ supportsFault I (length (q .supports)) ∷ changeFaults N (q .change)) → f .1 ≡ false

@@ -3,13 +3,13 @@ pub mod Bools
 pub mod Lists
 pub mod TupleSet
 pub mod Network
+pub mod Agreement
+pub mod Fault
 pub mod LiveWords
 pub mod Support
 pub mod Consistency
-pub mod Agreement
 pub mod Solution
 pub mod Locality
-pub mod Fault
 pub mod Reply
 pub mod Calls
 pub mod Mission

@@ -1,17 +1,18 @@
--- Laws of ids: a relation's ids are those whose relation it is.
+-- Laws of ids: a relation's ids are those whose relation it is. Laws of where a relation begins in the lists.
 use mathlib.Core.Path.{_≡_, refl, sym, _∙_, ap, subst}
 use mathlib.Core.Bool.{cond}
 use mathlib.Core.List.{List, [], _∷_, map, List·Memᴰ}
-use Prim.Native.Nat.{ℕ, zero, suc, _+_, _-_, _≤_, _<_}
+use Prim.Native.Nat.{ℕ, zero, suc, _+_, _-_, _*_, _≤_, _<_}
+use native.Mathlib.Nat.{le-of-suc-le-suc, mul-le-mul-right, mul-add}
 use native.Mathlib.Omega.{arith}
 use native.Mathlib.Decide.{decLt}
 use borrow.Author.Tests.{lt-ltb, le-ltb}
 use lib.Dec.{ltb}
 use lib.ListN.{length, getD, take}
-use lib.Seq.{take-length}
+use lib.Seq.{take-length, take-all}
 use Rattle.model.specs.declared.Relation.{Relation}
 use Rattle.model.specs.Lists.{sum, from}
-use Rattle.model.specs.Network.{Network, noRelation, size, tuplesIn, before, firstId, total, idsOf, relationAt, relationOf}
+use Rattle.model.specs.Network.{Network, noRelation, width, size, variablesIn, tuplesIn, valuesIn, before, firstId, total, idsOf, relationAt, relationOf, indexOf, scopeOf, valuesAt}
 use Rattle.model.proofs.Lists.{from-mem, mem-from}
 
 sizeAt : List Relation → ℕ → ℕ
@@ -65,3 +66,38 @@ module _ (N : Network) where
   -- where the relations end
   pub before-all : (f : Relation → ℕ) → before f (N .relations) (length (N .relations)) ≡ sum (map f (N .relations))
   before-all f = ap (λ (Rs : List Relation). sum (map f Rs)) (take-length (N .relations))
+
+  -- the tuple at index x of relation r
+  pub relationOf-at : (r x : ℕ) → x < size N r → relationOf N (firstId N r + x) ≡ r
+  relationOf-at r x h = relationOf-ids r (mem-from (firstId N r) (size N r) (firstId N r + x) (omega arith) (omega arith))
+
+  pub indexOf-at : (r x : ℕ) → x < size N r → indexOf N (firstId N r + x) ≡ x
+  unfolding indexOf
+  indexOf-at r x h = rw (relationOf-at r x h) (omega arith)
+
+  -- where the tuple with id g stands
+  pub index-bounds : (g : ℕ) → g < total N → (firstId N (relationOf N g) ≤ g) × (g < firstId N (relationOf N g) + size N (relationOf N g))
+  index-bounds g h = from-mem (firstId N (relationOf N g)) (size N (relationOf N g)) g (ids-relationOf g h .1)
+
+-- ---- Where relations begin
+
+module _ (f : Relation → ℕ) where
+  -- one relation more
+  pub before-suc : (Rs : List Relation) (r : ℕ) → r < length Rs → before f Rs (suc r) ≡ before f Rs r + f (getD Rs r noRelation)
+  before-suc [] r h = absurd (omega arith)
+  before-suc (R ∷ Rs) zero h = omega arith
+  before-suc (R ∷ Rs) (suc r) h = let e = before-suc Rs r (le-of-suc-le-suc h) in omega arith
+
+  -- past the last relation: the total
+  pub before-past : (Rs : List Relation) (r : ℕ) → length Rs ≤ r → before f Rs r ≡ sum (map f Rs)
+  before-past Rs r h = ap (λ (Qs : List Relation). sum (map f Qs)) (take-all r Rs h)
+
+  pub before-le : (Rs : List Relation) (r : ℕ) → before f Rs r ≤ sum (map f Rs)
+  before-le [] zero = omega arith
+  before-le [] (suc r) = omega arith
+  before-le (R ∷ Rs) zero = omega arith
+  before-le (R ∷ Rs) (suc r) = let e = before-le Rs r in omega arith
+
+  -- a relation lies within the total
+  pub before-within : (Rs : List Relation) (r : ℕ) → r < length Rs → before f Rs r + f (getD Rs r noRelation) ≤ sum (map f Rs)
+  before-within Rs r h = let e = before-suc Rs r h in let l = before-le Rs (suc r) in omega arith

@@ -1,6 +1,6 @@
 -- Laws of replies: accepted or refused, the lowest empty relation, what the answer tells, and the sum of its counts.
 use mathlib.Core.Path.{_≡_, refl, sym, _∙_, ap, subst}
-use mathlib.Core.Bool.{Bool, true, false, cond, false≢true, true≢false}
+use mathlib.Core.Bool.{Bool, true, false, cond}
 use mathlib.Core.Option.{Option, none, some}
 use mathlib.Core.Logic.{_⊎_, inl, inr}
 use mathlib.Core.List.{List, [], _∷_, _++_}
@@ -24,19 +24,12 @@ use Rattle.model.specs.Reply.{Numbers, answerNumbers, Reply, isEmptied, 
 use Rattle.model.specs.Promises.{Tells}
 use Rattle.model.proofs.Bools.{not-both}
 use Rattle.model.proofs.Lists.{First, select-from}
+use Rattle.model.proofs.Fault.{isNone-none, isNone-some}
 use Rattle.model.proofs.TupleSet.{without-count, without-length}
 use Rattle.model.proofs.Consistency.{filtered-length, filtered-count}
 use Rattle.model.proofs.LiveWords.{written-written}
 
 -- ---- Accepted or refused
-
-pub isNone-none : (o : Option ℕ) → isNone o ≡ true → o ≡ none
-isNone-none none e = refl
-isNone-none (some n) e = absurd (false≢true e)
-
-pub isNone-some : (o : Option ℕ) → isNone o ≡ false → (n : ℕ) × (o ≡ some n)
-isNone-some none e = absurd (true≢false e)
-isNone-some (some n) e = (n, refl)
 
 pub reply-accepted : (q : Request) → accepts q ≡ true → reply q ≡ accepted q
 unfolding accepts reply

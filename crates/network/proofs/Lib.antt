@@ -1,0 +1,3 @@
+-- The laws of the crate's definitions, and of walks of a list.
+pub mod Walk
+pub mod Relations

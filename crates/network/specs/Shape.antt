@@ -1,0 +1,26 @@
+-- The network whose relation records were taken apart.
+use mathlib.Core.Path.{_≡_}
+use mathlib.Core.Bool.{Bool, true}
+use mathlib.Core.List.{List, map}
+use Prim.Native.Nat.{ℕ, _≤_}
+use lib.ListN.{length, getD}
+use Rattle.model.specs.declared.Relation.{Relation}
+use Rattle.model.specs.Limits.{maxRelations, maxWidth, maxTuples}
+use Rattle.model.specs.Lists.{from, sum, all}
+use Rattle.model.specs.Network.{Network, tuplesIn, before}
+use Rattle.model.specs.Fault.{within}
+use Rattle.network.specs.declared.Shape.{Shape}
+
+-- the record of relation r
+abbrev pub recordAt : Shape → ℕ → Relation
+recordAt S r = record { width = getD (S .widths) r 0; tuples = getD (S .tuples) r 0 }
+
+unfoldable pub relationsOf : Shape → List Relation
+relationsOf S = map (recordAt S) (from 0 (S .count))
+
+abbrev pub networkOf : Shape → List ℕ → List ℕ → Network
+networkOf S variables values = record { relations = relationsOf S; variables = variables; values = values }
+
+-- the width is one of those allowed
+abbrev pub properWidth : Relation → Bool
+properWidth R = within 1 maxWidth (R .width)
