@@ -1,0 +1,580 @@
+"""The self-test of the reference program: examples, boundaries, laws, and what the draws can tell apart."""
+
+import functools
+import itertools
+import random
+import traceback
+from dataclasses import replace
+from typing import Callable, Optional
+from unittest import mock
+
+import book
+import draw
+from book import Book, Combination, Reply, Request, Row
+
+Check = tuple[str, Callable[[], bool]]
+
+TEXT_A = b"3,2,3 2,3 0,1 1,1 1,2 2,2 2,2 1,2 1,5 2,6 2,2 2,0 5,1 6,1 0,1 0,2 1,2 ".replace(b" ", b"\n")
+LISTING_A = b"0,64,6,1 0,0,1,1 0,1,1,2 1,0,1,5 1,1,2,6 2,0,5,1 2,1,6,1 ".replace(b" ", b"\n")
+NOT_IN_FORM = b"2,1,0,0\n"
+
+
+# Examples
+
+
+def book_a() -> Request:
+    return replace(book.read_text(TEXT_A), marks=[0b1111111], supports=[0] * 28)
+
+
+def triangle(m: int, combinations: list[int]) -> Request:
+    rows = [0, 1, 1, 0]
+    return Request(
+        sheets=[(2, 2)] * 3,
+        questions=[0, 1, 1, 2, 2, 0],
+        codes=rows * 3,
+        m=m,
+        combinations=combinations,
+        marks=[0b111111],
+        supports=[0] * 24,
+    )
+
+
+def after(request: Request) -> Request:
+    _, marks, supports = book.reply(request)
+    return replace(request, marks=marks, supports=supports)
+
+
+def withdraw(request: Request, *rows: int) -> Request:
+    return replace(request, call="withdraw", rows=list(rows))
+
+
+def p1() -> bool:
+    answer, marks, _ = book.reply(book_a())
+    return answer == (0, 64, 6, 0, 1) and marks == [0b1111011]
+
+
+def p2() -> bool:
+    return book.reply(book_a())[2][8:10] == [1, 1]
+
+
+def p3() -> bool:
+    answer, marks, _ = book.reply(withdraw(after(book_a()), 5))
+    return answer == (0, 64, 3, 1, 2) and marks == [0b1010010]
+
+
+def p4() -> bool:
+    answer, marks, supports = book.reply(withdraw(after(withdraw(after(book_a()), 5)), 6))
+    return answer == (1, 0, 0, 1, 2) and marks == [0] and supports == [65535] * 28
+
+
+def p5() -> bool:
+    answer, marks, _ = book.reply(withdraw(book_a(), 5))
+    return answer == (0, 64, 3, 1, 3) and marks == [0b1010010]
+
+
+def p6() -> bool:
+    answer, marks, _ = book.reply(triangle(2, [0, 1, 0, 2, 1, 2]))
+    return answer == (0, 64, 6, 0, 0) and marks == [0b111111]
+
+
+def p7() -> bool:
+    answer, marks, _ = book.reply(triangle(3, [0, 1, 2]))
+    return answer == (1, 0, 0, 0, 6) and marks == [0]
+
+
+def p8() -> bool:
+    request = Request(sheets=[(1, 1), (1, 0)], questions=[0, 0], codes=[0], marks=[1])
+    return book.reply(request) == ((1, 1, 1, 0, 0), [1], [])
+
+
+def p9() -> bool:
+    answer, marks, _ = book.reply(replace(book_a(), call="choose", question=2, code=6))
+    return answer == (0, 64, 3, 2, 2) and marks == [0b1010010]
+
+
+def input_a() -> bool:
+    return book.listing(TEXT_A) == LISTING_A
+
+
+def test_and_compare() -> bool:
+    fresh = replace(book_a(), call="test")
+    filtered = replace(after(book_a()), call="test")
+    answers = [book.reply(request)[0] for request in (fresh, filtered)]
+    for rows in ([0, 3], [3, 0], [0, 4], [2, 2], [0, 1]):
+        answers.append(book.reply(replace(book_a(), call="compare", rows=rows))[0])
+    return answers == [(0, 0), (1, 0), (1, 0), (1, 0), (0, 0), (1, 0), (0, 0)]
+
+
+def spare_and_missing_words() -> bool:
+    """Spare bits, spare words and spare supports stay; a mark word too few is refused."""
+    lent = replace(book_a(), marks=[2**64 - 1, 5], supports=[7] * 30)
+    _, marks, supports = book.reply(lent)
+    kept = marks == [2**64 - 1 - 0b100, 5] and supports[28:] == [7, 7]
+    return kept and book.reply(replace(lent, marks=[])) == ((2, 11, 0, 0, 0), [], [7] * 30)
+
+
+# Boundaries
+
+
+def edge_holds(number: int) -> bool:
+    edge = draw.EDGES[number]
+    for call in draw.CALLS:
+        inside = draw.lend(random.Random(1), edge.network(edge.last_accepted), call)
+        outside = draw.lend(random.Random(1), edge.network(edge.first_refused), call)
+        refused = number if number in book.FAULTS_USED[call] else 0
+        if book.first_fault(inside) != 0 or book.first_fault(outside) != refused:
+            return False
+    return True
+
+
+def choice_edge() -> bool:
+    asked = [replace(book_a(), call="choose", question=question) for question in (63, 64)]
+    return [book.first_fault(request) for request in asked] == [0, 14]
+
+
+def book_number_edge() -> bool:
+    asked = [withdraw(book_a(), g) for g in (6, 7)]
+    asked += [replace(book_a(), call="compare", rows=rows) for rows in ([6, 0], [0, 7], [7, 0])]
+    return [book.first_fault(request) for request in asked] == [0, 13, 0, 13, 13]
+
+
+def faults_not_used() -> bool:
+    """What a call does not use is no reason to refuse it."""
+    bare = replace(book_a(), rows=[0, 1], m=5, combinations=[9], marks=[], supports=[])
+    asked = [
+        replace(book_a(), call="filter", rows=[7], question=64),
+        replace(book_a(), call="withdraw", question=64),
+        replace(book_a(), call="choose", rows=[7]),
+        replace(book_a(), call="test", supports=[], rows=[7], question=64),
+        replace(bare, call="compare", question=64),
+    ]
+    return all(book.first_fault(request) == 0 for request in asked)
+
+
+def list_edges() -> bool:
+    """Every list one entry short or long."""
+    fresh = book_a()
+    lent = [
+        (5, replace(fresh, questions=fresh.questions + [3])),
+        (5, replace(fresh, questions=fresh.questions[:-1])),
+        (5, replace(fresh, codes=fresh.codes + [3])),
+        (5, replace(fresh, codes=fresh.codes[:-1])),
+        (8, replace(fresh, combinations=fresh.combinations + [0])),
+        (8, replace(fresh, combinations=fresh.combinations[:-1])),
+        (12, replace(fresh, supports=fresh.supports[:-1])),
+        (0, replace(fresh, supports=fresh.supports + [0])),
+        (0, replace(fresh, combinations=[], supports=[])),
+    ]
+    return all(book.first_fault(request) == number for number, request in lent)
+
+
+def whole_supports() -> bool:
+    """Where 32,768 numbers are needed, all are written."""
+    request = draw.lend(random.Random(1), draw.edge_supports(64), "filter")
+    request.marks = [2**64 - 1]
+    answer, _, supports = book.reply(request)
+    return answer == (0, 64, 64, 0, 0) and max(supports[:32768]) == 31
+
+
+def text_edges() -> bool:
+    """65,536 bytes, 4,096 rows, and number 12 where a text needs more than 32,768 supports."""
+    sizes = [book.listing(draw.text_of_length(length))[:5] for length in (65536, 65537)]
+    rows = [book.listing(draw.text_of_rows(total))[:5] for total in (4096, 4097)]
+    needs = [draw.write_text(draw.write_network(draw.edge_supports(total), "filter")) for total in (64, 65)]
+    refusals = [book.listing(text)[:5] for text in needs]
+    return sizes + rows + refusals == [b"0,64,", b"2,1,0", b"0,64,", b"2,1,0", b"0,64,", b"2,12,"]
+
+
+def texts_not_in_form() -> bool:
+    changed = [b"", b"\n", TEXT_A[:-1], TEXT_A + b"\n", b"\n" + TEXT_A, TEXT_A + b"0\n"]
+    changed += [TEXT_A.replace(b"\n", b"\r\n"), TEXT_A.replace(b",", b", "), TEXT_A.replace(b",", b";")]
+    for field in (b"01", b"00", b"", b"-0", b"+1", b" 1", b"1 ", b"65536", b"1" * 5000, b"\xb2", b"1_0"):
+        changed.append(TEXT_A.replace(b"1,5\n", b"1," + field + b"\n"))
+    for line in b"0,2,0 65,2,3 3,1,3 3,5,3 3,2,257 3,2,2 3,2,4 2,2,3 3,2 3,2,3,0".split():
+        changed.append(TEXT_A.replace(b"3,2,3", line, 1))
+    for line in b"0,3 9,3 3,3 2,2 2,4 2,4093".split():
+        changed.append(TEXT_A.replace(b"2,3\n", line + b"\n", 1))
+    return all(book.listing(text) == NOT_IN_FORM for text in changed)
+
+
+def texts_refused() -> bool:
+    questions = [book.listing(TEXT_A.replace(b"2,0\n", line, 1)) for line in (b"2,64\n", b"2,2\n")]
+    combinations = [book.listing(TEXT_A[:-4] + line) for line in (b"1,3\n", b"2,1\n", b"1,1\n")]
+    apart = book.listing(TEXT_A.replace(b"2,0\n", b"3,4\n", 1))
+    return questions + combinations + [apart] == [b"2,6,0,0\n"] * 2 + [b"2,9,0,0\n"] * 3 + [b"2,10,0,0\n"]
+
+
+# Laws that every draw keeps
+
+
+@functools.lru_cache(maxsize=None)
+def sample(size: str, count: int) -> list[tuple[Request, Reply]]:
+    return [(request, book.reply(request)) for request in draw.requests(1, count, draw.CALLS, size)]
+
+
+def changes_accepted(size: str, count: int) -> list[tuple[Request, Reply]]:
+    asked = [pair for pair in sample(size, count) if pair[0].call in draw.CHANGES]
+    return [(request, reply) for request, reply in asked if reply[0][0] != book.REFUSED]
+
+
+def counts_add_up() -> bool:
+    for request, (answer, marks, _) in changes_accepted("small", 600) + changes_accepted("wide", 60):
+        whole = book.read_book(request)
+        living = len(book.living_rows(whole, request.marks))
+        if sum(answer[2:]) != living or answer[2] != len(book.living_rows(whole, marks)):
+            return False
+    return True
+
+
+def filtering_repeats() -> bool:
+    """A filter after a change call changes nothing, writes the same supports, and its marks test settled."""
+    for request, (answer, marks, supports) in changes_accepted("small", 600) + changes_accepted("wide", 60):
+        again = replace(request, call="filter", marks=marks, supports=supports)
+        same = book.reply(again) == (answer[:3] + (0, 0), marks, supports)
+        if not same or book.reply(replace(again, call="test"))[0] != (1, 0):
+            return False
+    return True
+
+
+def spare_stays() -> bool:
+    for request, (_, marks, supports) in changes_accepted("small", 600) + changes_accepted("wide", 60):
+        words, bits = divmod(book.row_total(request), 64)
+        needed = book.supports_needed(request)
+        lent, left = request.marks[words:], marks[words:]
+        spare_bits = [word >> bits for word in lent[:1]] == [word >> bits for word in left[:1]]
+        if not spare_bits or lent[1:] != left[1:] or request.supports[needed:] != supports[needed:]:
+            return False
+    return True
+
+
+def refusals_change_nothing() -> bool:
+    refused = [pair for pair in sample("damaged", 600) if pair[1][0][0] == book.REFUSED]
+    unchanged = [reply[1:] == (request.marks, request.supports) for request, reply in refused]
+    return len(refused) == 600 and all(unchanged)
+
+
+def largest_by_all_subsets() -> bool:
+    """The rows kept are the union of all settled subsets."""
+    seen = 0
+    for request, (_, marks, _) in changes_accepted("small", 600):
+        whole, combinations = book.read_book(request), book.read_combinations(request)
+        rest = sorted(book.living_rows(whole, request.marks) - book.struck_rows(whole, request))
+        if len(rest) > 8 or not combinations:
+            continue
+        seen += 1
+        subsets = (set(some) for size in range(len(rest) + 1) for some in itertools.combinations(rest, size))
+        largest = set().union(*(some for some in subsets if book.settled(whole, combinations, some)))
+        if largest != book.living_rows(whole, marks):
+            return False
+    return seen > 50
+
+
+def complete_orders(whole: Book, living: set[int]) -> set[frozenset[tuple[int, int]]]:
+    orders = set()
+    for rows in itertools.product(*([whole.rows[g] for g in sheet if g in living] for sheet in whole.sheets)):
+        if all(book.agree(one, other) for one, other in itertools.combinations(rows, 2)):
+            orders.add(frozenset(pair for row in rows for pair in row.items()))
+    return orders
+
+
+def no_order_lost() -> bool:
+    found = 0
+    for request, (answer, marks, _) in changes_accepted("small", 600):
+        whole = book.read_book(request)
+        rest = book.living_rows(whole, request.marks) - book.struck_rows(whole, request)
+        orders = complete_orders(whole, rest)
+        found += len(orders)
+        if orders != complete_orders(whole, book.living_rows(whole, marks)) or (answer[0] == book.EMPTIED and orders):
+            return False
+    return found > 50
+
+
+def joined_by_spreading(members: list[list[int]]) -> bool:
+    reached = {0}
+    for _ in members:
+        questions = {question for place in reached for question in members[place]}
+        reached |= {place for place, asked in enumerate(members) if questions & set(asked)}
+    return len(reached) == len(members)
+
+
+def connected_by_spreading() -> bool:
+    seen = set()
+    for request, _ in sample("small", 600):
+        asked = book.read_questions(request)
+        for members in itertools.combinations(asked, request.m):
+            seen.add(book.connected(list(members)))
+            if book.connected(list(members)) != joined_by_spreading(list(members)):
+                return False
+    return seen == {False, True}
+
+
+def listing_as_filter() -> bool:
+    """The listing of a network says what a filter of all its rows says."""
+    for request, _ in sample("small", 600):
+        living = replace(request, call="filter", marks=[2**64 - 1])
+        kind, sheet, left, _, deleted = book.reply(living)[0]
+        lines = book.listing(draw.write_text(living)).splitlines()
+        if lines[0] != b"%d,%d,%d,%d" % (kind, sheet, left, deleted) or len(lines) != 1 + left:
+            return False
+    return True
+
+
+# The strike rule
+
+
+@functools.lru_cache(maxsize=None)
+def drawn_lists() -> list[tuple[Request, list[Request]]]:
+    return draw.lists_of_calls(1, 400)
+
+
+def list_agrees(shared: Request, calls: list[Request]) -> bool:
+    whole, combinations = book.read_book(shared), book.read_combinations(shared)
+    expected = book.strike_rule(whole, combinations, shared.marks, calls)
+    done = book.in_turn(shared.marks, calls)
+    accepted = [place for place, (_, reply) in enumerate(done) if reply[0][0] != book.REFUSED]
+    unchanged = [reply[1:] == (call.marks, call.supports) for call, reply in done if reply[0][0] == book.REFUSED]
+    if not accepted:
+        return expected == (shared.marks, None, None, None, None) and all(unchanged)
+    answer, marks, supports = done[accepted[-1]][1]
+    gone = sum(sum(done[place][1][0][3:]) for place in accepted)
+    starting = len(book.living_rows(whole, shared.marks))
+    left = (marks, accepted[-1], supports, answer[:3], gone)
+    return left == expected and starting == answer[2] + gone and all(unchanged)
+
+
+def lists_agree() -> bool:
+    return all(list_agrees(shared, calls) for shared, calls in drawn_lists())
+
+
+def lists_are_varied() -> bool:
+    """Lists with no accepted call, with other lists lent, with struck dead rows, ending settled and emptied."""
+    seen = set()
+    for shared, calls in drawn_lists():
+        done = book.in_turn(shared.marks, calls)
+        kinds = [reply[0][0] for _, reply in done]
+        accepted = [kind for kind in kinds if kind != book.REFUSED]
+        seen.add(("last", accepted[-1] if accepted else None))
+        seen.add(("other book", any(call.sheets != shared.sheets for call in calls)))
+        seen.add(("other marks", any(call.marks != shared.marks for call in calls)))
+        seen.add(("refused first", kinds[0] == book.REFUSED and bool(accepted)))
+        seen.add(("refused last", kinds[-1] == book.REFUSED and bool(accepted)))
+    wanted = {("last", kind) for kind in (book.SETTLED, book.EMPTIED, None)}
+    wanted |= {(name, True) for name in ("other book", "other marks", "refused first", "refused last")}
+    return wanted <= seen
+
+
+def sheets_in_reach(combinations: list[Combination], sheets: set[int]) -> set[int]:
+    for _ in combinations:
+        touched = [set(combination) for combination in combinations if sheets & set(combination)]
+        sheets = sheets.union(*touched)
+    return sheets
+
+
+def sheets_out_of_reach_keep_rows() -> bool:
+    """From settled marks, a sheet that no chain joins to a struck starting row keeps exactly its rows."""
+    kept_sheets = 0
+    for shared, calls in drawn_lists():
+        whole, combinations = book.read_book(shared), book.read_combinations(shared)
+        starting = book.living_rows(whole, shared.marks)
+        if not book.settled(whole, combinations, starting):
+            continue
+        accepted = [call for call in calls if not book.first_fault(call)]
+        struck = starting & set().union(*(book.struck_rows(whole, call) for call in accepted))
+        holding = {sheet for sheet, rows in enumerate(whole.sheets) if struck & set(rows)}
+        left = book.living_rows(whole, book.strike_rule(whole, combinations, shared.marks, calls).marks)
+        for sheet in set(range(len(whole.sheets))) - sheets_in_reach(combinations, holding):
+            kept_sheets += bool(struck)
+            if starting & set(whole.sheets[sheet]) != left & set(whole.sheets[sheet]):
+                return False
+    return kept_sheets > 50
+
+
+# What the draws hold
+
+
+def fault_alone(number: int) -> bool:
+    """Every call that uses the number gives it where that one fault is drawn."""
+    rng = random.Random(number)
+    calls = [call for call in draw.CALLS if number in book.FAULTS_USED[call]]
+    return all(book.first_fault(draw.request_with_faults(rng, call, [number])) == number for call in calls * 8)
+
+
+def first_of_several() -> bool:
+    rng = random.Random(1)
+    for call in draw.CALLS * 40:
+        numbers = rng.sample(book.FAULTS_USED[call], 3)
+        if book.first_fault(draw.request_with_faults(rng, call, numbers)) != min(numbers):
+            return False
+    return True
+
+
+def refusals_occur() -> bool:
+    drawn = {reply[0][1] for _, reply in sample("damaged", 600)}
+    listed = [book.listing(text) for text in draw.texts(1, 300)]
+    in_texts = {int(output.split(b",")[1]) for output in listed if output.startswith(b"2,")}
+    return drawn == set(range(2, 15)) and in_texts == {1, 6, 9, 10, 12}
+
+
+def answers_occur() -> bool:
+    """Settled and emptied, each with and without withdrawn and deleted rows; yes and no."""
+    changed = {(answer[0], answer[3] > 0, answer[4] > 0) for _, (answer, _, _) in changes_accepted("small", 600)}
+    asked = {(request.call, reply[0]) for request, reply in sample("small", 600) if request.call not in draw.CHANGES}
+    both = {(call, (answer, 0)) for call in ("test", "compare") for answer in (0, 1)}
+    return changed == set(itertools.product((0, 1), (False, True), (False, True))) and both <= asked
+
+
+def shapes_occur() -> bool:
+    """Every m, equal rows, empty sheets, repeated combinations, sheets in none, several mark words."""
+    seen = set()
+    for request, _ in sample("small", 600) + sample("wide", 60):
+        combinations = [tuple(combination) for combination in book.read_combinations(request)]
+        whole = book.read_book(request)
+        sheets = [[tuple(whole.rows[g].values()) for g in rows] for rows in whole.sheets]
+        seen.add(("m", request.m if combinations else 0))
+        seen.add(("equal rows", any(len(set(rows)) < len(rows) for rows in sheets)))
+        seen.add(("empty sheet", [] in sheets))
+        seen.add(("repeat", len(set(combinations)) < len(combinations)))
+        seen.add(("alone", bool(combinations) and len(set(request.combinations)) < len(sheets)))
+        seen.add(("words", min(-(-len(whole.rows) // 64), 3)))
+    wanted = {(name, True) for name in ("equal rows", "empty sheet", "repeat", "alone")}
+    return seen >= wanted | {("m", m) for m in (0, 2, 3, 4)} | {("words", count) for count in (1, 2, 3)}
+
+
+def same_seed_same_draws() -> bool:
+    requests = [draw.requests(7, 50, draw.CALLS, "mixed") for _ in range(2)]
+    lists = [draw.lists_of_calls(7, 20) for _ in range(2)]
+    texts = [draw.texts(7, 50) for _ in range(2)]
+    return all(first == second for first, second in (requests, lists, texts))
+
+
+# Wrong variants, each put in the place of one function
+
+all_supported = book.supported
+
+
+def support_by_seeker_only(
+    whole: Book, combination: Combination, living: set[int], seeker: int
+) -> Optional[tuple[int, ...]]:
+    chosen = []
+    for sheet in combination:
+        candidates = [g for g in whole.sheets[sheet] if g in living and book.agree(whole.rows[g], whole.rows[seeker])]
+        own = seeker in whole.sheets[sheet]
+        if not own and not candidates:
+            return None
+        chosen.append(seeker if own else candidates[0])
+    return tuple(chosen)
+
+
+def supported_from_sheet_one(whole: Book, combinations: list[Combination], living: set[int], g: int) -> bool:
+    return g in whole.sheets[0] or all_supported(whole, combinations, living, g)
+
+
+def supported_from_member_one(whole: Book, combinations: list[Combination], living: set[int], g: int) -> bool:
+    return all_supported(whole, [c for c in combinations if g not in whole.sheets[c[0]]], living, g)
+
+
+def supported_from_row_one(whole: Book, combinations: list[Combination], living: set[int], g: int) -> bool:
+    return g in [rows[0] for rows in whole.sheets if rows] or all_supported(whole, combinations, living, g)
+
+
+def verdict_from_sheet_one(whole: Book, living: set[int]) -> tuple[int, int]:
+    for sheet, rows in list(enumerate(whole.sheets))[1:]:
+        if not living & set(rows):
+            return book.EMPTIED, sheet
+    return book.SETTLED, book.NO_SHEET
+
+
+def agree_by_place(one: Row, other: Row) -> bool:
+    places = zip(one.items(), other.items())
+    return not any(q == r and code != other_code for (q, code), (r, other_code) in places)
+
+
+def agree_in_codes_by_place(one: Row, other: Row) -> bool:
+    places = zip(one.items(), other.values())
+    return all(code == other_code for (question, code), other_code in places if question in other)
+
+
+def agree_from_column_one(one: Row, other: Row) -> bool:
+    return all(other[question] == code for question, code in list(one.items())[1:] if question in other)
+
+
+def filtered_to_first_empty(whole: Book, combinations: list[Combination], living: set[int]) -> set[int]:
+    while book.verdict(whole, living)[0] == book.SETTLED:
+        kept = {g for g in living if book.supported(whole, combinations, living, g)}
+        if kept == living:
+            break
+        living = kept
+    return living
+
+
+def filtered_by_shrunk_sheets(whole: Book, combinations: list[Combination], living: set[int]) -> set[int]:
+    """Visits again only the sheets that shrank."""
+    waiting = list(whole.sheets)
+    while waiting:
+        visited = {g for rows in waiting for g in rows if g in living}
+        fallen = {g for g in visited if not book.supported(whole, combinations, living, g)}
+        living = living - fallen
+        waiting = [rows for rows in whole.sheets if fallen & set(rows)]
+    return living
+
+
+def filtered_once(whole: Book, combinations: list[Combination], living: set[int]) -> set[int]:
+    return {g for g in living if book.supported(whole, combinations, living, g)}
+
+
+VARIANTS: list[tuple[str, Callable]] = [
+    ("first_support", support_by_seeker_only),
+    ("supported", supported_from_sheet_one),
+    ("supported", supported_from_member_one),
+    ("supported", supported_from_row_one),
+    ("verdict", verdict_from_sheet_one),
+    ("agree", agree_by_place),
+    ("agree", agree_in_codes_by_place),
+    ("agree", agree_from_column_one),
+    ("filtered", filtered_to_first_empty),
+    ("filtered", filtered_by_shrunk_sheets),
+    ("filtered", filtered_once),
+]
+
+
+def told_apart(place: str, variant: Callable) -> bool:
+    """Whether some drawn requests get another answer or other marks; supports are left out."""
+    drawn = sample("small", 600)
+    with mock.patch.object(book, place, variant), mock.patch.object(book, "supports_after"):
+        differing = [book.reply(request)[:2] != reply[:2] for request, reply in drawn]
+    return sum(differing) >= 3
+
+
+# The whole check
+
+
+def checks() -> list[Check]:
+    plain = [p1, p2, p3, p4, p5, p6, p7, p8, p9, input_a, test_and_compare, spare_and_missing_words]
+    plain += [choice_edge, book_number_edge, faults_not_used, list_edges, whole_supports]
+    plain += [text_edges, texts_not_in_form, texts_refused]
+    plain += [counts_add_up, filtering_repeats, spare_stays, refusals_change_nothing, largest_by_all_subsets]
+    plain += [no_order_lost, connected_by_spreading, listing_as_filter]
+    plain += [lists_agree, lists_are_varied, sheets_out_of_reach_keep_rows]
+    plain += [first_of_several, refusals_occur, answers_occur, shapes_occur, same_seed_same_draws]
+    named = [(function.__name__, function) for function in plain]
+    named += [(f"edge of {number}", functools.partial(edge_holds, number)) for number in draw.EDGES]
+    named += [(f"fault {number} alone", functools.partial(fault_alone, number)) for number in book.FAULT_TESTS]
+    return named + [(variant.__name__, functools.partial(told_apart, place, variant)) for place, variant in VARIANTS]
+
+
+def passes(name: str, check: Callable[[], bool]) -> bool:
+    try:
+        passed = check()
+    except Exception:
+        traceback.print_exc()
+        passed = False
+    if not passed:
+        print(f"failed: {name}")
+    return passed
+
+
+def run() -> int:
+    """Runs every check, names those that fail, and gives their number."""
+    results = [passes(name, check) for name, check in checks()]
+    print(f"{results.count(True)} passed, {results.count(False)} failed")
+    return results.count(False)

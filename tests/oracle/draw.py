@@ -1,0 +1,655 @@
+"""Draws requests, lists of calls and desk texts from one random.Random, the same on every machine."""
+
+import itertools
+import math
+import random
+from dataclasses import replace
+from typing import Callable, NamedTuple
+
+import book
+from book import Request, Row
+
+Page = tuple[list[int], list[list[int]]]  # a sheet: its questions and its rows
+
+CALLS = ["filter", "withdraw", "choose", "test", "compare"]
+CHANGES = ["filter", "withdraw", "choose"]
+EDGE_QUESTIONS = (0, 1, 2, 31, 32, 62, 63)
+ALPHABETS = ((0, 1), (0, 1), (0, 1, 2), (0, 65535), (1, 256, 257))
+LIKELY_BYTES = b"0123456789,,\n\n\r -+.\t\0\x0b\xff\xb2"
+LIKELY_FIELDS = b"0 1 5 9 63 64 65 256 257 4096 4097 65535 65536 99999".split()
+BAD_QUESTIONS = (64, 65, 127, 128, 256, 319, 65535)
+
+
+class Network(NamedTuple):
+    pages: list[Page]
+    m: int
+    combinations: list[list[int]]
+
+
+def chance(rng: random.Random, percent: int) -> bool:
+    return rng.randrange(100) < percent
+
+
+# Networks
+
+
+def draw_rows(
+    rng: random.Random, questions: list[int], codes: list[int], orders: list[Row], count: int
+) -> list[list[int]]:
+    """Rows of the given complete orders among random ones and repeats."""
+    rows: list[list[int]] = []
+    for _ in range(count):
+        if rows and chance(rng, 15):
+            rows.append(list(rng.choice(rows)))
+        elif chance(rng, 60):
+            order = rng.choice(orders)
+            rows.append([order[question] for question in questions])
+        else:
+            rows.append([rng.choice(codes) for _ in questions])
+    return rows
+
+
+def draw_combinations(rng: random.Random, pages: list[Page], m: int, count: int, most: int) -> list[list[int]]:
+    """Connected combinations with at most so many choices of one row from each member."""
+    fitting = []
+    for members in itertools.combinations(range(len(pages)), m):
+        few = math.prod(len(pages[sheet][1]) for sheet in members) <= most
+        if few and book.connected([pages[sheet][0] for sheet in members]):
+            fitting.append(list(members))
+    return [list(rng.choice(fitting)) for _ in range(count)] if fitting else []
+
+
+def draw_pages(
+    rng: random.Random, pool: list[int], codes: list[int], widths: list[int], counts: list[int]
+) -> list[Page]:
+    orders = [{question: rng.choice(codes) for question in pool} for _ in range(1 + len(codes) // 2)]
+    pages = []
+    for count in counts:
+        questions = rng.sample(pool, min(rng.choice(widths), len(pool)))
+        pages.append((questions, draw_rows(rng, questions, codes, orders, count)))
+    return pages
+
+
+def ring_network(rng: random.Random) -> Network:
+    """Sheets that pair off the codes of neighbouring questions in a ring: they fit in pairs, but not all together."""
+    m = rng.choice((2, 3, 3, 3, 3, 4))
+    pool = rng.sample(EDGE_QUESTIONS, rng.choice((3, max(m, 3))))
+    codes = rng.sample((0, 1, 257, 65535), rng.choice((2, 3, 3)))
+    pages = []
+    for place, question in enumerate(pool):
+        rows = [list(pair) for pair in zip(codes, rng.sample(codes, len(codes)))]
+        rows += [[rng.choice(codes), rng.choice(codes)] for _ in range(rng.choice((0, 0, 0, 1)))]
+        rng.shuffle(rows)
+        questions = [question, pool[place - 1]]
+        pages.append((questions, rows) if chance(rng, 50) else (questions[::-1], [row[::-1] for row in rows]))
+    pages += draw_pages(rng, pool, codes, [1, 2], [rng.randint(1, 3) for _ in range(rng.choice((0, 0, 0, 1, 2)))])
+    rng.shuffle(pages)
+    return Network(pages, m, draw_combinations(rng, pages, m, rng.choice((1, 2, 3, 4)), 10000))
+
+
+def small_network(rng: random.Random) -> Network:
+    if chance(rng, 30):
+        return ring_network(rng)
+    m = rng.choice((2, 2, 3, 3, 4))
+    sheets = rng.randint(m, 6) if chance(rng, 90) else rng.randint(1, 3)
+    most = max(3, 12 // sheets)
+    counts = [0 if chance(rng, 2) else rng.randint(1, most) for _ in range(sheets)]
+    size, widest = (8, 8) if chance(rng, 10) else (rng.choice((2, 3, 3, 4, 5)), 3)
+    widths = list(range(1, widest + 1))
+    pool = rng.sample(range(64), size) if size == 8 or chance(rng, 50) else rng.sample(EDGE_QUESTIONS, size)
+    pages = draw_pages(rng, pool, list(rng.choice(ALPHABETS)), widths, counts)
+    return Network(pages, m, draw_combinations(rng, pages, m, rng.choice((0, 1, 2, 3, 4, 6)), 10000))
+
+
+def wide_counts(rng: random.Random) -> list[int]:
+    """Row counts of 4 to 9 sheets, some of them large, with 64 to 300 rows in all."""
+    total = rng.choice((64, 65, 127, 128, 129, 192)) if chance(rng, 30) else rng.randint(65, 300)
+    cuts = sorted(rng.sample(range(1, total), rng.randint(3, 8)))
+    return [high - low for low, high in zip([0] + cuts, cuts + [total])]
+
+
+def wide_network(rng: random.Random) -> Network:
+    """Pairs of sheets of any size, or larger combinations of middling ones; the marks mostly take several words."""
+    m = rng.choice((2, 2, 3, 4))
+    codes = list(range(rng.choice((2, 4, 8))))
+    counts = wide_counts(rng) if m == 2 else [rng.randint(6, 14) for _ in range(rng.randint(8, 14))]
+    pool = rng.sample(range(64), 4 if m == 2 else 3)
+    pages = draw_pages(rng, pool, codes, [1, 2, 3] if m == 2 else [2], counts)
+    return Network(pages, m, draw_combinations(rng, pages, m, rng.choice((1, 2, 3, 4, 6)), 5000))
+
+
+def loose_network(rng: random.Random) -> Network:
+    """A small network behind a sheet of many rows that stands in no combination: several mark words, little work."""
+    pages, m, combinations = small_network(rng)
+    questions = rng.sample(range(64), rng.choice((1, 2)))
+    rows = [[rng.randrange(2) for _ in questions] for _ in range(rng.choice((61, 64, 65, 127, 128)))]
+    return Network([(questions, rows)] + pages, m, [[sheet + 1 for sheet in members] for members in combinations])
+
+
+# Lending a network to a call
+
+
+def numbers_needed(request: Request) -> int:
+    """Length of the support list; sheets that are missing count as empty."""
+    present = [sheet for sheet in request.combinations if sheet < len(request.sheets)]
+    return sum(request.sheets[sheet][1] for sheet in present) * request.m
+
+
+def garbage(rng: random.Random, needed: int) -> list[int]:
+    length = needed + rng.choice((0, 0, 1, 5))
+    if needed > book.MOST_SUPPORTS and chance(rng, 50):
+        length = rng.randrange(10)
+    return [rng.randrange(65536) for _ in range(length)] if needed <= 2000 else [rng.randrange(10)] * length
+
+
+def write_network(network: Network, call: str) -> Request:
+    pages = network.pages
+    return Request(
+        call=call,
+        sheets=[(len(questions), len(rows)) for questions, rows in pages],
+        questions=[question for questions, _ in pages for question in questions],
+        codes=[code for _, rows in pages for row in rows for code in row],
+        m=network.m,
+        combinations=[sheet for combination in network.combinations for sheet in combination],
+    )
+
+
+def lend_marks(rng: random.Random, request: Request) -> None:
+    """All, most or half of the rows living; spare bits and spare words at random."""
+    living_percent = rng.choice((100, 100, 100, 85, 50))
+    total = book.row_total(request)
+    request.marks = [rng.getrandbits(64) for _ in range(-(-total // 64) + rng.choice((0, 0, 1, 2)))]
+    for g in range(total):
+        if chance(rng, living_percent):
+            request.marks[g // 64] |= 1 << (g % 64)
+        else:
+            request.marks[g // 64] &= ~(1 << (g % 64))
+
+
+def settle_marks(request: Request) -> None:
+    whole = book.read_book(request)
+    kept = book.filtered(whole, book.read_combinations(request), book.living_rows(whole, request.marks))
+    request.marks = book.marks_after(whole, request.marks, kept)
+
+
+def give_arguments(rng: random.Random, request: Request) -> None:
+    total = book.row_total(request)
+    if request.call == "withdraw" and total:
+        request.rows = [rng.randrange(total) for _ in range(rng.choice((0, 1, 1, 1, 2, 4)))]
+    if request.call == "compare":
+        request.rows = [rng.randrange(max(total, 1)) for _ in range(2)]
+    if request.call == "choose":
+        asked = request.questions if request.questions and chance(rng, 90) else range(64)
+        request.question = rng.choice(asked)
+        given = request.codes if request.codes and chance(rng, 85) else (0, 1, 65535)
+        request.code = rng.choice(given)
+
+
+def lend(rng: random.Random, network: Network, call: str) -> Request:
+    request = write_network(network, call)
+    lend_marks(rng, request)
+    request.supports = garbage(rng, numbers_needed(request))
+    give_arguments(rng, request)
+    return request
+
+
+def good_request(rng: random.Random, network: Network, call: str) -> Request:
+    request = lend(rng, network, call)
+    if chance(rng, 50 if call == "test" else 25):
+        settle_marks(request)
+    return request
+
+
+def small_request(rng: random.Random, call: str) -> Request:
+    return good_request(rng, small_network(rng), call)
+
+
+def wide_request(rng: random.Random, call: str) -> Request:
+    return good_request(rng, wide_network(rng), call)
+
+
+def loose_request(rng: random.Random, call: str) -> Request:
+    return good_request(rng, loose_network(rng), call)
+
+
+# Faults put into a network: everything after them still fits together
+
+
+def page_sheets(rng: random.Random, network: Network) -> None:
+    if chance(rng, 30):
+        network.pages.clear()
+        network.combinations.clear()
+        return
+    for _ in range(rng.choice((65, 65, 66, 128, 257, 320)) - len(network.pages)):
+        network.pages.append(([rng.randrange(64)], [[rng.randrange(2)] for _ in range(rng.randrange(2))]))
+
+
+def page_width(rng: random.Random, network: Network) -> None:
+    place = rng.randrange(len(network.pages))
+    questions = rng.sample(range(64), rng.choice((0, 9, 9, 10, 64)))
+    network.pages[place] = (questions, [[rng.randrange(2) for _ in questions] for _ in network.pages[place][1]])
+
+
+def page_rows(rng: random.Random, network: Network) -> None:
+    total = sum(len(rows) for _, rows in network.pages)
+    questions, rows = rng.choice(network.pages)
+    rows.extend([0] * len(questions) for _ in range(rng.choice((4097, 4097, 4100, 4200)) - total))
+
+
+def page_question(rng: random.Random, network: Network) -> None:
+    questions, rows = rng.choice(network.pages)
+    if chance(rng, 50) or not 1 <= len(questions) < 8:
+        questions[:1] = [rng.choice(BAD_QUESTIONS)]
+        return
+    questions.append(rng.choice(questions))
+    for row in rows:
+        row.append(rng.randrange(2))
+
+
+def page_disconnected(rng: random.Random, network: Network) -> None:
+    """A disconnected combination of sheets there are, or with a new sheet on a question nobody asks."""
+    pages, m = network.pages, network.m
+    numbers = itertools.combinations(range(len(pages)), m)
+    parted = [list(c) for c in numbers if not book.connected([pages[sheet][0] for sheet in c])]
+    if not parted or chance(rng, 30):
+        asked = {question for questions, _ in pages for question in questions}
+        fresh = rng.choice([question for question in range(64) if question not in asked])
+        parted = [sorted(rng.sample(range(len(pages)), m - 1)) + [len(pages)]]
+        pages.append(([fresh], [[rng.randrange(2)] for _ in range(rng.randrange(3))]))
+    network.combinations.insert(rng.randint(0, len(network.combinations)), rng.choice(parted))
+
+
+def page_supports(rng: random.Random, network: Network) -> None:
+    """Repeated combinations and added rows until over 32,768 numbers are needed."""
+    combinations = network.combinations
+    combinations += [list(rng.choice(combinations)) for _ in range(rng.randint(150, 250) - len(combinations))]
+    questions, rows = network.pages[combinations[0][0]]
+    while numbers_needed(write_network(network, "filter")) <= book.MOST_SUPPORTS:
+        rows.extend([0] * len(questions) for _ in range(rng.randint(1, 20)))
+
+
+NETWORK_DAMAGES: dict[int, Callable[[random.Random, Network], None]] = {
+    10: page_disconnected,
+    12: page_supports,
+    6: page_question,
+    3: page_width,
+    4: page_rows,
+    2: page_sheets,
+}
+
+
+# Faults put into the lent lists
+
+
+def lent_combination(rng: random.Random, request: Request) -> None:
+    start = rng.randrange(0, len(request.combinations) or 1, request.m)
+    combination = request.combinations[start : start + request.m] or list(range(request.m))
+    kind = rng.choice(("missing", "swapped", "equal"))
+    if kind == "missing":
+        combination[-1] = rng.choice((len(request.sheets), 64, 256, 65535))
+    elif kind == "swapped":
+        combination[0], combination[1] = combination[1], combination[0]
+    else:
+        combination[-1] = combination[-2]
+    request.combinations[start : start + request.m] = combination
+
+
+def lent_combination_list(rng: random.Random, request: Request) -> None:
+    if request.combinations and chance(rng, 40):
+        count = rng.choice((257, 257, 300)) * request.m
+        repeats = count // len(request.combinations) + 1
+        request.combinations = (request.combinations * repeats)[:count]
+    else:
+        request.combinations.insert(rng.randint(0, len(request.combinations)), rng.choice((0, 1, 65535)))
+
+
+def lent_m(rng: random.Random, request: Request) -> None:
+    request.m = rng.choice((0, 1, 5, 5, 6, 258, 65535))
+    request.combinations = rng.choice((request.combinations, [], list(range(len(request.sheets)))))
+
+
+def lent_lengths(rng: random.Random, request: Request) -> None:
+    """One list too long, cut short or empty."""
+    entries = rng.choice((request.questions, request.codes))
+    if not entries or chance(rng, 50):
+        entries.extend(rng.choice((0, 1, 65535)) for _ in range(rng.choice((1, 1, 2, 64))))
+    else:
+        del entries[rng.choice((0, len(entries) - 1, rng.randrange(len(entries)))) :]
+
+
+def lent_width(rng: random.Random, request: Request) -> None:
+    if request.sheets:
+        place = rng.randrange(len(request.sheets))
+        request.sheets[place] = (rng.choice((0, 9, 256, 257, 65535)), request.sheets[place][1])
+
+
+def lent_rows(rng: random.Random, request: Request) -> None:
+    """Row counts over 4,096, also such as come to little again when counted in 16 bits."""
+    if not request.sheets:
+        return
+    place = rng.randrange(len(request.sheets))
+    width, rows = request.sheets[place]
+    request.sheets[place] = (width, rng.choice((4097, 65535)))
+    if len(request.sheets) > 1 and request.sheets[place][1] == 65535:
+        other_width, other_rows = request.sheets[place - 1]
+        request.sheets[place - 1] = (other_width, other_rows + rows + 1)
+
+
+def lent_marks(rng: random.Random, request: Request) -> None:
+    words = min(-(-book.row_total(request) // 64), len(request.marks))
+    if words:
+        del request.marks[rng.choice((0, words - 1)) :]
+
+
+def lent_supports(rng: random.Random, request: Request) -> None:
+    needed = min(numbers_needed(request), len(request.supports))
+    if needed:
+        del request.supports[rng.choice((0, needed - 1, rng.randrange(needed))) :]
+
+
+def lent_numbers(rng: random.Random, request: Request) -> None:
+    total = min(book.row_total(request), 65535)
+    bad = rng.choice((total, 65535, rng.randint(total, 65535)))
+    if request.call == "compare":
+        request.rows[rng.randrange(2)] = bad
+    else:
+        request.rows.insert(rng.randint(0, len(request.rows)), bad)
+
+
+def lent_choice(rng: random.Random, request: Request) -> None:
+    request.question = rng.choice(BAD_QUESTIONS)
+
+
+LENT_DAMAGES: dict[int, Callable[[random.Random, Request], None]] = {
+    9: lent_combination,
+    8: lent_combination_list,
+    7: lent_m,
+    5: lent_lengths,
+    3: lent_width,
+    4: lent_rows,
+    11: lent_marks,
+    12: lent_supports,
+    13: lent_numbers,
+    14: lent_choice,
+}
+
+
+# Damaged requests
+
+
+def network_to_damage(rng: random.Random) -> Network:
+    """A small network with a row in some combination, at times with many rows."""
+    network = small_network(rng)
+    while not numbers_needed(write_network(network, "filter")):
+        network = small_network(rng)
+    if chance(rng, 30):
+        questions, rows = rng.choice(network.pages)
+        rows.extend([0] * len(questions) for _ in range(rng.randint(50, 140)))
+    return network
+
+
+def request_with_faults(rng: random.Random, call: str, numbers: list[int]) -> Request:
+    network = network_to_damage(rng)
+    in_network = [n for n in NETWORK_DAMAGES if n in numbers and (n not in LENT_DAMAGES or chance(rng, 50))]
+    for number in in_network:
+        NETWORK_DAMAGES[number](rng, network)
+    request = lend(rng, network, call)
+    for number in LENT_DAMAGES:
+        if number in numbers and number not in in_network:
+            LENT_DAMAGES[number](rng, request)
+    return request
+
+
+def damaged_request(rng: random.Random, call: str) -> Request:
+    """Usually several faults, the first of them any that the call uses."""
+    used = book.FAULTS_USED[call]
+    place = rng.randrange(len(used))
+    later = used[place + 1 :]
+    extra = rng.sample(later, min(rng.choice((0, 1, 1, 2, 3)), len(later)))
+    return request_with_faults(rng, call, [used[place]] + extra)
+
+
+# Requests at the edge of what is accepted
+
+
+def edge_sheets(count: int) -> Network:
+    return Network([([0], [[0]])] * count, 2, [[0, count - 1]])
+
+
+def edge_width(width: int) -> Network:
+    questions = list(range(width))
+    return Network([(questions, [[0] * width, [1] * width]), (questions[::-1], [[1] * width])], 2, [[0, 1]])
+
+
+def edge_rows(total: int) -> Network:
+    return Network([([0], [[g % 2] for g in range(total - 1)]), ([0], [[0]])], 2, [[0, 1]])
+
+
+def edge_question(question: int) -> Network:
+    return Network([([question], [[0], [1]]), ([question], [[1]])], 2, [[0, 1]])
+
+
+def edge_m(m: int) -> Network:
+    return Network([([0], [[0], [1]])] * m, m, [list(range(m))])
+
+
+def edge_combinations(count: int) -> Network:
+    return Network([([0], [[0], [1]]), ([0], [[1]])], 2, [[0, 1]] * count)
+
+
+def edge_supports(total: int) -> Network:
+    """512 numbers needed for each row."""
+    return Network([([0], [[0]] * 32), ([0], [[0]] * (total - 32))], 2, [[0, 1]] * 256)
+
+
+class Edge(NamedTuple):
+    network: Callable[[int], Network]
+    last_accepted: int
+    first_refused: int
+
+
+EDGES: dict[int, Edge] = {
+    2: Edge(edge_sheets, 64, 65),
+    3: Edge(edge_width, 8, 9),
+    4: Edge(edge_rows, 4096, 4097),
+    6: Edge(edge_question, 63, 64),
+    7: Edge(edge_m, 4, 5),
+    8: Edge(edge_combinations, 256, 257),
+    12: Edge(edge_supports, 64, 65),
+}
+
+
+def edge_request(rng: random.Random, call: str) -> Request:
+    edge = EDGES[rng.choice(sorted(EDGES))]
+    return lend(rng, edge.network(rng.choice((edge.last_accepted, edge.first_refused))), call)
+
+
+def mixed_request(rng: random.Random, call: str) -> Request:
+    kinds = [small_request] * 12 + [damaged_request] * 6 + [wide_request, edge_request]
+    return rng.choice(kinds)(rng, call)
+
+
+SIZES: dict[str, Callable[[random.Random, str], Request]] = {
+    "small": small_request,
+    "loose": loose_request,
+    "wide": wide_request,
+    "damaged": damaged_request,
+    "edge": edge_request,
+    "mixed": mixed_request,
+}
+
+
+def requests(seed: int, count: int, calls: list[str], size: str) -> list[Request]:
+    rng = random.Random(seed)
+    return [SIZES[size](rng, rng.choice(calls)) for _ in range(count)]
+
+
+# Lists of calls on one book
+
+
+def copied(shared: Request) -> Request:
+    lists = ("sheets", "questions", "codes", "combinations", "marks", "rows")
+    return replace(shared, **{name: list(getattr(shared, name)) for name in lists})
+
+
+def refused_call(rng: random.Random, shared: Request, call: str) -> Request:
+    """Refused for its own arguments, for a damaged copy of the shared lists, or for other lists altogether."""
+    request = replace(copied(shared), call=call, supports=garbage(rng, numbers_needed(shared)))
+    give_arguments(rng, request)
+    usable = [number for number in LENT_DAMAGES if number in book.FAULTS_USED[call]]
+    LENT_DAMAGES[rng.choice(usable)](rng, request)
+    if book.first_fault(request) and chance(rng, 80):
+        return request
+    return damaged_request(rng, call)
+
+
+def accepted_call(rng: random.Random, shared: Request, call: str) -> Request:
+    request = replace(shared, call=call, supports=garbage(rng, numbers_needed(shared)))
+    give_arguments(rng, request)
+    return request
+
+
+def list_of_calls(rng: random.Random) -> tuple[Request, list[Request]]:
+    """The shared lists with the starting marks, and the change calls."""
+    network = wide_network(rng) if chance(rng, 10) else small_network(rng)
+    shared = good_request(rng, network, "filter")
+    refused_percent = 100 if chance(rng, 5) else 25
+    calls = []
+    for _ in range(rng.randint(1, 8)):
+        make = refused_call if chance(rng, refused_percent) else accepted_call
+        calls.append(make(rng, shared, rng.choice(("filter", "withdraw", "withdraw", "withdraw", "choose"))))
+    return shared, calls
+
+
+def lists_of_calls(seed: int, count: int) -> list[tuple[Request, list[Request]]]:
+    rng = random.Random(seed)
+    return [list_of_calls(rng) for _ in range(count)]
+
+
+# Texts for the listing program
+
+
+def write_text(request: Request) -> bytes:
+    """The desk's text of lists that fit together; ranges and combinations may be at fault."""
+    combinations = book.read_combinations(request) if request.m else []
+    lines = [[len(request.sheets), request.m, len(combinations)]]
+    codes = iter(request.codes)
+    for (width, rows), questions in zip(request.sheets, book.read_questions(request)):
+        lines += [[width, rows], questions]
+        lines += [list(itertools.islice(codes, width)) for _ in range(rows)]
+    return b"".join(b",".join(b"%d" % number for number in line) + b"\n" for line in lines + combinations)
+
+
+def good_text(rng: random.Random) -> bytes:
+    return write_text(write_network(wide_network(rng) if chance(rng, 10) else small_network(rng), "filter"))
+
+
+def refused_text(rng: random.Random) -> bytes:
+    """Faults that a text can hold: those of the network, a bad combination, a bad m, too many combinations."""
+    network = network_to_damage(rng)
+    number = rng.choice((2, 3, 4, 6, 6, 7, 8, 9, 9, 10, 10, 12))
+    if number in NETWORK_DAMAGES:
+        NETWORK_DAMAGES[number](rng, network)
+    request = write_network(network, "filter")
+    if number not in NETWORK_DAMAGES or chance(rng, 20):
+        LENT_DAMAGES[number if number in (7, 8, 9) else 9](rng, request)
+    return write_text(request)
+
+
+def change_bytes(rng: random.Random, text: bytes) -> bytes:
+    """One to three bytes changed, inserted or deleted, or the text cut."""
+    for _ in range(rng.choice((1, 1, 1, 2, 3))):
+        place = rng.randrange(len(text) + 1)
+        byte = bytes([rng.choice(LIKELY_BYTES) if chance(rng, 90) else rng.randrange(256)])
+        text = rng.choice(
+            (
+                text[:place] + byte + text[place + 1 :],
+                text[:place] + byte + text[place:],
+                text[:place] + text[place + 1 :],
+                text[:place],
+            )
+        )
+    return text
+
+
+def change_field(rng: random.Random, text: bytes) -> bytes:
+    """One field with a needless zero, out of range, empty or not decimal."""
+    lines = text.split(b"\n")
+    place = rng.randrange(max(len(lines) - 1, 1))
+    fields = lines[place].split(b",")
+    column = rng.randrange(len(fields))
+    old = fields[column]
+    wraps = [b"%d" % (int(old) + 2**bits) for bits in (8, 16, 32, 64)]
+    others = [b"", b"00", b"-1", b"-0", b"0x1", b"1e1", b"1_0", b"0" + old, b"+" + old, b" " + old, old + b" "]
+    fields[column] = rng.choice(rng.choice((wraps, others, LIKELY_FIELDS)))
+    lines[place] = b",".join(fields)
+    return b"\n".join(lines)
+
+
+def change_lines(rng: random.Random, text: bytes) -> bytes:
+    """Line ends and whole lines: missing, doubled, empty, swapped, in another form, or after the last."""
+    lines = text[:-1].split(b"\n")
+    place = rng.randrange(len(lines))
+    dropped = lines[:place] + lines[place + 1 :]
+    return rng.choice(
+        (
+            text[:-1],
+            text + b"\n",
+            text + b"0",
+            text + b"\0",
+            text + text,
+            b"\n" + text,
+            b"\xef\xbb\xbf" + text,
+            b"",
+            b"\n",
+            text.replace(b"\n", b"\r\n"),
+            text[:-1] + b"\r\n",
+            text.replace(b"\n", b"\r"),
+            text.replace(b",", b", "),
+            text.replace(b",", b";"),
+            b"".join(line + b"\n" for line in dropped),
+            b"\n".join(lines[: place + 1] + lines[place:]) + b"\n",
+            b"\n".join(lines[:place] + [b""] + lines[place:]) + b"\n",
+            b"\n".join(dropped + [lines[place]]) + b"\n",
+            b"\n".join(lines[:place] + [lines[place] + b","] + lines[place + 1 :]) + b"\n",
+            b"\n".join(lines[:place] + [lines[place] + b",0"] + lines[place + 1 :]) + b"\n",
+        )
+    )
+
+
+def text_of_length(length: int) -> bytes:
+    """A faultless text of exactly so many bytes, about 32,100 to 96,000: one sheet, width 8, 2,000 rows."""
+    request = Request(sheets=[(8, 2000)], questions=list(range(8)), codes=[1] * 16000)
+    further_digits = length - len(write_text(request))
+    for place in range(16000):
+        digits = min(4, further_digits)
+        request.codes[place] = 10**digits
+        further_digits -= digits
+    return write_text(request)
+
+
+def text_of_rows(total: int) -> bytes:
+    return write_text(Request(sheets=[(1, total - 1), (1, 1)], questions=[0, 0], codes=[0] * total))
+
+
+def large_text(rng: random.Random) -> bytes:
+    if chance(rng, 60):
+        return text_of_length(rng.choice((65535, 65536, 65537, 70000)))
+    return text_of_rows(rng.choice((4095, 4096, 4097)))
+
+
+def draw_text(rng: random.Random) -> bytes:
+    kind = rng.randrange(100)
+    if kind < 3:
+        return large_text(rng)
+    if kind < 30:
+        return refused_text(rng)
+    text = good_text(rng)
+    if kind < 60:
+        return text
+    return (change_bytes if kind < 80 else change_field if kind < 92 else change_lines)(rng, text)
+
+
+def texts(seed: int, count: int) -> list[bytes]:
+    rng = random.Random(seed)
+    return [draw_text(rng) for _ in range(count)]

@@ -1,0 +1,87 @@
+"""The command line of the reference program: drawn requests, lists of calls and texts with their answers."""
+
+import argparse
+import json
+import sys
+from pathlib import Path
+
+import book
+import check
+import draw
+from book import Reply, Request
+
+SHARED = ["sheets", "questions", "codes", "m", "combinations"]
+
+
+def print_line(value: dict) -> None:
+    print(json.dumps(value, separators=(",", ":")))
+
+
+def with_reply(request: Request, reply: Reply) -> dict:
+    answer, marks, supports = reply
+    return {"request": vars(request), "answer": answer, "marks": marks, "supports": supports}
+
+
+def own_lists(shared: Request, call: Request) -> list[str]:
+    """Names of the lists that a call lends in place of the shared ones."""
+    return [name for name in SHARED + ["marks"] if getattr(call, name) != getattr(shared, name)]
+
+
+def print_requests(arguments: argparse.Namespace) -> None:
+    for request in draw.requests(arguments.seed, arguments.count, arguments.calls, arguments.size):
+        print_line(with_reply(request, book.reply(request)))
+
+
+def print_lists(arguments: argparse.Namespace) -> None:
+    for shared, calls in draw.lists_of_calls(arguments.seed, arguments.count):
+        whole, combinations = book.read_book(shared), book.read_combinations(shared)
+        replies = book.in_turn(shared.marks, calls)
+        lent = [own_lists(shared, call) for call in calls]
+        print_line(
+            {
+                "shared": {name: getattr(shared, name) for name in SHARED},
+                "marks": shared.marks,
+                "calls": [{"own_lists": own, **with_reply(*done)} for own, done in zip(lent, replies)],
+                "expected": book.strike_rule(whole, combinations, shared.marks, calls)._asdict(),
+            }
+        )
+
+
+def write_texts(arguments: argparse.Namespace) -> None:
+    arguments.into.mkdir(parents=True, exist_ok=True)
+    for place, text in enumerate(draw.texts(arguments.seed, arguments.count)):
+        (arguments.into / f"{place:04}.in").write_bytes(text)
+        (arguments.into / f"{place:04}.out").write_bytes(book.listing(text))
+
+
+def call_names(text: str) -> list[str]:
+    names = text.split(",")
+    if not set(names) <= set(draw.CALLS):
+        raise argparse.ArgumentTypeError(f"calls are {','.join(draw.CALLS)}")
+    return names
+
+
+def read_arguments() -> argparse.Namespace:
+    parser = argparse.ArgumentParser(description=__doc__)
+    commands = parser.add_subparsers(dest="command", required=True)
+    for name in ("requests", "lists", "texts"):
+        command = commands.add_parser(name)
+        command.add_argument("--seed", type=int, required=True)
+        command.add_argument("--count", type=int, required=True)
+    commands.choices["requests"].add_argument("--calls", type=call_names, default=draw.CALLS)
+    commands.choices["requests"].add_argument("--size", choices=sorted(draw.SIZES), default="mixed")
+    commands.choices["texts"].add_argument("--into", type=Path, required=True)
+    commands.add_parser("check")
+    return parser.parse_args()
+
+
+def main() -> int:
+    arguments = read_arguments()
+    if arguments.command == "check":
+        return 1 if check.run() else 0
+    {"requests": print_requests, "lists": print_lists, "texts": write_texts}[arguments.command](arguments)
+    return 0
+
+
+if __name__ == "__main__":
+    sys.exit(main())
