@@ -1,19 +1,18 @@
 -- Laws of R(*,m)C: the rule read off and shown, that it is monotone, and the test of consistency.
-use mathlib.Core.Path.{_≡_, refl, sym, _∙_, ap}
-use mathlib.Core.Bool.{Bool, true, false, not, _||_}
-use mathlib.Core.List.{List, [], _∷_, _++_, map, List·Memᴰ, List·Memᴰ·tail}
+use mathlib.Core.Path.{_≡_, refl, _∙_, ap, subst}
+use mathlib.Core.Bool.{Bool, true, not, _||_}
+use mathlib.Core.List.{List, [], _∷_, map, List·Memᴰ, List·Memᴰ·tail}
 use mathlib.Core.Logic.{_↔_}
-use Prim.Native.Nat.{ℕ, _+_, _*_, _≤_, _<_}
-use native.Mathlib.Nat.{zero-add}
+use Prim.Native.Nat.{ℕ, _+_, _*_, _≤_}
 use native.Mathlib.Omega.{arith}
 use lib.ListN.{length, length-append}
-use Rattle.model.specs.Lists.{from, sum, all, any, elem, each}
+use Rattle.model.specs.Lists.{from, sum, any, elem, each}
 use Rattle.model.specs.TupleSet.{TupleSet, has, count, without, Inside, Consistent, Largest}
 use Rattle.model.specs.Network.{Network, size, firstId, idsOf, relationOf}
 use Rattle.model.specs.Combination.{Combination}
 use Rattle.model.specs.Support.{candidates, isSupport, firstSupport}
 use Rattle.model.specs.Consistency.{supported, isConsistent, filtered, supportList, needed}
-use Rattle.model.proofs.Bools.{implies-intro, implies-elim}
+use Rattle.model.proofs.Bools.{iff-eq, implies-intro, implies-elim}
 use Rattle.model.proofs.Lists.{here, all-at, all-intro, any-at, any-intro, elem-mem, mem-elem, mem-from, length-from}
 use Rattle.model.proofs.TupleSet.{Monotone, has-below, closure-length, closure-count, closure-largest, largest-unique, closure-mono, closure-closure, closure-of-consistent, closure-without, closure-keeps}
 use Rattle.model.proofs.Support.{Supported, isSupport-mono, firstSupport-length}
@@ -91,6 +90,12 @@ module _ (N : Network) (cs : List Combination) where
   pub filtered-keeps : (K : ℕ → Type 0) → ((X : TupleSet) → ((g : ℕ) → K g → has X g ≡ true) → (g : ℕ) → K g → supported N cs X g ≡ true) → (S : TupleSet) → ((g : ℕ) → K g → has S g ≡ true) → (g : ℕ) → K g → has (filtered N cs S) g ≡ true
   unfolding filtered
   filtered-keeps K stay S = closure-keeps (supported N cs) K stay S
+
+  -- a relation in no combination keeps its tuples
+  pub filtered-alone : (S : TupleSet) (g : ℕ) → ((c : Combination) → List·Memᴰ c cs → List·Memᴰ (relationOf N g) c → ⊥) → has (filtered N cs S) g ≡ has S g
+  filtered-alone S g alone =
+      iff-eq (has (filtered N cs S) g) (has S g) (filtered-largest S .inside g)
+      (λ e. filtered-keeps (λ h. h ≡ g) (λ X lives h q. supported-intro X h (λ c m n. absurd (alone c m (subst (λ (x : ℕ). List·Memᴰ (relationOf N x) c) q n)))) S (λ h q. ap (has S) q ∙ e) g refl)
 
 -- ---- The support list
 

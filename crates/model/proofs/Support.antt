@@ -1,14 +1,14 @@
 -- Laws of supports: their parts, and that more live tuples only add supports.
 use mathlib.Core.Path.{_≡_, refl, sym, _∙_, ap, subst}
-use mathlib.Core.Bool.{Bool, true, false, not, _&&_, _||_}
+use mathlib.Core.Bool.{Bool, true, false, _&&_}
 use mathlib.Core.List.{List, [], _∷_, map, List·Memᴰ, List·Memᴰ·head, List·Memᴰ·tail, List·Memᴰ·cases-cons, List·Memᴰ·append-cases, List·Memᴰ·not-nil, Memᴰ·append-right}
 use mathlib.Core.Logic.{_⊎_, inl, inr, ⊎-elim}
-use Prim.Native.Nat.{ℕ, zero, suc, _+_, _-_, _≤_, _<_}
+use Prim.Native.Nat.{ℕ, zero, suc, _-_, _≤_}
 use native.Mathlib.Omega.{arith}
 use lib.Dec.{ltb}
 use lib.ListN.{length, replicate, length-map, length-replicate}
 use Rattle.model.specs.Limits.{noSupport}
-use Rattle.model.specs.Lists.{from, all, any, elem, select, firstOr, pairwise, earlier, choices}
+use Rattle.model.specs.Lists.{from, all, elem, select, firstOr, pairwise, earlier, choices}
 use Rattle.model.specs.TupleSet.{TupleSet, has, Inside}
 use Rattle.model.specs.Network.{Network, size, firstId, idsOf, indexOf, relationOf}
 use Rattle.model.specs.Agreement.{agree}
