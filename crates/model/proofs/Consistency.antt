@@ -100,16 +100,16 @@ module _ (N : Network) (cs : List Combination) where
 -- ---- The support list
 
 module _ {A : Type 0} where
-  each-length : (f : A → List ℕ) (n : A → ℕ) (xs : List A) → ((x : A) → List·Memᴰ x xs → length (f x) ≡ n x) → length (each f xs) ≡ sum (map n xs)
+  pub each-length : (f : A → List ℕ) (n : A → ℕ) (xs : List A) → ((x : A) → List·Memᴰ x xs → length (f x) ≡ n x) → length (each f xs) ≡ sum (map n xs)
   each-length f n [] h = refl
   each-length f n (x ∷ xs) h =
       length-append (f x) (each f xs) ∙ ap (λ (k : ℕ). k + length (each f xs)) (h x here) ∙ ap (λ (k : ℕ). n x + k) (each-length f n xs (λ y m. h y (List·Memᴰ·tail m)))
 
-sum-times : (f : ℕ → ℕ) (k : ℕ) (xs : List ℕ) → sum (map (λ (x : ℕ). f x * k) xs) ≡ sum (map f xs) * k
+pub sum-times : (f : ℕ → ℕ) (k : ℕ) (xs : List ℕ) → sum (map (λ (x : ℕ). f x * k) xs) ≡ sum (map f xs) * k
 sum-times f k [] = omega arith
 sum-times f k (x ∷ xs) = omega (arith, sum-times f k xs)
 
-sum-same : (k : ℕ) (xs : List ℕ) → sum (map (λ (x : ℕ). k) xs) ≡ length xs * k
+pub sum-same : (k : ℕ) (xs : List ℕ) → sum (map (λ (x : ℕ). k) xs) ≡ length xs * k
 sum-same k [] = omega arith
 sum-same k (x ∷ xs) = omega (arith, sum-same k xs)
 

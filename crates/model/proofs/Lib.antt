@@ -8,6 +8,8 @@ pub mod Fault
 pub mod LiveWords
 pub mod Support
 pub mod Consistency
+pub mod SupportList
+pub mod Work
 pub mod Solution
 pub mod Locality
 pub mod Reply

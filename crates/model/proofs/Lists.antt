@@ -8,7 +8,8 @@ use native.Mathlib.Omega.{arith}
 use native.Mathlib.Decide.{ℕ-discrete}
 use native.Mathlib.Nat.{add-zero, add-suc, suc-add, le-of-suc-le-suc}
 use lib.Dec.{ltb, eqb}
-use lib.ListN.{length, getD}
+use lib.ListN.{length, getD, take, drop}
+use lib.Seq.{drop-cons}
 use borrow.Author.Tests.{eqb-true, eq-eqb, ltb-true, lt-ltb}
 use Rattle.model.specs.Lists.{all, any, elem, from, select, keepIf, firstOr, pairwise, choices, prefixed, earlier}
 use Rattle.model.proofs.Bools.{and-left, and-right, and-intro, or-left, or-right, or-cases}
@@ -93,6 +94,11 @@ module _ {ℓ} {A : Type ℓ} where
   picks-choices (pick {xs} {xss} m p) = in-prefixed xs (choices xss) m (picks-choices p)
 
 -- ---- Selection
+
+-- tests that say the same of the list's elements select the same
+pub select-cong {ℓ} : {A : Type ℓ} (p q : A → Bool) (xs : List A) → ((x : A) → List·Memᴰ x xs → p x ≡ q x) → select p xs ≡ select q xs
+select-cong p q [] f = refl
+select-cong p q (x ∷ xs) f = ap (λ b. keepIf b x (select p xs)) (f x here) ∙ ap (keepIf (q x) x) (select-cong p q xs (λ y m. f y (List·Memᴰ·tail m)))
 
 module _ {ℓ} {A : Type ℓ} (p : A → Bool) where
   keepIf-mem : (y : A) (xs : List A) {x : A} → (List·Memᴰ x (select p xs) → List·Memᴰ x xs × (p x ≡ true)) → (v : Bool) → p y ≡ v → List·Memᴰ x (keepIf v y (select p xs)) → List·Memᴰ x (y ∷ xs) × (p x ≡ true)
@@ -270,3 +276,10 @@ pub from-rises : (i n : ℕ) → pairwise ltb (from i n) ≡ true
 from-rises i zero = refl
 from-rises i (suc n) =
     and-intro (all-intro (ltb i) (from (suc i) n) (λ x m. lt-ltb i x (omega (arith, from-mem (suc i) n x m)))) (from-rises (suc i) n)
+
+-- f of the first n elements from place i on, by places
+pub map-places {ℓ} : {A : Type ℓ} (f : ℕ → A) (xs : List ℕ) (n i : ℕ) → i + n ≤ length xs → map (λ (k : ℕ). f (getD xs k 0)) (from i n) ≡ map f (take n (drop i xs))
+map-places f xs zero i h = refl
+map-places {A = A} f xs (suc n) i h =
+    ap {B = List A} (λ t. f (getD xs i 0) ∷ t) (map-places f xs n (suc i) (omega arith))
+    ∙ ap (λ (t : List ℕ). map f (take (suc n) t)) (sym (drop-cons xs i 0 (omega arith)))
