@@ -1,3 +1,4 @@
 -- The laws of the crate's definitions, and of walks of a list.
 pub mod Walk
 pub mod Relations
+pub mod Starts

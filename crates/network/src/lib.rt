@@ -10,6 +10,7 @@ ghost use Rattle.model.specs.Lists.{from, sum, all, pairwise};
 ghost use Rattle.model.specs.Network.{variablesIn, tuplesIn, valuesIn, before, scopeOf};
 ghost use Rattle.model.specs.Fault.{within, different, properScope, networkFaults, firstFault, refusal};
 ghost use Rattle.network.specs.Shape.{relationsOf, networkOf, properWidth};
+ghost use Rattle.network.specs.Layout.{Bounded, starts};
 
 use model::MAX_RELATIONS;
 use model::MAX_TUPLES;
@@ -21,6 +22,13 @@ pub struct Shape {
     pub count: usize,
     pub widths: [u16; 64],
     pub tuples: [u16; 64],
+}
+
+// Where each relation's variables, tuples and values begin in the lists; past the last relation, the totals.
+pub struct Offsets {
+    pub variables: [u16; 65],
+    pub tuples: [u16; 65],
+    pub values: [u16; 65],
 }
 
 // How many variables, tuples and values the records call for.
@@ -183,4 +191,38 @@ pub fn fault(shape: Shape, variables: &[u16], values: &[u16]) -> u8
         return 6;
     }
     0
+}
+
+// Where each relation begins in each list.
+pub fn offsets_of(shape: Shape) -> Offsets
+    requires { ⌜ Bounded (relationsOf shape) ⌝ }
+    ensures variables { λ o. ⌜ o .variables ≡ starts variablesIn (relationsOf shape) ⌝ }
+    ensures tuples { λ o. ⌜ o .tuples ≡ starts tuplesIn (relationsOf shape) ⌝ }
+    ensures values { λ o. ⌜ o .values ≡ starts valuesIn (relationsOf shape) ⌝ }
+{
+    let mut variables = [0; 65];
+    let mut tuples = [0; 65];
+    let mut values = [0; 65];
+    let mut variable: u16 = 0;
+    let mut tuple: u16 = 0;
+    let mut value: u16 = 0;
+    let mut r = 0;
+    while r <= MAX_RELATIONS {
+        variables[r] = variable;
+        tuples[r] = tuple;
+        values[r] = value;
+        if r < shape.count {
+            let width = shape.widths[r];
+            let size = shape.tuples[r];
+            variable += width;
+            tuple += size;
+            value += width * size;
+        }
+        r += 1;
+    }
+    Offsets {
+        variables,
+        tuples,
+        values,
+    }
 }
