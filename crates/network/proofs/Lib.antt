@@ -2,3 +2,4 @@
 pub mod Walk
 pub mod Relations
 pub mod Starts
+pub mod Places

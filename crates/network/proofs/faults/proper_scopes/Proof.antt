@@ -18,8 +18,8 @@ use Rattle.network.specs.declared.Shape.{Shape}
 use Rattle.network.specs.Shape.{relationsOf, networkOf}
 use Rattle.network.proofs.Walk.{all-passes, all-fails, all-ends}
 use Rattle.network.proofs.Relations.{relation-count, relation-at, below-count, before-next, number-at, number-count}
-use Rattle.network.proofs.proper_scopes.Statement.{statement}
-use Rattle.network.proofs.proper_scopes.Tie as tie
+use Rattle.network.proofs.faults.proper_scopes.Statement.{statement}
+use Rattle.network.proofs.faults.proper_scopes.Tie as tie
 
 abbrev numbers : Shape → List ℕ
 numbers shape = from 0 (length (relationsOf shape))

@@ -16,8 +16,8 @@ use Rattle.model.specs.Fault.{within, properLengths, properScope}
 use Rattle.model.proofs.Bools.{and-right}
 use Rattle.network.specs.Shape.{relationsOf, networkOf, properWidth}
 use Rattle.network.proofs.Relations.{relation-count}
-use Rattle.network.proofs.fault.Statement.{statement}
-use Rattle.network.proofs.fault.Tie as tie
+use Rattle.network.proofs.faults.fault.Statement.{statement}
+use Rattle.network.proofs.faults.fault.Tie as tie
 
 -- the entry, from where each test was passed
 abbrev from2 : tie.Else1 → tie.Start

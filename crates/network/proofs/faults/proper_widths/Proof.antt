@@ -14,8 +14,8 @@ use Rattle.model.specs.Fault.{within}
 use Rattle.network.specs.Shape.{properWidth, relationsOf}
 use Rattle.network.proofs.Walk.{all-passes, all-fails, all-ends}
 use Rattle.network.proofs.Relations.{relation-count, relation-at, below-count}
-use Rattle.network.proofs.proper_widths.Statement.{statement}
-use Rattle.network.proofs.proper_widths.Tie as tie
+use Rattle.network.proofs.faults.proper_widths.Statement.{statement}
+use Rattle.network.proofs.faults.proper_widths.Tie as tie
 
 abbrev Inv-loop : tie.InvT-loop
 Inv-loop shape r₀ r =

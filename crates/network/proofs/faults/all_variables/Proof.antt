@@ -11,8 +11,8 @@ use lib.ListN.{length, drop, getD}
 use Rattle.model.specs.Limits.{variableCount}
 use Rattle.model.specs.Lists.{all}
 use Rattle.network.proofs.Walk.{all-passes, all-fails, all-ends}
-use Rattle.network.proofs.all_variables.Statement.{statement}
-use Rattle.network.proofs.all_variables.Tie as tie
+use Rattle.network.proofs.faults.all_variables.Statement.{statement}
+use Rattle.network.proofs.faults.all_variables.Tie as tie
 
 abbrev Inv-loop : tie.InvT-loop
 Inv-loop scope i₀ i =

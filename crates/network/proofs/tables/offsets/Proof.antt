@@ -1,4 +1,4 @@
--- `offsets_of` writes where each relation begins: up to place r the tables hold the sums passed so far.
+-- `offsets` writes where each relation begins: up to place r the tables hold the sums passed so far.
 -- From the laws of the tables of starts and of where relations begin; bounded records keep every sum within 16 bits.
 use mathlib.Core.Path.{_≡_, refl, sym, ap, ap₂, _∙_}
 use mathlib.Core.Logic.{⊎-elim}
@@ -11,8 +11,8 @@ use Rattle.model.specs.Network.{variablesIn, tuplesIn, valuesIn, before}
 use Rattle.network.specs.Shape.{relationsOf}
 use Rattle.network.proofs.Relations.{relation-count, before-next, before-end}
 use Rattle.network.proofs.Starts.{Filled, filled-more, filled-starts, variables-fit, tuples-fit, values-fit}
-use Rattle.network.proofs.offsets_of.Statement.{statement}
-use Rattle.network.proofs.offsets_of.Tie as tie
+use Rattle.network.proofs.tables.offsets.Statement.{statement}
+use Rattle.network.proofs.tables.offsets.Tie as tie
 
 abbrev Inv-loop : tie.InvT-loop
 Inv-loop shape variables₀ tuples₀ values₀ variable₀ tuple₀ value₀ r₀ variables tuples values variable tuple value r =
@@ -150,8 +150,8 @@ returns c =
     (filled-starts tuplesIn Rs (head .r) (head .tuples) (omega arith) (inv .1 .1 .1 .1 .1 .0),
     filled-starts valuesIn Rs (head .r) (head .values) (omega arith) (inv .1 .1 .1 .1 .1 .1)))
 
-pub offsets-of-spec : {M : Type 1} → statement M
-offsets-of-spec =
+pub offsets-spec : {M : Type 1} → statement M
+offsets-spec =
     tie.close
     (tie.spec
     Inv-loop

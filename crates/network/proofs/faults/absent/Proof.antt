@@ -10,8 +10,8 @@ use lib.ListN.{length, drop, getD}
 use Rattle.model.specs.Lists.{all}
 use Rattle.model.specs.Fault.{different}
 use Rattle.network.proofs.Walk.{all-passes, all-fails, all-ends}
-use Rattle.network.proofs.absent.Statement.{statement}
-use Rattle.network.proofs.absent.Tie as tie
+use Rattle.network.proofs.faults.absent.Statement.{statement}
+use Rattle.network.proofs.faults.absent.Tie as tie
 
 abbrev Inv-loop : tie.InvT-loop
 Inv-loop scope x from j₀ j =

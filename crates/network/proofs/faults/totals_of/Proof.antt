@@ -8,8 +8,8 @@ use borrow.Author.Needs.{needs}
 use Rattle.model.specs.Network.{variablesIn, tuplesIn, valuesIn, before}
 use Rattle.network.specs.Shape.{relationsOf}
 use Rattle.network.proofs.Relations.{before-next, before-end}
-use Rattle.network.proofs.totals_of.Statement.{statement}
-use Rattle.network.proofs.totals_of.Tie as tie
+use Rattle.network.proofs.faults.totals_of.Statement.{statement}
+use Rattle.network.proofs.faults.totals_of.Tie as tie
 
 abbrev Inv-loop : tie.InvT-loop
 Inv-loop shape variables₀ tuples₀ values₀ r₀ variables tuples values r =

@@ -10,8 +10,8 @@ use borrow.Author.Count.{below-more}
 use lib.ListN.{length, getD}
 use Rattle.model.specs.Agreement.{clash}
 use Rattle.model.proofs.Agreement.{cellAt, agreeing-places, agreeing-clash, clash-other-variable, clash-same-value, clash-different-value}
-use Rattle.agreement.proofs.agree.Statement.{statement}
-use Rattle.agreement.proofs.agree.Tie as tie
+use Rattle.network.proofs.agreement.agree.Statement.{statement}
+use Rattle.network.proofs.agreement.agree.Tie as tie
 
 abbrev Inv-loop : tie.InvT-loop
 Inv-loop scopeA a scopeB b agreed₀ i j₀ agreed j =

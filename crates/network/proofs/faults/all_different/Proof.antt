@@ -9,8 +9,8 @@ use lib.ListN.{length, drop}
 use Rattle.model.specs.Lists.{pairwise}
 use Rattle.model.specs.Fault.{different}
 use Rattle.network.proofs.Walk.{pairwise-passes, pairwise-fails, pairwise-ends}
-use Rattle.network.proofs.all_different.Statement.{statement}
-use Rattle.network.proofs.all_different.Tie as tie
+use Rattle.network.proofs.faults.all_different.Statement.{statement}
+use Rattle.network.proofs.faults.all_different.Tie as tie
 
 abbrev Inv-loop : tie.InvT-loop
 Inv-loop scope i₀ i =

@@ -6,8 +6,8 @@ use borrow.Author.Needs.{needs}
 use borrow.Author.Tests.{not-true, not-false}
 use Rattle.model.specs.Lists.{pairwise}
 use Rattle.model.specs.Fault.{different}
-use Rattle.network.proofs.proper_scope.Statement.{statement}
-use Rattle.network.proofs.proper_scope.Tie as tie
+use Rattle.network.proofs.faults.proper_scope.Statement.{statement}
+use Rattle.network.proofs.faults.proper_scope.Tie as tie
 
 all-variables-requires : tie.Need-all-variables-requires
 all-variables-requires c κs = search needs

@@ -3,8 +3,8 @@
 use mathlib.Core.Path.{_≡_}
 use borrow.Author.Tests.{lt-leb, le-leb}
 use borrow.Author.Needs.{needs}
-use Rattle.network.proofs.within.Statement.{statement}
-use Rattle.network.proofs.within.Tie as tie
+use Rattle.network.proofs.faults.within.Statement.{statement}
+use Rattle.network.proofs.faults.within.Tie as tie
 
 returns : tie.Need-returns
 returns c = simp (lt-leb _ _ (c .if1 .taken))
