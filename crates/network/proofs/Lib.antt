@@ -3,3 +3,4 @@ pub mod Walk
 pub mod Relations
 pub mod Starts
 pub mod Places
+pub mod Tabled

@@ -5,6 +5,7 @@ ghost use Prim.Native.Nat.{_<_};
 pub mod faults; // the faults of a network, in checking order
 pub mod tables; // where each relation begins in the lists
 pub mod agreement; // which tuples agree
+pub mod comparison; // the call that compares two tuples by id
 
 // The relation records taken apart: how many there are, and of the first 64 the widths and the tuple counts.
 pub struct Shape {

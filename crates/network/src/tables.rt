@@ -1,6 +1,8 @@
 // Where each relation begins in the lists.
 ghost use mathlib.Core.Path.{_≡_};
-ghost use Rattle.model.specs.Network.{variablesIn, tuplesIn, valuesIn};
+ghost use Prim.Native.Nat.{_<_};
+ghost use lib.ListN.{getD};
+ghost use Rattle.model.specs.Network.{Network, variablesIn, tuplesIn, valuesIn, relationOf};
 ghost use Rattle.network.specs.Shape.{relationsOf};
 ghost use Rattle.network.specs.Layout.{Bounded, starts};
 
@@ -40,4 +42,16 @@ pub fn offsets(shape: Shape) -> Offsets
         tuples,
         values,
     }
+}
+
+// The relation of the tuple with id g, in any network that begins its tuples so.
+pub fn relation_of(tuple_starts: &[u16; 65], g: u16) -> u16
+    requires { ⌜ g < getD (now «tuple_starts») 64 0 ⌝ }
+    ensures { λ r. ⌜ ((N : Network) → now («tuple_starts» .entry) ≡ starts tuplesIn (N .relations) → r ≡ relationOf N g) ⌝ }
+{
+    let mut r: usize = 0;
+    while tuple_starts[r + 1] <= g {
+        r += 1;
+    }
+    r as u16
 }
