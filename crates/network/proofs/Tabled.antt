@@ -1,6 +1,6 @@
 -- The network that tables describe is the one whose tables they are.
 -- From the definitions of `relationsIn` and `Laid`, and what a network without network faults has.
-use mathlib.Core.Path.{_≡_, refl, sym, _∙_, ap, ap₂}
+use mathlib.Core.Path.{_≡_, refl, sym, _∙_, ap, ap₂, subst}
 use mathlib.Core.Bool.{Bool, true, false}
 use mathlib.Core.List.{List, [], _∷_, map}
 use Prim.Native.Nat.{ℕ, zero, suc, _+_, _-_, _*_, _/_, _≤_, _<_}
@@ -102,3 +102,6 @@ module _ (N : Network) (vs ws : List ℕ) (laid : Laid N vs ws) where
 
   pub laid-tabled : tabled (N .variables) (N .values) vs ws ≡ N
   laid-tabled = λ i. record { relations = relations-in i; variables = N .variables; values = N .values }
+
+  pub tabled-laid : Laid (tabled (N .variables) (N .values) vs ws) vs ws
+  tabled-laid = subst (λ (M : Network). Laid M vs ws) (sym laid-tabled) laid

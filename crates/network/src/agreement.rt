@@ -59,9 +59,8 @@ fn place_of(variable_starts: &[u16; 65], value_starts: &[u16; 65], r: u16, x: u1
 
 // Whether tuple x of relation r and tuple y of relation s agree.
 pub fn tuples_agree(variables: &[u16], values: &[u16], variable_starts: &[u16; 65], value_starts: &[u16; 65], r: u16, x: u16, s: u16, y: u16) -> bool
-    requires { ⌜ Laid (tabled (now variables) (now values) (now «variable_starts») (now «value_starts»)) (now «variable_starts») (now «value_starts») ⌝ }
-    requires { ⌜ (x < size (tabled (now variables) (now values) (now «variable_starts») (now «value_starts»)) r) × (y < size (tabled (now variables) (now values) (now «variable_starts») (now «value_starts»)) s) ⌝ }
-    ensures { λ b. ⌜ b ≡ agree (tabled (now (variables .entry)) (now (values .entry)) (now («variable_starts» .entry)) (now («value_starts» .entry))) (firstId (tabled (now (variables .entry)) (now (values .entry)) (now («variable_starts» .entry)) (now («value_starts» .entry))) r + x) (firstId (tabled (now (variables .entry)) (now (values .entry)) (now («variable_starts» .entry)) (now («value_starts» .entry))) s + y) ⌝ }
+    requires { ⌜ (let N = tabled (now variables) (now values) (now «variable_starts») (now «value_starts») in Laid N (now «variable_starts») (now «value_starts») × ((x < size N r) × (y < size N s))) ⌝ }
+    ensures { λ b. ⌜ (let N = tabled (now (variables .entry)) (now (values .entry)) (now («variable_starts» .entry)) (now («value_starts» .entry)) in b ≡ agree N (firstId N r + x) (firstId N s + y)) ⌝ }
 {
     let p = place_of(variable_starts, value_starts, r, x);
     let q = place_of(variable_starts, value_starts, s, y);

@@ -18,9 +18,7 @@ use super::wide;
 
 // Whether the tuples with ids g and h agree.
 fn ids_agree(variables: &[u16], values: &[u16], variable_starts: &[u16; 65], tuple_starts: &[u16; 65], value_starts: &[u16; 65], g: u16, h: u16) -> bool
-    requires { ⌜ Laid (tabled (now variables) (now values) (now «variable_starts») (now «value_starts»)) (now «variable_starts») (now «value_starts») ⌝ }
-    requires { ⌜ now «tuple_starts» ≡ starts tuplesIn (tabled (now variables) (now values) (now «variable_starts») (now «value_starts») .relations) ⌝ }
-    requires { ⌜ (g < total (tabled (now variables) (now values) (now «variable_starts») (now «value_starts»))) × (h < total (tabled (now variables) (now values) (now «variable_starts») (now «value_starts»))) ⌝ }
+    requires { ⌜ (let N = tabled (now variables) (now values) (now «variable_starts») (now «value_starts») in Laid N (now «variable_starts») (now «value_starts») × ((now «tuple_starts» ≡ starts tuplesIn (N .relations)) × ((g < total N) × (h < total N)))) ⌝ }
     ensures { λ b. ⌜ b ≡ agree (tabled (now (variables .entry)) (now (values .entry)) (now («variable_starts» .entry)) (now («value_starts» .entry))) g h ⌝ }
 {
     let r = relation_of(tuple_starts, g);

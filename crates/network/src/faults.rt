@@ -118,6 +118,7 @@ fn all_different(scope: &[u16]) -> bool
     true
 }
 
+// Whether a scope's variables are variables, and none stands twice.
 fn proper_scope(scope: &[u16]) -> bool
     ensures { λ b. ⌜ b ≡ properScope (now (scope .entry)) ⌝ }
 {
@@ -134,7 +135,7 @@ fn proper_scopes(shape: Shape, variables: &[u16]) -> bool
     ensures { λ b. ⌜ b ≡ all (λ (r : ℕ). properScope (scopeOf (networkOf shape (now (variables .entry)) []) r)) (from 0 (length (relationsOf shape))) ⌝ }
 {
     let mut start = 0;
-    let mut r = 0;
+    let mut r: usize = 0;
     while r < shape.count {
         let end = start + wide(shape.widths[r]);
         if !proper_scope(&variables[start..end]) {
@@ -153,11 +154,13 @@ pub fn fault(shape: Shape, variables: &[u16], values: &[u16]) -> u8
     if !within(1, MAX_RELATIONS, shape.count) {
         return 2;
     }
-    if !proper_widths(shape) {
+    let widths_proper = proper_widths(shape);
+    let called = totals_of(shape);
+    let tuples = called.tuples;
+    if !widths_proper {
         return 3;
     }
-    let called = totals_of(shape);
-    if MAX_TUPLES < called.tuples {
+    if MAX_TUPLES < tuples {
         return 4;
     }
     if variables.len() != called.variables {
