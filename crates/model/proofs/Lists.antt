@@ -35,6 +35,11 @@ module _ {ℓ} {A : Type ℓ} where
   all-intro p [] f = refl
   all-intro p (x ∷ xs) f = and-intro (f x here) (all-intro p xs (λ y m. f y (List·Memᴰ·tail m)))
 
+  pub all-getD : (p : A → Bool) (xs : List A) (k : ℕ) (d : A) → all p xs ≡ true → k < length xs → p (getD xs k d) ≡ true
+  all-getD p [] k d e h = absurd (omega arith)
+  all-getD p (x ∷ xs) zero d e h = and-left (p x) (all p xs) e
+  all-getD p (x ∷ xs) (suc k) d e h = all-getD p xs k d (and-right (p x) (all p xs) e) (le-of-suc-le-suc h)
+
   pub all-append : (p : A → Bool) (xs ys : List A) → all p xs ≡ true → all p ys ≡ true → all p (xs ++ ys) ≡ true
   all-append p [] ys e f = f
   all-append p (x ∷ xs) ys e f = and-intro (and-left (p x) (all p xs) e) (all-append p xs ys (and-right (p x) (all p xs) e) f)
@@ -110,6 +115,23 @@ module _ {ℓ} {A : Type ℓ} (p : A → Bool) where
   pub select-mem : (xs : List A) {x : A} → List·Memᴰ x (select p xs) → List·Memᴰ x xs × (p x ≡ true)
   select-mem [] m = absurd (List·Memᴰ·not-nil m)
   select-mem (y ∷ xs) m = keepIf-mem y xs (select-mem xs) (p y) refl m
+
+  keepIf-more : (b : Bool) (y : A) {x : A} (ys : List A) → List·Memᴰ x ys → List·Memᴰ x (keepIf b y ys)
+  keepIf-more true y ys m = List·Memᴰ·tail m
+  keepIf-more false y ys m = m
+
+  keepIf-here : (b : Bool) {x : A} (y : A) (ys : List A) → x ≡ y → b ≡ true → List·Memᴰ x (keepIf b y ys)
+  keepIf-here true y ys q e = List·Memᴰ·head q
+  keepIf-here false y ys q e = absurd (false≢true e)
+
+  -- what is in the list and passes is selected
+  pub mem-select : (xs : List A) {x : A} → List·Memᴰ x xs → p x ≡ true → List·Memᴰ x (select p xs)
+  mem-select [] m e = absurd (List·Memᴰ·not-nil m)
+  mem-select (y ∷ xs) m e =
+      ⊎-elim
+      (λ q. keepIf-here (p y) y (select p xs) q (sym (ap p q) ∙ e))
+      (λ h. keepIf-more (p y) y (select p xs) (mem-select xs h e))
+      (List·Memᴰ·cases-cons m)
 
   keepIf-none : (y : A) (ys : List A) (v : Bool) → (v ≡ true → ⊥) → ys ≡ [] → keepIf v y ys ≡ []
   keepIf-none y ys true f e = absurd (f refl)
