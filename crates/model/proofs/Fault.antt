@@ -1,11 +1,11 @@
 -- Laws of the first fault of a table, and what a network without network faults has.
 -- From the definitions alone.
 use mathlib.Core.Path.{_≡_, refl, sym, _∙_, ap}
-use mathlib.Core.Bool.{Bool, true, false, not, _&&_, cond, false≢true}
+use mathlib.Core.Bool.{Bool, true, false, cond}
 use mathlib.Core.Option.{Option, none, some}
 use mathlib.Core.List.{List, [], _∷_, _++_, map, List·Memᴰ, List·Memᴰ·tail, List·Memᴰ·cases-cons, List·Memᴰ·not-nil}
 use mathlib.Core.Logic.{⊎-elim}
-use Prim.Native.Nat.{ℕ, _≤_, _<_}
+use Prim.Native.Nat.{ℕ, _≤_}
 use native.Mathlib.Omega.{arith}
 use lib.Dec.{leb, ltb, eqb}
 use lib.ListN.{length}
@@ -99,7 +99,7 @@ faultless N e =
     let values = eqb (length (N .values)) (sum (map valuesIn (N .relations))) in
     let count : within 1 maxRelations n ≡ true = not-false _ (no-fault-at (networkFaults N) e here) in
     let lengths : properLengths N ≡ true =
-        not-false _ (no-fault-at (networkFaults N) e (List·Memᴰ·tail (List·Memᴰ·tail (List·Memᴰ·tail here))))
+    not-false _ (no-fault-at (networkFaults N) e (List·Memᴰ·tail (List·Memᴰ·tail (List·Memᴰ·tail here))))
     in
     record {
       some-relation = leb-true 1 n (and-left (leb 1 n) (leb n maxRelations) count);

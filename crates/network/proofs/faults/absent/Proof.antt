@@ -1,9 +1,8 @@
 -- `absent` tests every column from the given one on: the columns from j on decide.
 -- From the laws of walks.
 use mathlib.Core.Path.{_≡_, refl, sym, ap, _∙_}
-use mathlib.Core.Bool.{true, false, not}
-use Prim.Native.Nat.{ℕ, _≤_, _-_}
-use native.Mathlib.Omega.{arith}
+use mathlib.Core.Bool.{not}
+use Prim.Native.Nat.{_≤_, _-_}
 use borrow.Author.Needs.{needs}
 use borrow.Author.Tests.{eq-eqb, ne-eqb}
 use lib.ListN.{length, drop, getD}
@@ -30,7 +29,7 @@ shared-slice-read-if1 : tie.Need-shared-slice-read-if1 Inv-loop μ-loop
 shared-slice-read-if1 c = search needs
 
 returns : tie.Need-returns Inv-loop μ-loop
-returns c = 
+returns c =
     let turn = c .before .before in
     let args = turn .before .before .args in
     sym (all-fails (different (args .x)) (args .scope .now) (turn .before .loop .j) 0 (turn .loop-test .taken) (ap not (eq-eqb (args .x) (getD (args .scope .now) (turn .before .loop .j) 0) (sym (c .if1 .taken)))))
@@ -43,14 +42,16 @@ loop-less : tie.Need-loop-less Inv-loop μ-loop
 loop-less c = search needs
 
 loop-again : tie.Need-loop-again Inv-loop μ-loop
-loop-again c = 
+loop-again c =
     let turn = c .before .before in
-    let args = turn .before .before .args in
-    (search needs, sym (all-passes (different (args .x)) (args .scope .now) (turn .before .loop .j) 0 (turn .loop-test .taken) (ap not (ne-eqb (args .x) (getD (args .scope .now) (turn .before .loop .j) 0) (λ e. c .if1 .left (sym e)))))
-    ∙ turn .before .loop .inv .1)
+    let args = turn .before .before .args in (
+      search needs,
+      sym (all-passes (different (args .x)) (args .scope .now) (turn .before .loop .j) 0 (turn .loop-test .taken) (ap not (ne-eqb (args .x) (getD (args .scope .now) (turn .before .loop .j) 0) (λ e. c .if1 .left (sym e)))))
+          ∙ turn .before .loop .inv .1,
+    )
 
 returns-2 : tie.Need-returns-2 Inv-loop μ-loop
-returns-2 c = 
+returns-2 c =
     let args = c .before .before .args in
     sym (all-ends (different (args .x)) (args .scope .now) (c .before .loop .j) (c .loop-test .left)) ∙ c .before .loop .inv .1
 

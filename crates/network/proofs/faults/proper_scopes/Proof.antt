@@ -1,7 +1,7 @@
 -- `proper_scopes` tests every relation's scope: the scopes from relation r on decide, and relation r's begins at `start`.
 -- From the laws of walks and of where relations begin.
 use mathlib.Core.Path.{_≡_, refl, sym, ap, ap₂, _∙_}
-use mathlib.Core.Bool.{Bool, true, false}
+use mathlib.Core.Bool.{Bool}
 use mathlib.Core.List.{List, []}
 use Prim.Native.Nat.{ℕ, _≤_, _<_, _-_, _+_}
 use native.Mathlib.Nat.{add-sub-cancel-left}
@@ -11,13 +11,13 @@ use borrow.Author.Tests.{not-true, not-false}
 use lib.ListN.{length, drop, getD, take}
 use Rattle.model.specs.declared.Relation.{Relation}
 use Rattle.model.specs.Lists.{all, from}
-use Rattle.model.specs.Network.{noRelation, variablesIn, before, scopeOf}
+use Rattle.model.specs.Network.{variablesIn, before, scopeOf}
 use Rattle.model.specs.Fault.{properScope}
 use Rattle.model.proofs.Network.{before-le}
 use Rattle.network.specs.declared.Shape.{Shape}
 use Rattle.network.specs.Shape.{relationsOf, networkOf}
 use Rattle.network.proofs.Walk.{all-passes, all-fails, all-ends}
-use Rattle.network.proofs.Relations.{relation-count, relation-at, below-count, before-next, number-at, number-count}
+use Rattle.network.proofs.Relations.{relation-at, before-next, number-at, number-count}
 use Rattle.network.proofs.faults.proper_scopes.Statement.{statement}
 use Rattle.network.proofs.faults.proper_scopes.Tie as tie
 
@@ -94,7 +94,7 @@ proper-scope-requires : tie.Need-proper-scope-requires Inv-loop μ-loop
 proper-scope-requires c κs = search needs
 
 returns : tie.Need-returns Inv-loop μ-loop
-returns c = 
+returns c =
     let turn = c .before .before .before .before .before in
     let shape = turn .before .before .before .args .t1 in
     let variables = turn .before .before .before .args .variables .now in
@@ -110,19 +110,22 @@ loop-less : tie.Need-loop-less Inv-loop μ-loop
 loop-less c = search needs
 
 loop-again : tie.Need-loop-again Inv-loop μ-loop
-loop-again c = 
+loop-again c =
     let turn = c .before .before .before .before .before in
     let shape = turn .before .before .before .args .t1 in
     let variables = turn .before .before .before .args .variables .now in
     let r = turn .before .loop .r in
-    let below : r < length (numbers shape) = rw (number-count shape) (turn .loop-test .taken) in
-    (search needs,
-    (next-start (c .before .before .before),
-    sym (all-passes (proper shape variables) (numbers shape) r 0 below (sym (tested (c .before)) ∙ not-false _ (c .if1 .left)))
-    ∙ turn .before .loop .inv .1 .1))
+    let below : r < length (numbers shape) = rw (number-count shape) (turn .loop-test .taken) in (
+      search needs,
+      (
+        next-start (c .before .before .before),
+        sym (all-passes (proper shape variables) (numbers shape) r 0 below (sym (tested (c .before)) ∙ not-false _ (c .if1 .left)))
+            ∙ turn .before .loop .inv .1 .1,
+      ),
+    )
 
 returns-2 : tie.Need-returns-2 Inv-loop μ-loop
-returns-2 c = 
+returns-2 c =
     let shape = c .before .before .before .args .t1 in
     let variables = c .before .before .before .args .variables .now in
     sym (all-ends (proper shape variables) (numbers shape) (c .before .loop .r) (rw (number-count shape) (c .loop-test .left))) ∙ c .before .loop .inv .1 .1
