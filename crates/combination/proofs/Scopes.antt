@@ -1,9 +1,9 @@
 -- What the records and variables of a network without fault say of its scopes, whatever the values.
 -- From the model's account of a network without faults, and the shape's relations.
-use mathlib.Core.Path.{_≡_, refl, sym, _∙_, ap, subst}
-use mathlib.Core.Bool.{Bool, true}
+use mathlib.Core.Path.{_≡_, sym, _∙_, ap, subst}
+use mathlib.Core.Bool.{true}
 use mathlib.Core.List.{List, map}
-use Prim.Native.Nat.{ℕ, _≤_, _<_, _+_}
+use Prim.Native.Nat.{ℕ, _≤_, _<_}
 use native.Mathlib.Nat.{zero-add}
 use native.Mathlib.Omega.{arith}
 use lib.Dec.{ltb}
@@ -11,7 +11,7 @@ use lib.ListN.{length, getD, take, drop}
 use Rattle.model.specs.Limits.{maxRelations, variableCount}
 use Rattle.model.specs.declared.Relation.{Relation}
 use Rattle.model.specs.Lists.{all, sum, from, pairwise}
-use Rattle.model.specs.Network.{Network, variablesIn, before, scopeOf}
+use Rattle.model.specs.Network.{variablesIn, before, scopeOf}
 use Rattle.model.specs.Fault.{properScope, different}
 use Rattle.model.proofs.Bools.{and-left}
 use Rattle.model.proofs.Lists.{all-at, mem-from}

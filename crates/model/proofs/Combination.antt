@@ -1,13 +1,13 @@
 -- Laws of combinations: where each stands in the list, how many numbers their supports need, and when one is connected.
 -- From the definitions, and what a network without faults has; for combinations of any number of members.
 use mathlib.Core.Path.{_≡_, refl, sym, _∙_, ap, ap₂, subst}
-use mathlib.Core.Bool.{Bool, true, false, not, _&&_, _||_, true≢false}
+use mathlib.Core.Bool.{Bool, true, false, not, _||_, true≢false}
 use mathlib.Core.List.{List, [], _∷_, _++_, map, List·Memᴰ, List·Memᴰ·head, List·Memᴰ·tail, List·Memᴰ·cases-cons, List·Memᴰ·eq-of-singleton, List·Memᴰ·not-nil}
 use mathlib.Core.Logic.{_⊎_, inl, inr, ⊎-elim}
 use Prim.Native.Nat.{ℕ, zero, suc, _+_, _*_, _/_, _%_, _≤_, _<_}
 use native.Mathlib.Nat.{zero-mul, suc-mul, add-mul, zero-add, add-comm, div-mul-le-self, div-add-mod', mul-le-mul-right, mod-lt, div-lt-iff-lt-mul}
 use native.Mathlib.Omega.{arith}
-use lib.Dec.{leb, ltb}
+use lib.Dec.{leb}
 use lib.ListN.{length, getD, take, drop, length-map, length-drop}
 use lib.Seq.{take-all, take-add, drop-drop, drop-cons, getD-take, getD-drop, length-take-le}
 use borrow.Author.Tests.{leb-true, not-true}
@@ -16,10 +16,10 @@ use Rattle.model.specs.declared.Relation.{Relation}
 use Rattle.model.specs.Lists.{from, sum, all, any, select, keepIf, empty, elem}
 use Rattle.model.specs.Network.{Network, noRelation, width, size, variablesIn, before, scopeOf}
 use Rattle.model.specs.Agreement.{share}
-use Rattle.model.specs.Combination.{Combination, combinations, Division, addToEither, divisions, joined, connected}
+use Rattle.model.specs.Combination.{Combination, combinations, Division, addToEither, divisions, connected}
 use Rattle.model.specs.Consistency.{needed}
 use Rattle.model.specs.Fault.{within}
-use Rattle.model.proofs.Bools.{and-left, or-left, or-right, or-cases, not-both, iff-eq}
+use Rattle.model.proofs.Bools.{and-left, or-cases, not-both}
 use Rattle.model.proofs.Lists.{here, all-at, all-intro, all-getD, any-at, any-intro, select-mem, mem-select, elem-mem, mem-elem, length-from, getD-map-from}
 use Rattle.model.proofs.Network.{before-within}
 use Rattle.model.proofs.Fault.{Faultless}

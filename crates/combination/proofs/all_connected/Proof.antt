@@ -1,7 +1,7 @@
 -- `all_connected` tests every combination: those from number k on decide, and number k begins at `start`.
 -- From the laws of walks and of where combinations stand in the list.
 use mathlib.Core.Path.{_≡_, refl, sym, ap, _∙_}
-use mathlib.Core.Bool.{true, false}
+use mathlib.Core.Bool.{true}
 use mathlib.Core.Option.{none}
 use mathlib.Core.List.{[]}
 use Prim.Native.Nat.{ℕ, _≤_, _-_, _+_, _*_, _/_}

@@ -1,6 +1,6 @@
 -- `connected` adds what a pass over the members reaches until one adds nothing, and then asks whether every member was reached.
 -- From the law of connectedness by masks; the set grows with every pass, and has only 64 bits.
-use mathlib.Core.Path.{_≡_, sym, subst, _∙_}
+use mathlib.Core.Path.{sym, subst, _∙_}
 use mathlib.Core.List.{List}
 use Prim.Native.Nat.{ℕ, _<_, _-_}
 use native.Mathlib.Omega.{arith}

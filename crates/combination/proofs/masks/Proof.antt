@@ -1,7 +1,7 @@
 -- `masks` finds the set of one scope after the other: those before relation r are found, and relation r's scope begins at `start`.
 -- From the laws of where relations begin and of scopes without fault.
 use mathlib.Core.Path.{_≡_, refl, sym, ap, ap₂, _∙_}
-use mathlib.Core.List.{List, []}
+use mathlib.Core.List.{[]}
 use Prim.Native.Nat.{ℕ, _≤_, _<_, _-_, _+_}
 use native.Mathlib.Nat.{add-sub-cancel-left}
 use native.Mathlib.Omega.{arith}

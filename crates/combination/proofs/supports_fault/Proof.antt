@@ -1,7 +1,7 @@
 -- `supports_fault` compares what the supports need with the limit and with what is lent.
 -- From the definition of the fault.
-use mathlib.Core.Path.{_≡_, sym, ap, ap₂, _∙_}
-use mathlib.Core.Bool.{Bool, true, false, cond, _||_, or-true}
+use mathlib.Core.Path.{sym, ap, ap₂}
+use mathlib.Core.Bool.{Bool, cond, _||_}
 use mathlib.Core.Option.{none, some}
 use native.Mathlib.Omega.{arith}
 use borrow.Author.Tests.{lt-ltb, le-ltb}
@@ -11,7 +11,6 @@ use Rattle.model.specs.Consistency.{needed}
 use Rattle.model.specs.Request.{combinationsOf}
 use Rattle.model.specs.Fault.{refusal}
 use Rattle.model.proofs.Bools.{or-left, or-right}
-use borrow.Author.Needs.{needs}
 use Rattle.combination.proofs.supports_fault.Statement.{statement}
 use Rattle.combination.proofs.supports_fault.Tie as tie
 

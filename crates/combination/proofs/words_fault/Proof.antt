@@ -1,6 +1,6 @@
 -- `words_fault` compares the words lent with those that the tuples fill.
 -- From the definition of the fault.
-use mathlib.Core.Path.{_≡_, sym, ap}
+use mathlib.Core.Path.{sym, ap}
 use mathlib.Core.Bool.{Bool, cond}
 use mathlib.Core.Option.{none, some}
 use Prim.Native.Nat.{_*_}
