@@ -1,6 +1,6 @@
 // Combinations of relations: what is wrong with those listed, whether one is connected, and how many numbers their supports need.
 ghost use mathlib.Core.Path.{_≡_};
-ghost use mathlib.Core.Bool.{Bool, true};
+ghost use mathlib.Core.Bool.{true};
 ghost use mathlib.Core.Option.{none};
 ghost use mathlib.Core.List.{List, [], _∷_};
 ghost use Prim.Native.Nat.{ℕ, _≤_, _<_};
@@ -31,10 +31,10 @@ fn mask_of(scope: &[u16]) -> u64
     ensures { λ w. ⌜ ((x : ℕ) → isSet w x ≡ elem x (now (scope .entry))) ⌝ }
 {
     let mut mask: u64 = 0;
-    let mut i = 0;
-    while i < scope.len() {
-        mask = mask | (1u64 << scope[i]);
-        i += 1;
+    let mut column = 0;
+    while column < scope.len() {
+        mask = mask | (1u64 << scope[column]);
+        column += 1;
     }
     mask
 }
@@ -78,12 +78,12 @@ fn all_meet(masks: &[u64; 64], members: &[u16], set: u64) -> bool
     requires { ⌜ below maxRelations (now members) ≡ true ⌝ }
     ensures { λ b. ⌜ b ≡ all (meets (now (masks .entry)) set) (now (members .entry)) ⌝ }
 {
-    let mut i = 0;
-    while i < members.len() {
-        if masks[wide(members[i])] & set == 0 {
+    let mut at = 0;
+    while at < members.len() {
+        if masks[wide(members[at])] & set == 0 {
             return false;
         }
-        i += 1;
+        at += 1;
     }
     true
 }
@@ -110,12 +110,12 @@ pub fn connected(masks: &[u64; 64], members: &[u16]) -> bool
 fn all_below(count: usize, members: &[u16]) -> bool
     ensures { λ b. ⌜ b ≡ below count (now (members .entry)) ⌝ }
 {
-    let mut i = 0;
-    while i < members.len() {
-        if count <= wide(members[i]) {
+    let mut j = 0;
+    while j < members.len() {
+        if count <= wide(members[j]) {
             return false;
         }
-        i += 1;
+        j += 1;
     }
     true
 }
@@ -150,14 +150,14 @@ fn all_proper(count: usize, m: usize, members: &[u16]) -> bool
     ensures { λ b. ⌜ b ≡ all (proper count) (combinations m (now (members .entry))) ⌝ }
 {
     let mut start = 0;
-    let mut k = 0;
-    while k < members.len() / m {
+    let mut passed = 0;
+    while passed < members.len() / m {
         let end = start + m;
         if !proper(count, &members[start..end]) {
             return false;
         }
         start = end;
-        k += 1;
+        passed += 1;
     }
     true
 }
@@ -215,11 +215,11 @@ pub fn needed(shape: Shape, members: &[u16], m: u16) -> usize
     ensures { λ n. ⌜ ((variables values : List ℕ) → n ≡ needed (networkOf shape variables values) (combinations m (now (members .entry)))) ⌝ }
 {
     let mut tuples = 0;
-    let mut i = 0;
-    while i < members.len() {
-        let r = wide(members[i]);
+    let mut place = 0;
+    while place < members.len() {
+        let r = wide(members[place]);
         tuples += wide(shape.tuples[r]);
-        i += 1;
+        place += 1;
     }
     tuples * wide(m)
 }

@@ -9,7 +9,7 @@ use borrow.Author.Tests.{lt-ltb, le-ltb}
 use lib.ListN.{length, getD, List·getD-eq-default}
 use lib.Seq.{take-length, take-all}
 use Rattle.model.specs.declared.Relation.{Relation}
-use Rattle.model.specs.Lists.{sum, from}
+use Rattle.model.specs.Lists.{sum}
 use Rattle.model.specs.Network.{Network, noRelation, size, tuplesIn, before, firstId, total, idsOf, relationAt, relationOf, indexOf}
 use Rattle.model.proofs.Lists.{from-mem, mem-from}
 

@@ -1,4 +1,4 @@
--- `all_below` tests every member: the members from place i on decide.
+-- `all_below` tests every member: the members from place j on decide.
 -- From the laws of walks.
 use mathlib.Core.Path.{_≡_, refl, sym, _∙_}
 use Prim.Native.Nat.{ℕ, _≤_, _-_}
@@ -13,10 +13,10 @@ use Rattle.combination.proofs.all_below.Statement.{statement}
 use Rattle.combination.proofs.all_below.Tie as tie
 
 abbrev Inv-loop : tie.InvT-loop
-Inv-loop count members i₀ i = (i ≤ length members) × (below count (drop i members) ≡ below count members)
+Inv-loop count members j₀ j = (j ≤ length members) × (below count (drop j members) ≡ below count members)
 
 abbrev μ-loop : tie.MeasureT-loop
-μ-loop count members i₀ i = length members - i
+μ-loop count members j₀ j = length members - j
 
 loop-holds : tie.Need-loop-holds Inv-loop μ-loop
 loop-holds c = (search needs, refl)
@@ -34,12 +34,12 @@ returns : tie.Need-returns Inv-loop μ-loop
 returns c =
     let turn = c .before .before .before in
     let args = turn .before .before .before .args in
-    let i = turn .before .loop .i in
-    sym (all-fails (λ (r : ℕ). ltb r (args .count)) (args .members .now) i 0 (turn .loop-test .taken) (le-ltb (getD (args .members .now) i 0) (args .count) (omega arith)))
+    let j = turn .before .loop .j in
+    sym (all-fails (λ (r : ℕ). ltb r (args .count)) (args .members .now) j 0 (turn .loop-test .taken) (le-ltb (getD (args .members .now) j 0) (args .count) (omega arith)))
     ∙ turn .before .loop .inv .1
 
-add-i : tie.Need-add-i Inv-loop μ-loop
-add-i c = search needs
+add-j : tie.Need-add-j Inv-loop μ-loop
+add-j c = search needs
 
 loop-less : tie.Need-loop-less Inv-loop μ-loop
 loop-less c = search needs
@@ -48,16 +48,16 @@ loop-again : tie.Need-loop-again Inv-loop μ-loop
 loop-again c =
     let turn = c .before .before .before in
     let args = turn .before .before .before .args in
-    let i = turn .before .loop .i in (
+    let j = turn .before .loop .j in (
       search needs,
-      sym (all-passes (λ (r : ℕ). ltb r (args .count)) (args .members .now) i 0 (turn .loop-test .taken) (lt-ltb (getD (args .members .now) i 0) (args .count) (omega arith)))
+      sym (all-passes (λ (r : ℕ). ltb r (args .count)) (args .members .now) j 0 (turn .loop-test .taken) (lt-ltb (getD (args .members .now) j 0) (args .count) (omega arith)))
           ∙ turn .before .loop .inv .1,
     )
 
 returns-2 : tie.Need-returns-2 Inv-loop μ-loop
 returns-2 c =
     let args = c .before .before .before .args in
-    sym (all-ends (λ (r : ℕ). ltb r (args .count)) (args .members .now) (c .before .loop .i) (c .loop-test .left)) ∙ c .before .loop .inv .1
+    sym (all-ends (λ (r : ℕ). ltb r (args .count)) (args .members .now) (c .before .loop .j) (c .loop-test .left)) ∙ c .before .loop .inv .1
 
 pub all-below-spec : {M : Type 1} → statement M
 all-below-spec =
@@ -70,7 +70,7 @@ all-below-spec =
     shared-slice-read-wide
     wide-requires
     returns
-    add-i
+    add-j
     loop-less
     loop-again
     returns-2)

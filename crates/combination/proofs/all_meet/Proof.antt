@@ -1,4 +1,4 @@
--- `all_meet` tests every member: the members from place i on decide.
+-- `all_meet` tests every member: the members from place `at` on decide.
 -- From the laws of walks.
 use mathlib.Core.Path.{_≡_, refl, sym, ap, _∙_}
 use mathlib.Core.Bool.{not}
@@ -17,14 +17,14 @@ use Rattle.combination.proofs.all_meet.Statement.{statement}
 use Rattle.combination.proofs.all_meet.Tie as tie
 
 abbrev Inv-loop : tie.InvT-loop
-Inv-loop masks members set i₀ i =
-    (i ≤ length members) × (all (meets masks set) (drop i members) ≡ all (meets masks set) members)
+Inv-loop masks members set at₀ at =
+    (at ≤ length members) × (all (meets masks set) (drop at members) ≡ all (meets masks set) members)
 
 abbrev μ-loop : tie.MeasureT-loop
-μ-loop masks members set i₀ i = length members - i
+μ-loop masks members set at₀ at = length members - at
 
-exists : (c : tie.In-loop Inv-loop μ-loop) → getD (c .before .before .before .args .members .now) (c .before .loop .i) 0 < maxRelations
-exists c = member-below maxRelations (c .before .before .before .args .members .now) (c .before .loop .i) (c .before .before .before .pre) (c .loop-test .taken)
+exists : (c : tie.In-loop Inv-loop μ-loop) → getD (c .before .before .before .args .members .now) (c .before .loop .at) 0 < maxRelations
+exists c = member-below maxRelations (c .before .before .before .args .members .now) (c .before .loop .at) (c .before .before .before .pre) (c .loop-test .taken)
 
 loop-holds : tie.Need-loop-holds Inv-loop μ-loop
 loop-holds c = (search needs, refl)
@@ -49,11 +49,11 @@ returns c =
     let turn = c .before .before .before .before in
     let args = turn .before .before .before .args in
     let fails = ap (meets (args .masks .now) (args .set)) (sym (c .before .before .wide .ensures .0)) ∙ ap not (eq-eqb (bitAnd (getD (args .masks .now) (c .before .before .wide .result) 0) (args .set)) 0 (c .if1 .taken)) in
-    sym (all-fails (meets (args .masks .now) (args .set)) (args .members .now) (turn .before .loop .i) 0 (turn .loop-test .taken) fails)
+    sym (all-fails (meets (args .masks .now) (args .set)) (args .members .now) (turn .before .loop .at) 0 (turn .loop-test .taken) fails)
     ∙ turn .before .loop .inv .1
 
-add-i : tie.Need-add-i Inv-loop μ-loop
-add-i c = search needs
+add-at : tie.Need-add-at Inv-loop μ-loop
+add-at c = search needs
 
 loop-less : tie.Need-loop-less Inv-loop μ-loop
 loop-less c = search needs
@@ -64,14 +64,14 @@ loop-again c =
     let args = turn .before .before .before .args in
     let passes = ap (meets (args .masks .now) (args .set)) (sym (c .before .before .wide .ensures .0)) ∙ ap not (ne-eqb (bitAnd (getD (args .masks .now) (c .before .before .wide .result) 0) (args .set)) 0 (c .if1 .left)) in (
       search needs,
-      sym (all-passes (meets (args .masks .now) (args .set)) (args .members .now) (turn .before .loop .i) 0 (turn .loop-test .taken) passes)
+      sym (all-passes (meets (args .masks .now) (args .set)) (args .members .now) (turn .before .loop .at) 0 (turn .loop-test .taken) passes)
           ∙ turn .before .loop .inv .1,
     )
 
 returns-2 : tie.Need-returns-2 Inv-loop μ-loop
 returns-2 c =
     let args = c .before .before .before .args in
-    sym (all-ends (meets (args .masks .now) (args .set)) (args .members .now) (c .before .loop .i) (c .loop-test .left)) ∙ c .before .loop .inv .1
+    sym (all-ends (meets (args .masks .now) (args .set)) (args .members .now) (c .before .loop .at) (c .loop-test .left)) ∙ c .before .loop .inv .1
 
 pub all-meet-spec : {M : Type 1} → statement M
 all-meet-spec =
@@ -86,7 +86,7 @@ all-meet-spec =
     mul-if1
     element-copy-out-if1
     returns
-    add-i
+    add-at
     loop-less
     loop-again
     returns-2)

@@ -19,7 +19,7 @@ use Rattle.network.specs.declared.Shape.{Shape}
 use Rattle.network.specs.Shape.{relationsOf, networkOf}
 use Rattle.network.proofs.Relations.{relation-count}
 use Rattle.combination.specs.Proper.{below, proper}
-use Rattle.combination.proofs.Members.{below-more-relations}
+use Rattle.combination.proofs.Members.{below-more-relations, counted}
 use borrow.Author.Needs.{needs}
 use Rattle.combination.proofs.fault.Statement.{statement}
 use Rattle.combination.proofs.fault.Tie as tie
@@ -43,31 +43,31 @@ abbrev answer : Network → ℕ → List ℕ → ℕ
 answer N m list = refusal (firstFault (combinationFaults (record { network = N; m = m; members = list })))
 
 module _ (N : Network) (m : ℕ) (list : List ℕ) where
-  abbrev A : Bool
-  A = within minMembers maxMembers m
+  abbrev few : Bool
+  few = within minMembers maxMembers m
 
-  abbrev B : Bool
-  B = properList m list
+  abbrev whole : Bool
+  whole = properList m list
 
-  abbrev C : Bool
-  C = all (properMembers N) (combinations m list)
+  abbrev rise : Bool
+  rise = all (properMembers N) (combinations m list)
 
-  abbrev D : Bool
-  D = all (connected N) (combinations m list)
+  abbrev link : Bool
+  link = all (connected N) (combinations m list)
 
-  first-7 : A ≡ false → 7 ≡ answer N m list
-  first-7 a = sym (ap (λ (x : Bool). verdict x B C D) a)
+  first-7 : few ≡ false → 7 ≡ answer N m list
+  first-7 a = sym (ap (λ (x : Bool). verdict x whole rise link) a)
 
-  first-8 : A ≡ true → B ≡ false → 8 ≡ answer N m list
-  first-8 a b = sym (ap (λ (x : Bool). verdict x B C D) a ∙ ap (λ (x : Bool). verdict true x C D) b)
+  first-8 : few ≡ true → whole ≡ false → 8 ≡ answer N m list
+  first-8 a b = sym (ap (λ (x : Bool). verdict x whole rise link) a ∙ ap (λ (x : Bool). verdict true x rise link) b)
 
-  first-9 : A ≡ true → B ≡ true → C ≡ false → 9 ≡ answer N m list
-  first-9 a b c = sym (ap (λ (x : Bool). verdict x B C D) a ∙ ap (λ (x : Bool). verdict true x C D) b ∙ ap (λ (x : Bool). verdict true true x D) c)
+  first-9 : few ≡ true → whole ≡ true → rise ≡ false → 9 ≡ answer N m list
+  first-9 a b c = sym (ap (λ (x : Bool). verdict x whole rise link) a ∙ ap (λ (x : Bool). verdict true x rise link) b ∙ ap (λ (x : Bool). verdict true true x link) c)
 
   -- none of the first three: 10 or none
-  first-10 : (d : Bool) → A ≡ true → B ≡ true → C ≡ true → D ≡ d → verdict true true true d ≡ answer N m list
+  first-10 : (d : Bool) → few ≡ true → whole ≡ true → rise ≡ true → link ≡ d → verdict true true true d ≡ answer N m list
   first-10 d a b c e =
-      sym (ap (λ (x : Bool). verdict x B C D) a ∙ ap (λ (x : Bool). verdict true x C D) b ∙ ap (λ (x : Bool). verdict true true x D) c ∙ ap (λ (x : Bool). verdict true true true x) e)
+      sym (ap (λ (x : Bool). verdict x whole rise link) a ∙ ap (λ (x : Bool). verdict true x rise link) b ∙ ap (λ (x : Bool). verdict true true x link) c ∙ ap (λ (x : Bool). verdict true true true x) e)
 
 -- the answer for m as an index is the answer for m
 answered : (w : tie.After-wide) (variables values : List ℕ) (f : ℕ) → f ≡ answer (networkOf (shapeOf w) variables values) (each w) (listOf w) → f ≡ answer (networkOf (shapeOf w) variables values) (w .before .before .args .m) (listOf w)
@@ -94,9 +94,6 @@ whole-list c =
     let m = each (c .before .before .before .before) in
     let list = listOf (c .before .before .before .before) in
     and-intro (eq-eqb (length list % m) 0 (c .before .if3 .left)) (le-leb (length list / m) maxCombinations (c .if4 .left))
-
-counted : (S : Shape) (cs : List Combination) → all (properMembers (networkOf S [] [])) cs ≡ all (proper (S .count)) cs
-counted S cs = ap (λ (n : ℕ). all (proper n) cs) (relation-count S)
 
 all-exist : (c : tie.Else5) → (let w = c .before .before .before .before .before .before in all (proper (shapeOf w .count)) (combinations (each w) (listOf w)) ≡ true)
 all-exist c = sym (c .before .all-proper .ensures) ∙ not-false _ (c .if5 .left)

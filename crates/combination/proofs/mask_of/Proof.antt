@@ -1,4 +1,4 @@
--- `mask_of` collects a scope's variables: the bits set, with the variables from column i on, are the scope's.
+-- `mask_of` collects a scope's variables: the bits set, with the variables from `column` on, are the scope's.
 -- From the laws of bits.
 use mathlib.Core.Path.{_≡_, sym, ap, _∙_}
 use mathlib.Core.Bool.{Bool, _||_, or-assoc, or-false}
@@ -22,11 +22,11 @@ use Rattle.combination.proofs.mask_of.Statement.{statement}
 use Rattle.combination.proofs.mask_of.Tie as tie
 
 abbrev Inv-loop : tie.InvT-loop
-Inv-loop scope mask₀ i₀ mask i =
-    (i ≤ length scope) × ((x : ℕ) → (isSet mask x || elem x (drop i scope)) ≡ elem x scope)
+Inv-loop scope mask₀ column₀ mask column =
+    (column ≤ length scope) × ((x : ℕ) → (isSet mask x || elem x (drop column scope)) ≡ elem x scope)
 
 abbrev μ-loop : tie.MeasureT-loop
-μ-loop scope mask₀ i₀ mask i = length scope - i
+μ-loop scope mask₀ column₀ mask column = length scope - column
 
 eqb-sym : (a b : ℕ) → eqb a b ≡ eqb b a
 eqb-sym a b = iff-eq (eqb a b) (eqb b a) (λ h. eq-eqb b a (sym (eqb-true a b h))) (λ h. eq-eqb a b (sym (eqb-true b a h)))
@@ -46,10 +46,10 @@ added scope w i x h l =
 collected : (scope : List ℕ) (w i x : ℕ) → length scope ≤ i → isSet w x ≡ (isSet w x || elem x (drop i scope))
 collected scope w i x h = sym (ap (λ (ys : List ℕ). isSet w x || elem x ys) (drop-of-length-le scope h) ∙ or-false (isSet w x))
 
-variable : (c : tie.In-loop Inv-loop μ-loop) → getD (c .before .before .args .scope .now) (c .before .loop .i) 0 < variableCount
+variable : (c : tie.In-loop Inv-loop μ-loop) → getD (c .before .before .args .scope .now) (c .before .loop .column) 0 < variableCount
 variable c =
     let scope = c .before .before .args .scope .now in
-    let i = c .before .loop .i in
+    let i = c .before .loop .column in
     ltb-true (getD scope i 0) variableCount (all-getD (λ (x : ℕ). ltb x variableCount) scope i 0 (c .before .before .pre) (c .loop-test .taken))
 
 loop-holds : tie.Need-loop-holds Inv-loop μ-loop
@@ -67,8 +67,8 @@ cast-mask c = omega (arith, variable (c .before))
 shl-mask : tie.Need-shl-mask Inv-loop μ-loop
 shl-mask c = variable (c .before)
 
-add-i : tie.Need-add-i Inv-loop μ-loop
-add-i c = search needs
+add-column : tie.Need-add-column Inv-loop μ-loop
+add-column c = search needs
 
 loop-less : tie.Need-loop-less Inv-loop μ-loop
 loop-less c = search needs
@@ -77,7 +77,7 @@ loop-again : tie.Need-loop-again Inv-loop μ-loop
 loop-again c =
     let turn = c .before in
     let scope = turn .before .before .args .scope .now in
-    let i = turn .before .loop .i in (
+    let i = turn .before .loop .column in (
       search needs,
       λ x. added scope (turn .before .loop .mask) i x (turn .loop-test .taken) (variable turn) ∙ turn .before .loop .inv .1 x,
     )
@@ -85,7 +85,7 @@ loop-again c =
 returns : tie.Need-returns Inv-loop μ-loop
 returns c =
     let scope = c .before .before .args .scope .now in
-    λ x. collected scope (c .before .loop .mask) (c .before .loop .i) x (c .loop-test .left) ∙ c .before .loop .inv .1 x
+    λ x. collected scope (c .before .loop .mask) (c .before .loop .column) x (c .loop-test .left) ∙ c .before .loop .inv .1 x
 
 pub mask-of-spec : {M : Type 1} → statement M
 mask-of-spec =
@@ -98,7 +98,7 @@ mask-of-spec =
     shared-slice-read-mask
     cast-mask
     shl-mask
-    add-i
+    add-column
     loop-less
     loop-again
     returns)

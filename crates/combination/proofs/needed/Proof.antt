@@ -1,4 +1,4 @@
--- `needed` sums the sizes of all members: with those from place i on they are the whole sum, and m numbers go to each tuple.
+-- `needed` sums the sizes of all members: with those from the next place on they are the whole sum, and m numbers go to each tuple.
 -- From the law of whole combinations; the sum fits, since there are at most 1,024 members.
 use mathlib.Core.Path.{_≡_, sym, ap, ap₂, _∙_}
 use mathlib.Core.List.{List, [], map}
@@ -23,26 +23,26 @@ abbrev sizes : Shape → List ℕ → ℕ
 sizes shape members = sum (map (size (networkOf shape [] [])) members)
 
 abbrev Inv-loop : tie.InvT-loop
-Inv-loop members m shape tuples₀ i₀ tuples i =
-    (i ≤ length members) × ((tuples + sizes shape (drop i members) ≡ sizes shape members) × (tuples ≤ 65535 * i))
+Inv-loop members m shape tuples₀ place₀ tuples place =
+    (place ≤ length members) × ((tuples + sizes shape (drop place members) ≡ sizes shape members) × (tuples ≤ 65535 * place))
 
 abbrev μ-loop : tie.MeasureT-loop
-μ-loop members m shape tuples₀ i₀ tuples i = length members - i
+μ-loop members m shape tuples₀ place₀ tuples place = length members - place
 
 short : (c : tie.Start Inv-loop μ-loop) → length (c .args .members .now) ≤ 1024
 short c = short-list (c .args .m) (c .args .members .now) (c .args .t1 .count) (c .pre .1)
 
-exists : (c : tie.In-loop Inv-loop μ-loop) → getD (c .before .before .before .args .members .now) (c .before .loop .i) 0 < c .before .before .before .args .t1 .count
+exists : (c : tie.In-loop Inv-loop μ-loop) → getD (c .before .before .before .args .members .now) (c .before .loop .place) 0 < c .before .before .before .args .t1 .count
 exists c =
     let start = c .before .before .before in
-    all-exist (start .args .m) (start .args .members .now) (start .args .t1 .count) (start .pre .1) (c .before .loop .i) (c .loop-test .taken)
+    all-exist (start .args .m) (start .args .members .now) (start .args .t1 .count) (start .pre .1) (c .before .loop .place) (c .loop-test .taken)
 
--- the size of member i
-sized : (c : tie.After-wide2 Inv-loop μ-loop) → c .wide2 .result ≡ size (networkOf (c .before .before .before .before .before .before .before .args .t1) [] []) (getD (c .before .before .before .before .before .before .before .args .members .now) (c .before .before .before .before .before .loop .i) 0)
+-- the size of that member
+sized : (c : tie.After-wide2 Inv-loop μ-loop) → c .wide2 .result ≡ size (networkOf (c .before .before .before .before .before .before .before .args .t1) [] []) (getD (c .before .before .before .before .before .before .before .args .members .now) (c .before .before .before .before .before .loop .place) 0)
 sized c =
     let turn = c .before .before .before .before in
     let args = turn .before .before .before .args in
-    let r = getD (args .members .now) (turn .before .loop .i) 0 in
+    let r = getD (args .members .now) (turn .before .loop .place) 0 in
     c .wide2 .ensures .0
     ∙ ap (λ (k : ℕ). getD (args .t1 .tuples) k 0) (c .before .before .wide .ensures .0)
     ∙ sym (ap (λ (R : Relation). R .tuples) (relation-at (args .t1) r (exists turn)))
@@ -79,8 +79,8 @@ wide-requires-2 c κs = search needs
 add-tuples : tie.Need-add-tuples Inv-loop μ-loop
 add-tuples c = omega (arith, short (c .before .before .before .before .before .before .before))
 
-add-i : tie.Need-add-i Inv-loop μ-loop
-add-i c = search needs
+add-place : tie.Need-add-place Inv-loop μ-loop
+add-place c = search needs
 
 loop-less : tie.Need-loop-less Inv-loop μ-loop
 loop-less c = search needs
@@ -91,7 +91,7 @@ loop-again c =
     let args = turn .before .before .before .args in (
       search needs,
       (
-        omega (arith, turn .before .loop .inv .1 .0, sized c, sum-next (size (networkOf (args .t1) [] [])) (args .members .now) (turn .before .loop .i) (turn .loop-test .taken)),
+        omega (arith, turn .before .loop .inv .1 .0, sized c, sum-next (size (networkOf (args .t1) [] [])) (args .members .now) (turn .before .loop .place) (turn .loop-test .taken)),
         omega (arith, c .wide2 .ensures .1),
       ),
     )
@@ -107,7 +107,7 @@ returns c =
     let start = c .before .before .before .before in
     let args = start .args in
     let l = c .before .before .loop in
-    let done : l .tuples ≡ sizes (args .t1) (args .members .now) = omega (arith, l .inv .1 .0, sum-end (size (networkOf (args .t1) [] [])) (args .members .now) (l .i) (c .before .loop-test .left)) in
+    let done : l .tuples ≡ sizes (args .t1) (args .members .now) = omega (arith, l .inv .1 .0, sum-end (size (networkOf (args .t1) [] [])) (args .members .now) (l .place) (c .before .loop-test .left)) in
     λ variables values.
     ap₂ (λ (a b : ℕ). a * b) done (c .wide3 .ensures .0)
     ∙ sym (needed-whole (networkOf (args .t1) variables values) (args .m) (args .members .now) (whole-combinations (args .m) (args .members .now) (args .t1 .count) (start .pre .1)))
@@ -126,7 +126,7 @@ needed-spec =
     element-copy-out-wide
     wide-requires-2
     add-tuples
-    add-i
+    add-place
     loop-less
     loop-again
     wide-requires-3
