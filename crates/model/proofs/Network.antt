@@ -1,4 +1,5 @@
 -- Laws of ids: a relation's ids are those whose relation it is. Laws of where a relation begins in the lists.
+-- From the definitions alone.
 use mathlib.Core.Path.{_≡_, refl, sym, _∙_, ap, subst}
 use mathlib.Core.Bool.{cond}
 use mathlib.Core.List.{List, [], _∷_, map, List·Memᴰ}
