@@ -1,4 +1,5 @@
 -- Laws of ids: a relation's ids are those whose relation it is. Laws of where a relation begins in the lists.
+-- From the definitions alone.
 use mathlib.Core.Path.{_≡_, ap}
 use mathlib.Core.List.{List, [], _∷_, map, List·Memᴰ}
 use Prim.Native.Nat.{ℕ, zero, suc, _+_, _-_, _≤_, _<_}
