@@ -1,8 +1,8 @@
 -- Laws of the waiting list: which pairs wait once a pair is put, and which pairs a combination adds.
 -- From the model's laws of live words, and the definitions of `others` and `queues`.
-use mathlib.Core.Path.{_≡_, refl, sym, _∙_, ap, subst}
-use mathlib.Core.Bool.{Bool, true, false, not, _&&_, _||_, or-false, and-true, and-false}
-use mathlib.Core.List.{List, [], _∷_}
+use mathlib.Core.Path.{_≡_, refl, sym, _∙_, ap}
+use mathlib.Core.Bool.{Bool, false, not, _&&_, _||_, or-false, and-true, and-false}
+use mathlib.Core.List.{List, _∷_}
 use Prim.Native.Nat.{ℕ, suc, _+_, _-_, _*_, _/_, _^_, _≤_, _<_}
 use native.Mathlib.Nat.{div-eq-of-lt-le, div-lt-iff-lt-mul, le-div-iff-mul-le, zero-div, zero-mul, add-div-right, mul-div-cancel, mul-le-mul-right}
 use native.Mathlib.Numerals.{add-one}
@@ -16,7 +16,7 @@ use lib.Seq.{drop-cons, take-nil}
 use borrow.Author.Tests.{lt-ltb, le-ltb, le-leb, lt-leb, eq-eqb, ne-eqb}
 use Rattle.model.specs.Limits.{maxPairs}
 use Rattle.model.specs.Lists.{elem}
-use Rattle.model.specs.Combination.{pairMember, pairCombination}
+use Rattle.model.specs.Combination.{pairMember}
 use Rattle.model.specs.LiveWords.{isLive, cleared, raised}
 use Rattle.model.proofs.LiveWords.{cleared-length, cleared-isLive, raised-length, raised-isLive, cleared-below, raised-below}
 use Rattle.engine.specs.Pairs.{Pairs, others, queues}
@@ -97,12 +97,12 @@ module _ (base : ℕ) (members : List ℕ) (r : ℕ) where
 -- the test of the pairs of one combination and of those before it, by the parts of the range
 block-more : (test : ℕ → Bool) (base end h : ℕ) (v : Bool) (members : List ℕ) (r : ℕ) → base ≤ end → (base ≤ h → h < end → test h ≡ (v && not (eqb (pairMember members h) r))) → (ltb h end && test h) ≡ (ltb h base && test h || (v && others base end members r h))
 unfolding others
-block-more test base end h v members r l same = go v same (decLt h base) (decLt h end)
+block-more test base end h v members r l same = go (decLt h base) (decLt h end)
   where
-    go : (v : Bool) → (base ≤ h → h < end → test h ≡ (v && not (eqb (pairMember members h) r))) → Dec (h < base) → Dec (h < end) → (ltb h end && test h) ≡ (ltb h base && test h || (v && (leb base h && ltb h end && not (eqb (pairMember members h) r))))
-    go v same (yes a) d = rw (lt-ltb h end (omega arith), lt-ltb h base a, lt-leb base h a, and-false, or-false)
-    go v same (no a) (yes b) = rw (lt-ltb h end b, le-ltb h base (omega arith), le-leb base h (omega arith)) (same (omega arith) b)
-    go v same (no a) (no b) = rw (le-ltb h end (omega arith), le-ltb h base (omega arith), le-leb base h (omega arith), and-false)
+    go : Dec (h < base) → Dec (h < end) → (ltb h end && test h) ≡ (ltb h base && test h || (v && (leb base h && ltb h end && not (eqb (pairMember members h) r))))
+    go (yes a) d = rw (lt-ltb h end (omega arith), lt-ltb h base a, lt-leb base h a, and-false, or-false)
+    go (no a) (yes b) = rw (lt-ltb h end b, le-ltb h base (omega arith), le-leb base h (omega arith)) (same (omega arith) b)
+    go (no a) (no b) = rw (le-ltb h end (omega arith), le-ltb h base (omega arith), le-leb base h (omega arith), and-false)
 
 -- a strike in pair p's combination queues pairs of the combination from base on
 abbrev pub visits : ℕ → List ℕ → ℕ → ℕ → Bool

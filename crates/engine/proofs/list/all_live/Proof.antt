@@ -1,9 +1,9 @@
 -- `list::all_live` meets its contract. The loop's invariant: the tuples from `k` on all live as all m of them do.
 -- From the contract of `live::is_live`.
-use mathlib.Core.Path.{_≡_, refl, sym, ap, _∙_}
-use mathlib.Core.Bool.{Bool, true, false, _&&_}
-use mathlib.Core.List.{List, _∷_}
-use Prim.Native.Nat.{ℕ, suc, _+_, _-_, _≤_, _<_}
+use mathlib.Core.Path.{_≡_, sym, ap, _∙_}
+use mathlib.Core.Bool.{Bool, _&&_}
+use mathlib.Core.List.{List}
+use Prim.Native.Nat.{ℕ, _+_, _-_, _≤_}
 use native.Mathlib.Nat.{sub-zero}
 use native.Mathlib.Omega.{arith}
 use lib.ListN.{getD}
@@ -22,8 +22,8 @@ lives words tuple-starts members base tuples k = isLive words (chosenId tuple-st
 
 abbrev Inv-loop : tie.InvT-loop
 Inv-loop words tuple-starts members base m tuples k₀ k =
-    (k ≤ m)
-    × (all (lives words tuple-starts members base tuples) (from k (m - k)) ≡ all (lives words tuple-starts members base tuples) (from 0 m))
+    (all (lives words tuple-starts members base tuples) (from k (m - k)) ≡ all (lives words tuple-starts members base tuples) (from 0 m))
+    × (k ≤ m)
 
 abbrev μ-loop : tie.MeasureT-loop
 μ-loop words tuple-starts members base m tuples k₀ k = m - k
@@ -44,10 +44,12 @@ answered c =
     let rest = all F (from (l .k + 1) (a .m - (l .k + 1))) in
     ap (λ (b : Bool). b && rest) (c .is-live .ensures ∙ ap (isLive (a .words .now)) (named (c .before)))
     ∙ sym (ap (all F) (from-cons (l .k) (a .m) (c .before .before .before .before .loop-test .taken)))
-    ∙ l .inv .1
+    ∙ l .inv .0
 
 loop-holds : tie.Need-loop-holds Inv-loop μ-loop
-loop-holds c = (search needs, ap (λ (n : ℕ). all (lives (c .before .before .args .words .now) (c .before .before .args .tuple-starts .now) (c .before .before .args .members .now) (c .before .before .args .base) (c .before .before .args .t6)) (from 0 n)) (sub-zero (c .before .before .args .m)))
+loop-holds c =
+    let a = c .before .before .args in
+    (ap (λ (n : ℕ). all (lives (a .words .now) (a .tuple-starts .now) (a .members .now) (a .base) (a .t6)) (from 0 n)) (sub-zero (a .m)), search needs)
 
 add-wide : tie.Need-add-wide Inv-loop μ-loop
 add-wide c = search needs
@@ -105,9 +107,9 @@ loop-again : tie.Need-loop-again Inv-loop μ-loop
 loop-again c =
     let a = c .before .before .before .before .before .before .before .before .before .args in
     let l = c .before .before .before .before .before .before .loop in (
-      search needs,
       ap (λ (b : Bool). b && all (lives (a .words .now) (a .tuple-starts .now) (a .members .now) (a .base) (a .t6)) (from (l .k + 1) (a .m - (l .k + 1)))) (sym (not-false (c .before .is-live .result) (c .if1 .left)))
           ∙ answered (c .before),
+      search needs,
     )
 
 returns-2 : tie.Need-returns-2 Inv-loop μ-loop
@@ -115,7 +117,7 @@ returns-2 c =
     let a = c .before .before .before .before .args in
     let l = c .before .loop in
     let e : a .m - l .k ≡ 0 = omega arith in
-    rw e at (l .inv .1)
+    rw e at (l .inv .0)
 
 pub all-live-spec : {M : Type 1} → statement M
 all-live-spec =

@@ -1,7 +1,6 @@
 -- `list::pair_starts` meets its contract. The loop's invariant: the pairs before `p` have their starts, and `at` is p's.
 -- From the laws of the tables of a network.
-use mathlib.Core.Path.{_≡_, refl, sym, ap, _∙_}
-use mathlib.Core.List.{List}
+use mathlib.Core.Path.{_≡_, refl, ap, _∙_}
 use Prim.Native.Nat.{ℕ, _+_, _-_, _*_, _≤_, _<_}
 use native.Mathlib.Omega.{arith}
 use lib.ListN.{length, getD, length-set}
@@ -127,7 +126,6 @@ loop-again c =
 
 returns : tie.Need-returns Inv-loop μ-loop
 returns c =
-    let a = c .before .before .before .args in
     let l = c .before .loop in
     λ N t p h. l .inv .1 .1 N t .1 p (omega arith)
 

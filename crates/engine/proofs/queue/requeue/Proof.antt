@@ -1,7 +1,7 @@
 -- `queue::requeue` meets its contract. The loop's invariant: of the pairs below `base`, those that the strike queues wait too.
 -- From the laws of the pairs that a strike queues, and the contracts of `holds` and `put_others`.
 use mathlib.Core.Path.{_≡_, sym, ap, subst, _∙_}
-use mathlib.Core.Bool.{Bool, true, false, _&&_, _||_, or-false, or-assoc}
+use mathlib.Core.Bool.{Bool, false, _&&_, _||_, or-false, or-assoc}
 use mathlib.Core.List.{List}
 use mathlib.Core.Logic.{⊎-elim}
 use Prim.Native.Nat.{ℕ, _+_, _-_, _*_, _/_, _≤_, _<_}
@@ -24,10 +24,8 @@ use Rattle.engine.proofs.queue.requeue.Tie as tie
 
 abbrev Inv-loop : tie.InvT-loop
 Inv-loop members m p m' p' r own queue₀ base₀ queue base =
-    (base / m * m ≡ base)
-    × ((base ≤ length members)
-    × (Words (queue .words)
-    × ((h : ℕ) → h < maxPairs → isLive (queue .words) h ≡ (isLive (queue₀ .words) h || (ltb h base && queues m members p h)))))
+    ((h : ℕ) → h < maxPairs → isLive (queue .words) h ≡ (isLive (queue₀ .words) h || (ltb h base && queues m members p h)))
+    × (Words (queue .words) × ((base / m * m ≡ base) × (base ≤ length members)))
 
 abbrev μ-loop : tie.MeasureT-loop
 μ-loop members m p m' p' r own queue₀ base₀ queue base = length members - base
@@ -36,7 +34,7 @@ abbrev μ-loop : tie.MeasureT-loop
 within : (c : tie.In-loop Inv-loop μ-loop) → (let a = c .before .before .before .before .args in c .before .loop .base + a .m ≤ length (a .members .now))
 within c =
     let a = c .before .before .before .before .args in
-    inside (a .m) (a .members .now) (a .p) (c .before .before .before .before .pre .0) (c .before .loop .base) (c .before .loop .inv .0) (c .loop-test .taken)
+    inside (a .m) (a .members .now) (a .p) (c .before .before .before .before .pre .0) (c .before .loop .base) (c .before .loop .inv .1 .1 .0) (c .loop-test .taken)
 
 -- what holds of the list after a turn
 abbrev Turned : tie.Joined1 Inv-loop μ-loop → Type 0
@@ -53,7 +51,7 @@ unturned c e v =
     let l = c .before .before .loop in
     let more = others (l .base) (l .base + a .m) (a .members .now) (pairMember (a .members .now) (a .p)) in
     let q = ap (λ (x : Queue). x .words) e in (
-      subst Words (sym q) (l .inv .1 .1 .0),
+      subst Words (sym q) (l .inv .1 .0),
       λ h b.
           ap (λ (vs : List ℕ). isLive vs h) q
           ∙ sym (ap (λ (x : Bool). isLive (l .queue .words) h || (x && more h)) v ∙ or-false (isLive (l .queue .words) h)),
@@ -80,13 +78,13 @@ turned c =
       «put-others» = w .3;
     }
     in
-    let v = visits-other (a .m) (a .members .now) (a .p) pairs (l .base) (l .inv .0) (w .0 .taken) ∙ sym (w .1 .ensures) ∙ w .2 .taken in (
+    let v = visits-other (a .m) (a .members .now) (a .p) pairs (l .base) (l .inv .1 .1 .0) (w .0 .taken) ∙ sym (w .1 .ensures) ∙ w .2 .taken in (
       subst Words (sym q) (put-others-words at),
       λ h b. ap (λ (vs : List ℕ). isLive vs h) q ∙ w .3 .ensures h b ∙ sym (ap (λ (x : Bool). isLive (l .queue .words) h || (x && more h)) v),
     ))
     (λ w. ⊎-elim
     {C = Turned c}
-    (λ u. unturned c (u .3) (visits-other (a .m) (a .members .now) (a .p) pairs (l .base) (l .inv .0) (u .0 .taken) ∙ sym (u .1 .ensures) ∙ u .2 .left))
+    (λ u. unturned c (u .3) (visits-other (a .m) (a .members .now) (a .p) pairs (l .base) (l .inv .1 .1 .0) (u .0 .taken) ∙ sym (u .1 .ensures) ∙ u .2 .left))
     (λ u. unturned c (u .1) (visits-own (a .m) (a .members .now) (a .p) pairs (l .base) (u .0 .left)))
     w)
     (c .if1 .came)
@@ -108,7 +106,9 @@ loop-holds c =
     let a = c .before .before .args in
     let ws = a .queue .words in
     let f : (i : ℕ) → Fits w64 (getD ws i 0) = λ i. search needs in
-    (first-base (a .m), (search needs, (words-of ws (search needs) f, λ h l. sym (ap (λ (b : Bool). isLive ws h || (b && queues (a .m) (a .members .now) (a .p) h)) (le-ltb h 0 (omega arith)) ∙ or-false (isLive ws h)))))
+    let none : (h : ℕ) → (isLive ws h || (ltb h 0 && queues (a .m) (a .members .now) (a .p) h)) ≡ isLive ws h =
+    λ h. ap (λ (b : Bool). isLive ws h || (b && queues (a .m) (a .members .now) (a .p) h)) (le-ltb h 0 (omega arith)) ∙ or-false (isLive ws h) in
+    (λ h l. sym (none h), (words-of ws (search needs) f, (first-base (a .m), search needs)))
 
 holds-requires : tie.Need-holds-requires Inv-loop μ-loop
 holds-requires c κs = within (c .before)
@@ -130,18 +130,12 @@ loop-again c =
     let pairs = c .before .before .before .before .before .pre .0 in
     let l = c .before .before .loop in
     let t = turned c in (
-      next-base (a .m) (a .members .now) (a .p) pairs (l .base) (l .inv .0),
-      (
-        within (c .before),
-        (
-          t .0,
-          λ h b.
-              t .1 h b
-              ∙ ap (λ (x : Bool). x || adds (a .m) (a .members .now) (a .p) (l .base) h) (l .inv .1 .1 .1 h b)
-              ∙ or-assoc (isLive (a .queue .words) h) (ltb h (l .base) && queues (a .m) (a .members .now) (a .p) h) (adds (a .m) (a .members .now) (a .p) (l .base) h)
-              ∙ ap (λ (x : Bool). isLive (a .queue .words) h || x) (sym (queues-more (a .m) (a .members .now) (a .p) pairs (l .base) h (l .inv .0))),
-        ),
-      ),
+      λ h b.
+          t .1 h b
+          ∙ ap (λ (x : Bool). x || adds (a .m) (a .members .now) (a .p) (l .base) h) (l .inv .0 h b)
+          ∙ or-assoc (isLive (a .queue .words) h) (ltb h (l .base) && queues (a .m) (a .members .now) (a .p) h) (adds (a .m) (a .members .now) (a .p) (l .base) h)
+          ∙ ap (λ (x : Bool). isLive (a .queue .words) h || x) (sym (queues-more (a .m) (a .members .now) (a .p) pairs (l .base) h (l .inv .1 .1 .0))),
+      (t .0, (next-base (a .m) (a .members .now) (a .p) pairs (l .base) (l .inv .1 .1 .0), within (c .before))),
     )
 
 returns : tie.Need-returns Inv-loop μ-loop
@@ -149,7 +143,7 @@ returns c =
     let a = c .before .before .before .before .args in
     let pairs = c .before .before .before .before .pre .0 in
     let l = c .before .loop in
-    λ q h. l .inv .1 .1 .1 q h ∙ ap (λ (x : Bool). isLive (a .queue .words) q || x) (queues-all (a .m) (a .members .now) (a .p) pairs (l .base) q (omega arith))
+    λ q h. l .inv .0 q h ∙ ap (λ (x : Bool). isLive (a .queue .words) q || x) (queues-all (a .m) (a .members .now) (a .p) pairs (l .base) q (omega arith))
 
 pub requeue-spec : {M : Type 1} → statement M
 requeue-spec =
