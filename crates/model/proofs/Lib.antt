@@ -7,6 +7,7 @@ pub mod Agreement
 pub mod Fault
 pub mod LiveWords
 pub mod Support
+pub mod Search
 pub mod Consistency
 pub mod Solution
 pub mod Locality

@@ -1,12 +1,13 @@
 -- Tests over lists against membership, and the choices of one element from each list.
 use mathlib.Core.Path.{_≡_, refl, sym, _∙_, ap, subst}
 use mathlib.Core.Bool.{Bool, true, false, not, _&&_, _||_, false≢true}
-use mathlib.Core.List.{List, [], _∷_, _++_, map, map-append, List·Memᴰ, List·Memᴰ·head, List·Memᴰ·tail, List·Memᴰ·eq-of-singleton, List·Memᴰ·cases-cons, List·Memᴰ·append-cases, Memᴰ·append-left, Memᴰ·append-right, Memᴰ·map, Memᴰ·of-map, Memᴰ·cast, List·Memᴰ·not-nil}
+use mathlib.Core.Option.{orElse, Option·getD}
+use mathlib.Core.List.{List, [], _∷_, _++_, map, map-append, head?, List·Memᴰ, List·Memᴰ·head, List·Memᴰ·tail, List·Memᴰ·eq-of-singleton, List·Memᴰ·cases-cons, List·Memᴰ·append-cases, Memᴰ·append-left, Memᴰ·append-right, Memᴰ·map, Memᴰ·of-map, Memᴰ·cast, List·Memᴰ·not-nil}
 use mathlib.Core.Logic.{_⊎_, inl, inr, ⊎-elim}
 use Prim.Native.Nat.{ℕ, zero, suc, _+_, _≤_, _<_}
 use native.Mathlib.Omega.{arith}
 use native.Mathlib.Decide.{ℕ-discrete}
-use native.Mathlib.Nat.{add-zero, add-suc, suc-add, le-of-suc-le-suc}
+use native.Mathlib.Nat.{add-zero, zero-add, add-suc, suc-add, le-of-suc-le-suc}
 use lib.Dec.{ltb, eqb}
 use lib.ListN.{length, getD}
 use borrow.Author.Tests.{eqb-true, eq-eqb, ltb-true, lt-ltb}
@@ -63,6 +64,28 @@ module _ {ℓ} {A : Type ℓ} where
   pairwise-after r [] t ys p = and-left (all (r t) ys) (pairwise r ys) p
   pairwise-after r (x ∷ xs) t ys p = pairwise-after r xs t ys (and-right (all (r x) (xs ++ (t ∷ ys))) (pairwise r (xs ++ (t ∷ ys))) p)
 
+  -- what stands in the first part is in the relation to what stands in the second
+  pub pairwise-cross : (r : A → A → Bool) (xs ys : List A) {x y : A} → pairwise r (xs ++ ys) ≡ true → List·Memᴰ x xs → List·Memᴰ y ys → r x y ≡ true
+  pairwise-cross r [] ys p m n = absurd (List·Memᴰ·not-nil m)
+  pairwise-cross r (z ∷ xs) ys {y = y} p m n =
+      ⊎-elim
+      (λ e. ap (λ (x : A). r x y) e ∙ all-at (r z) (xs ++ ys) (and-left (all (r z) (xs ++ ys)) (pairwise r (xs ++ ys)) p) (Memᴰ·append-right xs n))
+      (λ h. pairwise-cross r xs ys (and-right (all (r z) (xs ++ ys)) (pairwise r (xs ++ ys)) p) h n)
+      (List·Memᴰ·cases-cons m)
+
+  -- two different elements are in the relation, if it is symmetric
+  pub pairwise-at : (r : A → A → Bool) → ((x y : A) → r x y ≡ r y x) → (xs : List A) {x y : A} → pairwise r xs ≡ true → List·Memᴰ x xs → List·Memᴰ y xs → (x ≡ y → ⊥) → r x y ≡ true
+  pairwise-at r s [] p m n d = absurd (List·Memᴰ·not-nil m)
+  pairwise-at r s (z ∷ xs) {x} {y} p m n d =
+      let first = and-left (all (r z) xs) (pairwise r xs) p in
+      ⊎-elim
+      (λ ex. ⊎-elim (λ ey. absurd (d (ex ∙ sym ey))) (λ hy. ap (λ (w : A). r w y) ex ∙ all-at (r z) xs first hy) (List·Memᴰ·cases-cons n))
+      (λ hx. ⊎-elim
+      (λ ey. s x y ∙ ap (λ (w : A). r w x) ey ∙ all-at (r z) xs first hx)
+      (λ hy. pairwise-at r s xs (and-right (all (r z) xs) (pairwise r xs) p) hx hy d)
+      (List·Memᴰ·cases-cons n))
+      (List·Memᴰ·cases-cons m)
+
   -- one element of each list
   pub data Picks : List (List A) → List A → Type ℓ where
     done : Picks [] []
@@ -92,9 +115,38 @@ module _ {ℓ} {A : Type ℓ} where
   picks-choices done = List·Memᴰ·head refl
   picks-choices (pick {xs} {xss} m p) = in-prefixed xs (choices xss) m (picks-choices p)
 
+  pub picks-append : {xss yss : List (List A)} {t u : List A} → Picks xss t → Picks yss u → Picks (xss ++ yss) (t ++ u)
+  picks-append done q = q
+  picks-append (pick m p) q = pick m (picks-append p q)
+
 -- ---- Selection
 
+module _ {ℓ} {A : Type ℓ} where
+  pub head-append : (xs ys : List A) → head? (xs ++ ys) ≡ orElse (head? xs) (head? ys)
+  unfolding orElse
+  head-append [] ys = refl
+  head-append (x ∷ xs) ys = refl
+
+  pub firstOr-head : (d : A) (xs : List A) → firstOr d xs ≡ Option·getD (head? xs) d
+  firstOr-head d [] = refl
+  firstOr-head d (x ∷ xs) = refl
+
 module _ {ℓ} {A : Type ℓ} (p : A → Bool) where
+  keepIf-append : (b : Bool) (x : A) (xs ys : List A) → keepIf b x (xs ++ ys) ≡ keepIf b x xs ++ ys
+  keepIf-append true x xs ys = refl
+  keepIf-append false x xs ys = refl
+
+  pub select-append : (xs ys : List A) → select p (xs ++ ys) ≡ select p xs ++ select p ys
+  select-append [] ys = refl
+  select-append (x ∷ xs) ys = ap (keepIf (p x) x) (select-append xs ys) ∙ keepIf-append (p x) x (select p xs) (select p ys)
+
+  -- all is selected where all passes
+  pub select-all : (xs : List A) → all p xs ≡ true → select p xs ≡ xs
+  select-all [] e = refl
+  select-all (x ∷ xs) e =
+      ap (λ (b : Bool). keepIf b x (select p xs)) (and-left (p x) (all p xs) e)
+      ∙ ap {B = List A} (λ t. x ∷ t) (select-all xs (and-right (p x) (all p xs) e))
+
   keepIf-mem : (y : A) (xs : List A) {x : A} → (List·Memᴰ x (select p xs) → List·Memᴰ x xs × (p x ≡ true)) → (v : Bool) → p y ≡ v → List·Memᴰ x (keepIf v y (select p xs)) → List·Memᴰ x (y ∷ xs) × (p x ≡ true)
   keepIf-mem y xs f true e m =
       ⊎-elim (λ q. (List·Memᴰ·head q, ap p q ∙ e)) (λ h. (List·Memᴰ·tail (f h .0), f h .1)) (List·Memᴰ·cases-cons m)
@@ -174,6 +226,12 @@ pub length-from : (i n : ℕ) → length (from i n) ≡ n
 length-from i zero = refl
 length-from i (suc n) = ap suc (length-from (suc i) n)
 
+pub from-append : (i m n : ℕ) → from i (m + n) ≡ from i m ++ from (i + m) n
+from-append i zero n = simp (zero-add, add-zero)
+from-append i (suc m) n =
+    let e : suc i + m ≡ i + suc m = omega arith in
+    rw suc-add (ap {B = List ℕ} (λ t. i ∷ t) (from-append (suc i) m n ∙ ap (λ (k : ℕ). from (suc i) m ++ from k n) e))
+
 pub getD-map-from {ℓ} : {A : Type ℓ} (f : ℕ → A) (i n k : ℕ) (d : A) → k < n → getD (map f (from i n)) k d ≡ f (i + k)
 getD-map-from f i zero k d h = absurd (omega arith)
 getD-map-from f i (suc n) zero d h = rw add-zero
@@ -241,6 +299,16 @@ earlier-same x t u e = or-right (ltb x x) (and-intro (eq-eqb x x refl) e)
 
 earlier-less : (x y : ℕ) (t u : List ℕ) → x < y → earlier (x ∷ t) (y ∷ u) ≡ true
 earlier-less x y t u h = or-left (eqb x y && earlier t u) (lt-ltb x y h)
+
+-- what is earlier by its first elements is earlier, however it goes on
+pub earlier-append : (xs t ys : List ℕ) → earlier xs ys ≡ true → earlier (xs ++ t) ys ≡ true
+earlier-append [] t ys e = absurd (false≢true e)
+earlier-append (x ∷ xs) t [] e = absurd (false≢true e)
+earlier-append (x ∷ xs) t (y ∷ ys) e =
+    ⊎-elim
+    (λ h. or-left (eqb x y && earlier (xs ++ t) ys) h)
+    (λ h. or-right (ltb x y) (and-intro (and-left (eqb x y) (earlier xs ys) h) (earlier-append xs t ys (and-right (eqb x y) (earlier xs ys) h))))
+    (or-cases (ltb x y) (eqb x y && earlier xs ys) e)
 
 prefix-earlier : (x : ℕ) (ts : List (List ℕ)) → pairwise earlier ts ≡ true → pairwise earlier (map (λ (t : List ℕ). x ∷ t) ts) ≡ true
 prefix-earlier x [] e = refl
