@@ -3,14 +3,14 @@
 use mathlib.Core.Path.{_≡_, refl, sym, _∙_, ap, ap₂}
 use mathlib.Core.Bool.{Bool, true, false, not, _&&_, and-false}
 use mathlib.Core.List.{List, [], _∷_, List·Memᴰ}
-use Prim.Native.Nat.{ℕ, zero, suc, _+_, _-_, _≤_, _<_}
+use Prim.Native.Nat.{ℕ, zero, suc, _+_, _<_}
 use native.Mathlib.Nat.{le-of-suc-le-suc}
 use native.Mathlib.Omega.{arith}
 use lib.Dec.{eqb}
 use lib.ListN.{length, getD}
 use borrow.Author.Tests.{eq-eqb, ne-eqb, eqb-true, not-true}
 use Rattle.model.specs.Lists.{all}
-use Rattle.model.specs.Network.{Network, size, firstId, relationOf, indexOf, scopeOf, valuesAt, tupleOf}
+use Rattle.model.specs.Network.{Network, size, firstId, scopeOf, valuesAt, tupleOf}
 use Rattle.model.specs.Agreement.{Cell, fit, cells, clash, agreeing, cellsOf, agree}
 use Rattle.model.proofs.Bools.{and-intro, iff-eq}
 use Rattle.model.proofs.Lists.{all-at, all-intro}

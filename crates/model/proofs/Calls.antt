@@ -3,23 +3,22 @@
 use mathlib.Core.Path.{_≡_, refl, sym, _∙_, ap, subst, fun-ext}
 use mathlib.Core.Bool.{Bool, true, false, _&&_, _||_, cond, or-false, or-assoc, false≢true, true≢false}
 use mathlib.Core.Option.{Option, none, some}
-use mathlib.Core.Logic.{_⊎_, inl, inr, ⊎-elim}
-use mathlib.Core.List.{List, [], _∷_, List·Memᴰ, List·Memᴰ·tail}
-use Prim.Native.Nat.{ℕ, _+_, _*_, _≤_, _<_}
+use mathlib.Core.Logic.{_⊎_, inl, inr}
+use mathlib.Core.List.{List, [], _∷_, List·Memᴰ·tail}
+use Prim.Native.Nat.{ℕ, _+_, _*_, _≤_}
 use native.Mathlib.Omega.{arith}
 use lib.ListN.{length}
 use Rattle.model.specs.declared.Counts.{Counts}
 use Rattle.model.specs.Limits.{wordBits}
-use Rattle.model.specs.Lists.{any}
 use Rattle.model.specs.TupleSet.{TupleSet, count, without}
 use Rattle.model.specs.Network.{Network, total}
 use Rattle.model.specs.Combination.{Combination}
 use Rattle.model.specs.Consistency.{filtered}
 use Rattle.model.specs.LiveWords.{living, written}
-use Rattle.model.specs.Request.{Change, Instance, combinationsOf, Request, removes}
+use Rattle.model.specs.Request.{Change, Instance, combinationsOf, removes}
 use Rattle.model.specs.Fault.{firstFault, faultsOn, faults, isNone, accepts}
 use Rattle.model.specs.Reply.{Reply, remainder, countsFor, leaving, accepted, reply}
-use Rattle.model.specs.Calls.{Call, lentWords, request, sharedAfter, Proper, State, start, make, makeAll, anyAccepted, removedBy, starting, remaining}
+use Rattle.model.specs.Calls.{Call, lentWords, request, sharedAfter, Proper, State, start, make, makeAll, anyAccepted, removedBy, starting}
 use Rattle.model.proofs.Bools.{not-both}
 use Rattle.model.proofs.Lists.{here}
 use Rattle.model.proofs.TupleSet.{without-without, without-length}

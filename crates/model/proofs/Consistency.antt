@@ -1,19 +1,18 @@
 -- Laws of R(*,m)C: the rule read off and shown, that it is monotone, and the test of consistency.
-use mathlib.Core.Path.{_≡_, refl, sym, _∙_, ap}
-use mathlib.Core.Bool.{Bool, true, false, not, _||_}
-use mathlib.Core.List.{List, [], _∷_, _++_, map, List·Memᴰ, List·Memᴰ·tail}
+use mathlib.Core.Path.{_≡_, refl, _∙_, ap, subst}
+use mathlib.Core.Bool.{Bool, true, not, _||_}
+use mathlib.Core.List.{List, [], _∷_, map, List·Memᴰ, List·Memᴰ·tail}
 use mathlib.Core.Logic.{_↔_}
-use Prim.Native.Nat.{ℕ, _+_, _*_, _≤_, _<_}
-use native.Mathlib.Nat.{zero-add}
+use Prim.Native.Nat.{ℕ, _+_, _*_, _≤_}
 use native.Mathlib.Omega.{arith}
 use lib.ListN.{length, length-append}
-use Rattle.model.specs.Lists.{from, sum, all, any, elem, each}
+use Rattle.model.specs.Lists.{from, sum, any, elem, each}
 use Rattle.model.specs.TupleSet.{TupleSet, has, count, without, Inside, Consistent, Largest}
 use Rattle.model.specs.Network.{Network, size, firstId, idsOf, relationOf}
 use Rattle.model.specs.Combination.{Combination}
 use Rattle.model.specs.Support.{candidates, isSupport, firstSupport}
 use Rattle.model.specs.Consistency.{supported, isConsistent, filtered, supportList, needed}
-use Rattle.model.proofs.Bools.{implies-intro, implies-elim}
+use Rattle.model.proofs.Bools.{iff-eq, implies-intro, implies-elim}
 use Rattle.model.proofs.Lists.{here, all-at, all-intro, any-at, any-intro, elem-mem, mem-elem, mem-from, length-from}
 use Rattle.model.proofs.TupleSet.{Monotone, has-below, closure-length, closure-count, closure-largest, largest-unique, closure-mono, closure-closure, closure-of-consistent, closure-without, closure-keeps}
 use Rattle.model.proofs.Support.{Supported, isSupport-mono, firstSupport-length}
@@ -92,19 +91,25 @@ module _ (N : Network) (cs : List Combination) where
   unfolding filtered
   filtered-keeps K stay S = closure-keeps (supported N cs) K stay S
 
+  -- a relation in no combination keeps its tuples
+  pub filtered-alone : (S : TupleSet) (g : ℕ) → ((c : Combination) → List·Memᴰ c cs → List·Memᴰ (relationOf N g) c → ⊥) → has (filtered N cs S) g ≡ has S g
+  filtered-alone S g alone =
+      iff-eq (has (filtered N cs S) g) (has S g) (filtered-largest S .inside g)
+      (λ e. filtered-keeps (λ h. h ≡ g) (λ X lives h q. supported-intro X h (λ c m n. absurd (alone c m (subst (λ (x : ℕ). List·Memᴰ (relationOf N x) c) q n)))) S (λ h q. ap (has S) q ∙ e) g refl)
+
 -- ---- The support list
 
 module _ {A : Type 0} where
-  each-length : (f : A → List ℕ) (n : A → ℕ) (xs : List A) → ((x : A) → List·Memᴰ x xs → length (f x) ≡ n x) → length (each f xs) ≡ sum (map n xs)
+  pub each-length : (f : A → List ℕ) (n : A → ℕ) (xs : List A) → ((x : A) → List·Memᴰ x xs → length (f x) ≡ n x) → length (each f xs) ≡ sum (map n xs)
   each-length f n [] h = refl
   each-length f n (x ∷ xs) h =
       length-append (f x) (each f xs) ∙ ap (λ (k : ℕ). k + length (each f xs)) (h x here) ∙ ap (λ (k : ℕ). n x + k) (each-length f n xs (λ y m. h y (List·Memᴰ·tail m)))
 
-sum-times : (f : ℕ → ℕ) (k : ℕ) (xs : List ℕ) → sum (map (λ (x : ℕ). f x * k) xs) ≡ sum (map f xs) * k
+pub sum-times : (f : ℕ → ℕ) (k : ℕ) (xs : List ℕ) → sum (map (λ (x : ℕ). f x * k) xs) ≡ sum (map f xs) * k
 sum-times f k [] = omega arith
 sum-times f k (x ∷ xs) = omega (arith, sum-times f k xs)
 
-sum-same : (k : ℕ) (xs : List ℕ) → sum (map (λ (x : ℕ). k) xs) ≡ length xs * k
+pub sum-same : (k : ℕ) (xs : List ℕ) → sum (map (λ (x : ℕ). k) xs) ≡ length xs * k
 sum-same k [] = omega arith
 sum-same k (x ∷ xs) = omega (arith, sum-same k xs)
 

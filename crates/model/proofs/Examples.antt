@@ -3,7 +3,7 @@
 use mathlib.Core.Path.{_≡_, refl, sym, _∙_, ap, subst}
 use mathlib.Core.Bool.{true}
 use mathlib.Core.List.{List, []}
-use Prim.Native.Nat.{ℕ, _<_}
+use Prim.Native.Nat.{ℕ}
 use native.Mathlib.Omega.{arith}
 use lib.ListN.{getD}
 use Rattle.model.specs.TupleSet.{TupleSet}
@@ -12,7 +12,7 @@ use Rattle.model.specs.Solution.{Assignment, isSolution}
 use Rattle.model.specs.LiveWords.{living}
 use Rattle.model.specs.Request.{removes}
 use Rattle.model.specs.Fault.{accepts}
-use Rattle.model.specs.Reply.{Numbers, reply}
+use Rattle.model.specs.Reply.{reply}
 use Rattle.model.specs.Promises.{givenTuples, leftTuples}
 use Rattle.model.specs.Examples.{relation, triangle, asked, numbers, p6, p7, Seen, table, given, said, examples}
 use Rattle.model.proofs.TupleSet.{without-none}

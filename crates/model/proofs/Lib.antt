@@ -9,6 +9,8 @@ pub mod LiveWords
 pub mod Support
 pub mod Search
 pub mod Consistency
+pub mod SupportList
+pub mod Work
 pub mod Solution
 pub mod Locality
 pub mod Reply

@@ -1,15 +1,16 @@
 -- Tests over lists against membership, and the choices of one element from each list.
 use mathlib.Core.Path.{_≡_, refl, sym, _∙_, ap, subst}
-use mathlib.Core.Bool.{Bool, true, false, not, _&&_, _||_, false≢true}
+use mathlib.Core.Bool.{Bool, true, false, _&&_, _||_, false≢true}
 use mathlib.Core.Option.{orElse, Option·getD}
 use mathlib.Core.List.{List, [], _∷_, _++_, map, map-append, head?, List·Memᴰ, List·Memᴰ·head, List·Memᴰ·tail, List·Memᴰ·eq-of-singleton, List·Memᴰ·cases-cons, List·Memᴰ·append-cases, Memᴰ·append-left, Memᴰ·append-right, Memᴰ·map, Memᴰ·of-map, Memᴰ·cast, List·Memᴰ·not-nil}
-use mathlib.Core.Logic.{_⊎_, inl, inr, ⊎-elim}
+use mathlib.Core.Logic.{⊎-elim}
 use Prim.Native.Nat.{ℕ, zero, suc, _+_, _≤_, _<_}
 use native.Mathlib.Omega.{arith}
 use native.Mathlib.Decide.{ℕ-discrete}
 use native.Mathlib.Nat.{add-zero, zero-add, add-suc, suc-add, le-of-suc-le-suc}
 use lib.Dec.{ltb, eqb}
-use lib.ListN.{length, getD}
+use lib.ListN.{length, getD, take, drop}
+use lib.Seq.{drop-cons}
 use borrow.Author.Tests.{eqb-true, eq-eqb, ltb-true, lt-ltb}
 use Rattle.model.specs.Lists.{all, any, elem, from, select, keepIf, firstOr, pairwise, choices, prefixed, earlier}
 use Rattle.model.proofs.Bools.{and-left, and-right, and-intro, or-left, or-right, or-cases}
@@ -120,6 +121,11 @@ module _ {ℓ} {A : Type ℓ} where
   picks-append (pick m p) q = pick m (picks-append p q)
 
 -- ---- Selection
+
+-- tests that say the same of the list's elements select the same
+pub select-cong {ℓ} : {A : Type ℓ} (p q : A → Bool) (xs : List A) → ((x : A) → List·Memᴰ x xs → p x ≡ q x) → select p xs ≡ select q xs
+select-cong p q [] f = refl
+select-cong p q (x ∷ xs) f = ap (λ b. keepIf b x (select p xs)) (f x here) ∙ ap (keepIf (q x) x) (select-cong p q xs (λ y m. f y (List·Memᴰ·tail m)))
 
 module _ {ℓ} {A : Type ℓ} where
   pub head-append : (xs ys : List A) → head? (xs ++ ys) ≡ orElse (head? xs) (head? ys)
@@ -338,3 +344,10 @@ pub from-rises : (i n : ℕ) → pairwise ltb (from i n) ≡ true
 from-rises i zero = refl
 from-rises i (suc n) =
     and-intro (all-intro (ltb i) (from (suc i) n) (λ x m. lt-ltb i x (omega (arith, from-mem (suc i) n x m)))) (from-rises (suc i) n)
+
+-- f of the first n elements from place i on, by places
+pub map-places {ℓ} : {A : Type ℓ} (f : ℕ → A) (xs : List ℕ) (n i : ℕ) → i + n ≤ length xs → map (λ (k : ℕ). f (getD xs k 0)) (from i n) ≡ map f (take n (drop i xs))
+map-places f xs zero i h = refl
+map-places {A = A} f xs (suc n) i h =
+    ap {B = List A} (λ t. f (getD xs i 0) ∷ t) (map-places f xs n (suc i) (omega arith))
+    ∙ ap (λ (t : List ℕ). map f (take (suc n) t)) (sym (drop-cons xs i 0 (omega arith)))

@@ -1,9 +1,8 @@
 -- Filtering reaches only the relations that a chain of combinations joins to a removed tuple.
-use mathlib.Core.Path.{_≡_, refl, sym, _∙_, ap}
+use mathlib.Core.Path.{_≡_, refl, ap}
 use mathlib.Core.Bool.{Bool, true, false, not}
-use mathlib.Core.List.{List, List·Memᴰ}
+use mathlib.Core.List.{List}
 use Prim.Native.Nat.{ℕ}
-use Rattle.model.specs.Lists.{all}
 use Rattle.model.specs.TupleSet.{TupleSet, has, without, Consistent}
 use Rattle.model.specs.Network.{Network, relationOf}
 use Rattle.model.specs.Combination.{Combination, Chain, stop, link}

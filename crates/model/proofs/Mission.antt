@@ -1,18 +1,16 @@
 -- Mission points 1, 2 and 3, proved of `reply` for every request and every list of calls: read this module first. The
 -- statements are the records of specs/Promises.antt; no hypothesis is left that "no listed fault" gives.
 use mathlib.Core.Path.{_≡_, refl, sym, _∙_, ap, subst}
-use mathlib.Core.Bool.{Bool, true, false, not, cond}
+use mathlib.Core.Bool.{Bool, true, false, cond}
 use mathlib.Core.Option.{Option, none}
-use mathlib.Core.Logic.{_⊎_, inl, inr}
+use mathlib.Core.Logic.{_⊎_}
 use mathlib.Core.List.{List, [], _∷_, _++_, map, List·Memᴰ}
-use Prim.Native.Nat.{ℕ, _+_, _*_, _≤_, _<_}
+use Prim.Native.Nat.{ℕ, _+_}
 use native.Mathlib.Omega.{arith}
 use native.Mathlib.Decide.{decLt}
-use lib.Dec.{ltb}
 use lib.ListN.{length, drop}
 use borrow.Author.Tests.{lt-ltb, not-true}
 use Rattle.model.specs.declared.Counts.{Counts}
-use Rattle.model.specs.Limits.{wordBits}
 use Rattle.model.specs.Lists.{from, any}
 use Rattle.model.specs.TupleSet.{TupleSet, has, count, without, Largest, Consistent}
 use Rattle.model.specs.Network.{Network, total, idsOf, relationOf}
@@ -20,22 +18,21 @@ use Rattle.model.specs.Combination.{Combination, Chain}
 use Rattle.model.specs.Consistency.{supported, filtered, supportList, needed}
 use Rattle.model.specs.Solution.{Assignment, isSolution}
 use Rattle.model.specs.LiveWords.{isLive, living, written}
-use Rattle.model.specs.Request.{Change, filter, withdraw, choose, Instance, combinationsOf, Request, removes}
+use Rattle.model.specs.Request.{filter, withdraw, choose, Instance, combinationsOf, Request, removes}
 use Rattle.model.specs.Fault.{Fault, firstFault, faultsOn, faults, testFaults, compareFaults, accepts}
-use Rattle.model.specs.Reply.{Reply, lowestEmpty, answerFor, answerNumbers, remainder, countsFor, leaving, accepted, refused, replyTo, reply}
+use Rattle.model.specs.Reply.{Reply, lowestEmpty, answerFor, answerNumbers, remainder, countsFor, leaving, accepted, replyTo, reply}
 use Rattle.model.specs.Calls.{Call, Proper, State, start, makeAll, anyAccepted, removedBy, starting, remaining}
 use Rattle.model.specs.Promises.{Tells, Marked, Supports, Answered, givenTuples, leftTuples, Filtered, StrikeRule, Apart, Local}
-use Rattle.model.proofs.Lists.{mem-from, from-mem}
 use Rattle.model.proofs.TupleSet.{without-length}
 use Rattle.model.proofs.Network.{relationOf-ids, ids-below}
 use Rattle.model.proofs.Support.{firstSupport-dead, firstSupport-least}
-use Rattle.model.proofs.Consistency.{supported-at, filtered-largest, filtered-unique, supportList-length}
+use Rattle.model.proofs.Consistency.{supported-at, filtered-largest, filtered-unique, filtered-alone, supportList-length}
 use Rattle.model.proofs.Solution.{isSolution-filtered, isSolution-empty}
 use Rattle.model.proofs.Locality.{filtered-far}
-use Rattle.model.proofs.LiveWords.{written-isLive, written-length, written-written, living-written, living-length, living-has}
+use Rattle.model.proofs.LiveWords.{written-isLive, written-length, living-written, living-length, living-has}
 use Rattle.model.proofs.Fault.{none-firstFault, firstFault-some, accepts-words, accepts-exist}
 use Rattle.model.proofs.Reply.{reply-accepted, lowestEmpty-first, answerFor-tells, answerFor-kind, emptied-low, remainder-length, leaving-sum}
-use Rattle.model.proofs.Calls.{After, makeAll-accepted, makeAll-none}
+use Rattle.model.proofs.Calls.{makeAll-accepted, makeAll-none}
 
 -- ---- The calls' faults, in checking order
 
@@ -128,6 +125,10 @@ module _ (q : Request) where
     unfolding remainder
     only-left T l m = filtered-unique N cs (givenTuples q) T (l ∙ sym given-length) m
 
+    alone-left : (g : ℕ) → ((c : Combination) → List·Memᴰ c cs → List·Memᴰ (relationOf N g) c → ⊥) → has left g ≡ has (givenTuples q) g
+    unfolding remainder
+    alone-left g h = filtered-alone N cs (givenTuples q) g h
+
     solution-left : (a : Assignment) → isSolution N (givenTuples q) a ≡ true → isSolution N left a ≡ true
     unfolding remainder
     solution-left a s = isSolution-filtered N a cs (accepts-exist q e) (givenTuples q) given-length s
@@ -148,6 +149,7 @@ module _ (q : Request) where
         record {
           largest = subst (Largest (supported N cs) (givenTuples q)) (sym leftTuples-is) largest-left;
           only = λ T l m. only-left T l m ∙ sym leftTuples-is;
+          alone = λ g h. ap (λ (X : TupleSet). has X g) leftTuples-is ∙ alone-left g h;
           solutions = λ a s. subst (λ (X : TupleSet). isSolution N X a ≡ true) (sym leftTuples-is) (solution-left a s);
           none = no-solution;
           tells = subst (λ (p : Reply). Tells N (leftTuples q) (p .answer)) (sym (reply-accepted q e)) (subst (λ (X : TupleSet). Tells N X (answerNumbers (answerFor N left counts))) (sym leftTuples-is) (answerFor-tells N left counts refl));

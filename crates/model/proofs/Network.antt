@@ -1,18 +1,16 @@
 -- Laws of ids: a relation's ids are those whose relation it is. Laws of where a relation begins in the lists.
-use mathlib.Core.Path.{_≡_, refl, sym, _∙_, ap, subst}
-use mathlib.Core.Bool.{cond}
+use mathlib.Core.Path.{_≡_, ap}
 use mathlib.Core.List.{List, [], _∷_, map, List·Memᴰ}
-use Prim.Native.Nat.{ℕ, zero, suc, _+_, _-_, _*_, _≤_, _<_}
-use native.Mathlib.Nat.{le-of-suc-le-suc, mul-le-mul-right, mul-add}
+use Prim.Native.Nat.{ℕ, zero, suc, _+_, _-_, _≤_, _<_}
+use native.Mathlib.Nat.{le-of-suc-le-suc}
 use native.Mathlib.Omega.{arith}
 use native.Mathlib.Decide.{decLt}
 use borrow.Author.Tests.{lt-ltb, le-ltb}
-use lib.Dec.{ltb}
-use lib.ListN.{length, getD, take}
+use lib.ListN.{length, getD}
 use lib.Seq.{take-length, take-all}
 use Rattle.model.specs.declared.Relation.{Relation}
-use Rattle.model.specs.Lists.{sum, from}
-use Rattle.model.specs.Network.{Network, noRelation, width, size, variablesIn, tuplesIn, valuesIn, before, firstId, total, idsOf, relationAt, relationOf, indexOf, scopeOf, valuesAt}
+use Rattle.model.specs.Lists.{sum}
+use Rattle.model.specs.Network.{Network, noRelation, size, tuplesIn, before, firstId, total, idsOf, relationAt, relationOf, indexOf}
 use Rattle.model.proofs.Lists.{from-mem, mem-from}
 
 sizeAt : List Relation → ℕ → ℕ

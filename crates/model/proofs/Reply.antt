@@ -1,25 +1,23 @@
 -- Laws of replies: accepted or refused, the lowest empty relation, what the answer tells, and the sum of its counts.
-use mathlib.Core.Path.{_≡_, refl, sym, _∙_, ap, subst}
+use mathlib.Core.Path.{_≡_, refl, _∙_, ap}
 use mathlib.Core.Bool.{Bool, true, false, cond}
-use mathlib.Core.Option.{Option, none, some}
+use mathlib.Core.Option.{Option}
 use mathlib.Core.Logic.{_⊎_, inl, inr}
-use mathlib.Core.List.{List, [], _∷_, _++_}
+use mathlib.Core.List.{List, _++_}
 use Prim.Native.Nat.{ℕ, _+_, _≤_, _<_}
 use native.Mathlib.Omega.{arith}
-use native.Mathlib.Decide.{decLt, ℕ-discrete}
+use native.Mathlib.Decide.{decLt}
 use lib.Dec.{ltb}
 use lib.ListN.{length, drop}
 use borrow.Author.Tests.{lt-ltb, le-ltb}
 use Rattle.model.specs.declared.Counts.{Counts}
 use Rattle.model.specs.declared.Answer.the-variants.{Settled, Emptied}
-use Rattle.model.specs.Limits.{maxRelations}
-use Rattle.model.specs.Lists.{from}
 use Rattle.model.specs.TupleSet.{TupleSet, count, without}
 use Rattle.model.specs.Network.{Network, total}
 use Rattle.model.specs.Consistency.{supportList, needed}
-use Rattle.model.specs.LiveWords.{living, written}
+use Rattle.model.specs.LiveWords.{written}
 use Rattle.model.specs.Request.{Change, Instance, combinationsOf, Request, removes}
-use Rattle.model.specs.Fault.{firstFault, faults, isNone, accepts}
+use Rattle.model.specs.Fault.{firstFault, faults, accepts}
 use Rattle.model.specs.Reply.{Numbers, answerNumbers, Reply, isEmptied, lowestEmpty, answerFor, remainder, countsFor, leaving, accepted, refused, replyTo, reply}
 use Rattle.model.specs.Promises.{Tells}
 use Rattle.model.proofs.Bools.{not-both}

@@ -1,13 +1,13 @@
 -- No solution is lost by filtering, and where a relation is empty there is none.
-use mathlib.Core.Path.{_≡_, refl, sym, _∙_, ap, subst}
-use mathlib.Core.Bool.{Bool, true, false, _&&_}
+use mathlib.Core.Path.{_≡_, refl, sym, subst}
+use mathlib.Core.Bool.{true, false, _&&_}
 use mathlib.Core.List.{List, [], _∷_, map, List·Memᴰ, List·Memᴰ·head, List·Memᴰ·tail, List·Memᴰ·cases-cons, List·Memᴰ·not-nil}
 use mathlib.Core.Logic.{⊎-elim}
-use Prim.Native.Nat.{ℕ, _+_, _≤_, _<_}
+use Prim.Native.Nat.{ℕ, _<_}
 use native.Mathlib.Omega.{arith}
 use native.Mathlib.Decide.{ℕ-discrete}
 use lib.ListN.{length}
-use Rattle.model.specs.Lists.{from, all, any}
+use Rattle.model.specs.Lists.{from, any}
 use Rattle.model.specs.TupleSet.{TupleSet, has}
 use Rattle.model.specs.Network.{Network, total, idsOf, relationOf}
 use Rattle.model.specs.Agreement.{Cell, fit, cellsOf, agree}
@@ -17,9 +17,9 @@ use Rattle.model.specs.Solution.{Assignment, follows, isSolution}
 use Rattle.model.proofs.Bools.{and-left, and-right, and-intro, not-both}
 use Rattle.model.proofs.Lists.{all-at, all-intro, any-at, any-intro, pairwise-intro, Picks, done, pick, here, from-mem, mem-from}
 use Rattle.model.proofs.TupleSet.{has-below}
-use Rattle.model.proofs.Network.{relationOf-ids, ids-relationOf}
+use Rattle.model.proofs.Network.{ids-relationOf}
 use Rattle.model.proofs.Agreement.{fit-common, clash-none, agreeing-intro}
-use Rattle.model.proofs.Support.{Supported, isSupport-intro, picks-candidates}
+use Rattle.model.proofs.Support.{isSupport-intro, picks-candidates}
 use Rattle.model.proofs.Consistency.{supported-intro, filtered-keeps}
 
 module _ (N : Network) (a : Assignment) where

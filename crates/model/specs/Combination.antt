@@ -2,7 +2,7 @@
 use mathlib.Core.Bool.{Bool, _||_}
 use mathlib.Core.List.{List, [], _∷_, map, List·Memᴰ}
 use Prim.Native.Nat.{ℕ, _*_, _/_}
-use lib.ListN.{length, take, drop}
+use lib.ListN.{length, getD, take, drop}
 use Rattle.model.specs.Lists.{from, all, any, empty}
 use Rattle.model.specs.Network.{Network}
 use Rattle.model.specs.Agreement.{share}
@@ -14,6 +14,13 @@ Combination = List ℕ
 -- the combinations of a list that holds m members of each, end to end
 unfoldable pub combinations : ℕ → List ℕ → List Combination
 combinations m list = map (λ (k : ℕ). take m (drop (k * m) list)) (from 0 (length list / m))
+
+-- A pair of combination and member is numbered by the member's place in that list: the combination, and the member.
+abbrev pub pairCombination : ℕ → List ℕ → ℕ → Combination
+pairCombination m list p = take m (drop (p / m * m) list)
+
+abbrev pub pairMember : List ℕ → ℕ → ℕ
+pairMember list p = getD list p 0
 
 -- Two groups.
 abbrev pub Division : Type 0

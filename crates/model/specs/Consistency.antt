@@ -2,7 +2,7 @@
 use mathlib.Core.Bool.{Bool, not, _||_}
 use mathlib.Core.List.{List, map}
 use Prim.Native.Nat.{ℕ, _*_}
-use lib.ListN.{length}
+use lib.ListN.{length, take}
 use Rattle.model.specs.Lists.{from, sum, all, any, elem, each}
 use Rattle.model.specs.TupleSet.{TupleSet, has, Rule, closure}
 use Rattle.model.specs.Network.{Network, size, idsOf, relationOf}
@@ -28,3 +28,7 @@ supportList N cs S = each (λ (c : Combination). each (λ (r : ℕ). each (first
 -- how many numbers that is
 unfoldable pub needed : Network → List Combination → ℕ
 needed N cs = sum (map (λ (c : Combination). sum (map (size N) c) * length c) cs)
+
+-- where the numbers of pair p begin: behind those of the pairs before it, m numbers for each tuple of a member
+unfoldable pub supportStart : Network → ℕ → List ℕ → ℕ → ℕ
+supportStart N m list p = sum (map (size N) (take p list)) * m

@@ -14,7 +14,7 @@ use Rattle.model.specs.Support
 use Rattle.model.specs.Consistency
 use Rattle.model.specs.LiveWords
 use Rattle.model.specs.Request
-use Rattle.model.specs.Request.{Instance, Request, Change, filter, withdraw, choose}
+use Rattle.model.specs.Request.{Request, Change, filter, withdraw, choose}
 use Rattle.model.specs.Fault
 use Rattle.model.specs.Reply
 use Rattle.model.specs.Reply.{Numbers, reply}

@@ -7,7 +7,7 @@ use lib.Dec.{leb, ltb, eqb}
 use lib.ListN.{length}
 use Rattle.model.specs.declared.Relation.{Relation}
 use Rattle.model.specs.Limits.{maxRelations, maxWidth, maxTuples, variableCount, minMembers, maxMembers, maxCombinations, maxSupportNumbers, wordBits}
-use Rattle.model.specs.Lists.{from, sum, all, any, pairwise}
+use Rattle.model.specs.Lists.{from, sum, all, pairwise}
 use Rattle.model.specs.Network.{Network, total, variablesIn, valuesIn, scopeOf}
 use Rattle.model.specs.Combination.{Combination, connected}
 use Rattle.model.specs.Consistency.{needed}

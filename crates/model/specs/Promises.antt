@@ -1,7 +1,7 @@
 -- What is promised of the calls, each as its sentence in the papers reads; proofs/Mission.antt proves every one of them of
 -- `reply`, which the contracts of the code cite.
 use mathlib.Core.Path.{_≡_}
-use mathlib.Core.Bool.{Bool, true, false, cond}
+use mathlib.Core.Bool.{true, false, cond}
 use mathlib.Core.Option.{some}
 use mathlib.Core.Logic.{_⊎_}
 use mathlib.Core.List.{List, _∷_, _++_, map, List·Memᴰ}
@@ -20,7 +20,7 @@ use Rattle.model.specs.LiveWords.{isLive, living}
 use Rattle.model.specs.Request.{Instance, combinationsOf, Request, removes}
 use Rattle.model.specs.Fault.{Fault, faults}
 use Rattle.model.specs.Reply.{Numbers, Reply, isEmptied, refused, reply}
-use Rattle.model.specs.Calls.{Call, State, start, makeAll, removedBy, starting, remaining}
+use Rattle.model.specs.Calls.{Call, start, makeAll, removedBy, starting, remaining}
 
 -- ---- What an accepted call says and leaves of the tuples L
 
@@ -66,11 +66,12 @@ givenTuples q = without (removes (q .given .network) (q .change)) (living (total
 abbrev pub leftTuples : Request → TupleSet
 leftTuples q = living (total (q .given .network)) ((reply q) .words)
 
--- The tuples left are the largest consistent set inside those given, the only such set; no solution is lost; Emptied means
--- that none exists; the counts add up to the live tuples at entry.
+-- The tuples left are the largest consistent set inside those given, the only such set; a relation in no combination keeps
+-- its tuples; no solution is lost, and Emptied means that none exists; the counts add up to the live tuples at entry.
 pub record Filtered (q : Request) : Type 0 where
   pub largest : Largest (supported (q .given .network) (combinationsOf (q .given))) (givenTuples q) (leftTuples q)
   pub only : (T : TupleSet) → length T ≡ total (q .given .network) → Largest (supported (q .given .network) (combinationsOf (q .given))) (givenTuples q) T → T ≡ leftTuples q
+  pub alone : (g : ℕ) → ((c : Combination) → List·Memᴰ c (combinationsOf (q .given)) → List·Memᴰ (relationOf (q .given .network) g) c → ⊥) → has (leftTuples q) g ≡ has (givenTuples q) g
   pub solutions : (a : Assignment) → isSolution (q .given .network) (givenTuples q) a ≡ true → isSolution (q .given .network) (leftTuples q) a ≡ true
   pub none : ((reply q) .answer) .kind ≡ 1 → (a : Assignment) → isSolution (q .given .network) (givenTuples q) a ≡ true → ⊥
   pub tells : Tells (q .given .network) (leftTuples q) ((reply q) .answer)

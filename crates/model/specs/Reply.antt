@@ -17,7 +17,6 @@ use Rattle.model.specs.Lists.{from, any, select, firstOr}
 use Rattle.model.specs.TupleSet.{TupleSet, has, count, restrict, without}
 use Rattle.model.specs.Network.{Network, total, idsOf}
 use Rattle.model.specs.Agreement.{agree}
-use Rattle.model.specs.Combination.{Combination}
 use Rattle.model.specs.Consistency.{filtered, isConsistent, supportList, needed}
 use Rattle.model.specs.LiveWords.{living, written}
 use Rattle.model.specs.Request.{Change, Instance, combinationsOf, Request, removes}

@@ -1,7 +1,6 @@
 -- Solutions (document 01: complete orders).
 use mathlib.Core.Bool.{Bool, _&&_}
 use Prim.Native.Nat.{ℕ}
-use lib.Dec.{eqb}
 use lib.ListN.{length}
 use Rattle.model.specs.Lists.{from, all, any}
 use Rattle.model.specs.TupleSet.{TupleSet, has}
