@@ -6,7 +6,7 @@ use native.Mathlib.Nat.{le-of-suc-le-suc}
 use native.Mathlib.Omega.{arith}
 use native.Mathlib.Decide.{decLt}
 use borrow.Author.Tests.{lt-ltb, le-ltb}
-use lib.ListN.{length, getD}
+use lib.ListN.{length, getD, List·getD-eq-default}
 use lib.Seq.{take-length, take-all}
 use Rattle.model.specs.declared.Relation.{Relation}
 use Rattle.model.specs.Lists.{sum}
@@ -64,6 +64,16 @@ module _ (N : Network) where
   -- where the relations end
   pub before-all : (f : Relation → ℕ) → before f (N .relations) (length (N .relations)) ≡ sum (map f (N .relations))
   before-all f = ap (λ (Rs : List Relation). sum (map f Rs)) (take-length (N .relations))
+
+  -- a relation with a tuple exists
+  pub size-below : (r x : ℕ) → x < size N r → r < length (N .relations)
+  size-below r x h = below r x h (decLt r (length (N .relations)))
+    where
+      below : (r x : ℕ) → x < size N r → Dec (r < length (N .relations)) → r < length (N .relations)
+      below r x h (yes k) = k
+      below r x h (no k) =
+          let e : getD (N .relations) r noRelation ≡ noRelation = List·getD-eq-default (N .relations) noRelation (omega arith) in
+          absurd (let l : x < 0 = rw (ap tuplesIn e) at h in omega arith)
 
   -- the tuple at index x of relation r
   pub relationOf-at : (r x : ℕ) → x < size N r → relationOf N (firstId N r + x) ≡ r

@@ -1,3 +1,6 @@
 -- The laws of the crate's definitions, and of walks of a list.
 pub mod Walk
 pub mod Relations
+pub mod Starts
+pub mod Places
+pub mod Tabled

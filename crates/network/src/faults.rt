@@ -1,0 +1,176 @@
+// The faults of a network, in checking order.
+ghost use mathlib.Core.Path.{_≡_};
+ghost use mathlib.Core.List.{[], map};
+ghost use Prim.Native.Nat.{ℕ, _≤_};
+ghost use lib.Dec.{ltb};
+ghost use lib.ListN.{length, drop};
+ghost use Rattle.model.specs.Limits.{maxRelations, variableCount};
+ghost use Rattle.model.specs.Lists.{from, sum, all, pairwise};
+ghost use Rattle.model.specs.Network.{variablesIn, tuplesIn, valuesIn, scopeOf};
+ghost use Rattle.model.specs.Fault.{within, different, properScope, networkFaults, firstFault, refusal};
+ghost use Rattle.network.specs.Shape.{relationsOf, networkOf, properWidth};
+
+use model::MAX_RELATIONS;
+use model::MAX_TUPLES;
+use model::MAX_WIDTH;
+use model::VARIABLES;
+use super::Shape;
+use super::wide;
+
+// How many variables, tuples and values the records call for.
+pub struct Totals {
+    pub variables: usize,
+    pub tuples: usize,
+    pub values: usize,
+}
+
+// Whether n is one of low to high.
+fn within(low: usize, high: usize, n: usize) -> bool
+    ensures { λ b. ⌜ b ≡ within low high n ⌝ }
+{
+    if n < low {
+        return false;
+    }
+    n <= high
+}
+
+// Whether every width is allowed.
+fn proper_widths(shape: Shape) -> bool
+    requires { ⌜ shape .count ≤ maxRelations ⌝ }
+    ensures { λ b. ⌜ b ≡ all properWidth (relationsOf shape) ⌝ }
+{
+    let mut r = 0;
+    while r < shape.count {
+        if !within(1, MAX_WIDTH, wide(shape.widths[r])) {
+            return false;
+        }
+        r += 1;
+    }
+    true
+}
+
+// The sums over all records.
+fn totals_of(shape: Shape) -> Totals
+    requires { ⌜ shape .count ≤ maxRelations ⌝ }
+    ensures variables { λ t. ⌜ t .variables ≡ sum (map variablesIn (relationsOf shape)) ⌝ }
+    ensures tuples { λ t. ⌜ t .tuples ≡ sum (map tuplesIn (relationsOf shape)) ⌝ }
+    ensures values { λ t. ⌜ t .values ≡ sum (map valuesIn (relationsOf shape)) ⌝ }
+{
+    let mut variables = 0;
+    let mut tuples = 0;
+    let mut values = 0;
+    let mut r = 0;
+    while r < shape.count {
+        let width = wide(shape.widths[r]);
+        let size = wide(shape.tuples[r]);
+        variables += width;
+        tuples += size;
+        values += width * size;
+        r += 1;
+    }
+    Totals {
+        variables,
+        tuples,
+        values,
+    }
+}
+
+// Whether every entry is a variable.
+fn all_variables(scope: &[u16]) -> bool
+    ensures { λ b. ⌜ b ≡ all (λ (x : ℕ). ltb x variableCount) (now (scope .entry)) ⌝ }
+{
+    let mut i = 0;
+    while i < scope.len() {
+        if VARIABLES <= wide(scope[i]) {
+            return false;
+        }
+        i += 1;
+    }
+    true
+}
+
+// Whether x stands nowhere from the given column on.
+fn absent(scope: &[u16], x: u16, from: usize) -> bool
+    requires { ⌜ from ≤ length (now scope) ⌝ }
+    ensures { λ b. ⌜ b ≡ all (different x) (drop from (now (scope .entry))) ⌝ }
+{
+    let mut j = from;
+    while j < scope.len() {
+        if scope[j] == x {
+            return false;
+        }
+        j += 1;
+    }
+    true
+}
+
+// Whether no variable stands twice.
+fn all_different(scope: &[u16]) -> bool
+    ensures { λ b. ⌜ b ≡ pairwise different (now (scope .entry)) ⌝ }
+{
+    let mut i = 0;
+    while i < scope.len() {
+        if !absent(scope, scope[i], i + 1) {
+            return false;
+        }
+        i += 1;
+    }
+    true
+}
+
+// Whether a scope's variables are variables, and none stands twice.
+fn proper_scope(scope: &[u16]) -> bool
+    ensures { λ b. ⌜ b ≡ properScope (now (scope .entry)) ⌝ }
+{
+    if !all_variables(scope) {
+        return false;
+    }
+    all_different(scope)
+}
+
+// Whether every relation's part of the variable list is a proper scope.
+fn proper_scopes(shape: Shape, variables: &[u16]) -> bool
+    requires { ⌜ shape .count ≤ maxRelations ⌝ }
+    requires { ⌜ length (now variables) ≡ sum (map variablesIn (relationsOf shape)) ⌝ }
+    ensures { λ b. ⌜ b ≡ all (λ (r : ℕ). properScope (scopeOf (networkOf shape (now (variables .entry)) []) r)) (from 0 (length (relationsOf shape))) ⌝ }
+{
+    let mut start = 0;
+    let mut r: usize = 0;
+    while r < shape.count {
+        let end = start + wide(shape.widths[r]);
+        if !proper_scope(&variables[start..end]) {
+            return false;
+        }
+        start = end;
+        r += 1;
+    }
+    true
+}
+
+// The number of the network's first fault, 2 to 6, or 0.
+pub fn fault(shape: Shape, variables: &[u16], values: &[u16]) -> u8
+    ensures { λ f. ⌜ f ≡ refusal (firstFault (networkFaults (networkOf shape (now (variables .entry)) (now (values .entry))))) ⌝ }
+{
+    if !within(1, MAX_RELATIONS, shape.count) {
+        return 2;
+    }
+    let widths_proper = proper_widths(shape);
+    let called = totals_of(shape);
+    let tuples = called.tuples;
+    if !widths_proper {
+        return 3;
+    }
+    if MAX_TUPLES < tuples {
+        return 4;
+    }
+    if variables.len() != called.variables {
+        return 5;
+    }
+    if values.len() != called.values {
+        return 5;
+    }
+    if !proper_scopes(shape, variables) {
+        return 6;
+    }
+    0
+}
