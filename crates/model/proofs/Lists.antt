@@ -11,7 +11,7 @@ use native.Mathlib.Nat.{add-zero, zero-add, add-suc, suc-add, le-of-suc-le-suc}
 use lib.Dec.{ltb, eqb}
 use lib.ListN.{length, getD, take, drop}
 use lib.Seq.{drop-cons}
-use borrow.Author.Tests.{eqb-true, eq-eqb, ltb-true, lt-ltb}
+use borrow.Author.Tests.{eqb-true, eq-eqb, ne-eqb, ltb-true, lt-ltb, le-ltb}
 use Rattle.model.specs.Lists.{all, any, elem, from, select, keepIf, firstOr, pairwise, choices, prefixed, earlier}
 use Rattle.model.proofs.Bools.{and-left, and-right, and-intro, or-left, or-right, or-cases}
 
@@ -35,6 +35,11 @@ module _ {ℓ} {A : Type ℓ} where
   pub all-intro : (p : A → Bool) (xs : List A) → ((x : A) → List·Memᴰ x xs → p x ≡ true) → all p xs ≡ true
   all-intro p [] f = refl
   all-intro p (x ∷ xs) f = and-intro (f x here) (all-intro p xs (λ y m. f y (List·Memᴰ·tail m)))
+
+  pub all-getD : (p : A → Bool) (xs : List A) (k : ℕ) (d : A) → all p xs ≡ true → k < length xs → p (getD xs k d) ≡ true
+  all-getD p [] k d e h = absurd (omega arith)
+  all-getD p (x ∷ xs) zero d e h = and-left (p x) (all p xs) e
+  all-getD p (x ∷ xs) (suc k) d e h = all-getD p xs k d (and-right (p x) (all p xs) e) (le-of-suc-le-suc h)
 
   pub all-append : (p : A → Bool) (xs ys : List A) → all p xs ≡ true → all p ys ≡ true → all p (xs ++ ys) ≡ true
   all-append p [] ys e f = f
@@ -243,6 +248,13 @@ getD-map-from f i zero k d h = absurd (omega arith)
 getD-map-from f i (suc n) zero d h = rw add-zero
 getD-map-from f i (suc n) (suc k) d h = getD-map-from f (suc i) n k d (le-of-suc-le-suc h) ∙ ap f (suc-add i k ∙ sym (add-suc i k))
 
+-- functions that give the same on a range
+pub map-from-same {ℓ} : {A : Type ℓ} (f g : ℕ → A) (i n : ℕ) → ((j : ℕ) → i ≤ j → j < i + n → f j ≡ g j) → map f (from i n) ≡ map g (from i n)
+map-from-same f g i zero h = refl
+map-from-same {A = A} f g i (suc n) h =
+    ap {B = List A} (λ x. x ∷ map f (from (suc i) n)) (h i (omega arith) (omega arith))
+    ∙ ap {B = List A} (λ t. g i ∷ t) (map-from-same f g (suc i) n (λ j a b. h j (omega arith) (omega arith)))
+
 -- The first number from i on that passes, and end where none does.
 pub record First (p : ℕ → Bool) (i end x : ℕ) : Type 0 where
   pub from-i : i ≤ x
@@ -305,6 +317,50 @@ earlier-same x t u e = or-right (ltb x x) (and-intro (eq-eqb x x refl) e)
 
 earlier-less : (x y : ℕ) (t u : List ℕ) → x < y → earlier (x ∷ t) (y ∷ u) ≡ true
 earlier-less x y t u h = or-left (eqb x y && earlier t u) (lt-ltb x y h)
+
+earlier-cons : (x y : ℕ) (xs ys : List ℕ) → x ≡ y → earlier (x ∷ xs) (y ∷ ys) ≡ earlier xs ys
+earlier-cons x y xs ys e =
+    ap (λ (b : Bool). b || (eqb x y && earlier xs ys)) (le-ltb x y (omega arith)) ∙ ap (λ (b : Bool). b && earlier xs ys) (eq-eqb x y e)
+
+earlier-more : (x y : ℕ) (xs ys : List ℕ) → y < x → earlier (x ∷ xs) (y ∷ ys) ≡ false
+earlier-more x y xs ys h =
+    ap (λ (b : Bool). b || (eqb x y && earlier xs ys)) (le-ltb x y (omega arith)) ∙ ap (λ (b : Bool). b && earlier xs ys) (ne-eqb x y (λ e. omega arith))
+
+-- the first elements of a list are not earlier than the list
+pub earlier-take : (k : ℕ) (ys : List ℕ) → earlier (take k ys) ys ≡ false
+earlier-take zero ys = refl
+earlier-take (suc k) [] = refl
+earlier-take (suc k) (y ∷ ys) = earlier-cons y y (take k ys) ys refl ∙ earlier-take k ys
+
+-- equal up to place k, and there less, or more
+pub earlier-below : (k x : ℕ) (ys : List ℕ) → k < length ys → x < getD ys k 0 → earlier (take k ys ++ (x ∷ [])) ys ≡ true
+earlier-below k x [] h l = absurd (omega arith)
+earlier-below zero x (y ∷ ys) h l = or-left (eqb x y && false) (lt-ltb x y l)
+earlier-below (suc k) x (y ∷ ys) h l = earlier-cons y y (take k ys ++ (x ∷ [])) ys refl ∙ earlier-below k x ys (le-of-suc-le-suc h) l
+
+pub earlier-above : (k x : ℕ) (ys : List ℕ) → k < length ys → getD ys k 0 < x → earlier ys (take k ys ++ (x ∷ [])) ≡ true
+earlier-above k x [] h l = absurd (omega arith)
+earlier-above zero x (y ∷ ys) h l = or-left (eqb y x && earlier ys []) (lt-ltb y x l)
+earlier-above (suc k) x (y ∷ ys) h l = earlier-cons y y ys (take k ys ++ (x ∷ [])) refl ∙ earlier-above k x ys (le-of-suc-le-suc h) l
+
+-- what is later by its first elements is later, however it goes on
+pub later-append : (xs t ys : List ℕ) → earlier ys xs ≡ true → earlier ys (xs ++ t) ≡ true
+later-append xs t [] e = absurd (false≢true e)
+later-append [] t (y ∷ ys) e = absurd (false≢true e)
+later-append (x ∷ xs) t (y ∷ ys) e =
+    ⊎-elim
+    (λ h. or-left (eqb y x && earlier ys (xs ++ t)) h)
+    (λ h. or-right (ltb y x) (and-intro (and-left (eqb y x) (earlier ys xs) h) (later-append xs t ys (and-right (eqb y x) (earlier ys xs) h))))
+    (or-cases (ltb y x) (eqb y x && earlier ys xs) e)
+
+pub later-earlier : (xs ys : List ℕ) → earlier ys xs ≡ true → earlier xs ys ≡ false
+later-earlier xs [] e = absurd (false≢true e)
+later-earlier [] (y ∷ ys) e = refl
+later-earlier (x ∷ xs) (y ∷ ys) e =
+    ⊎-elim
+    (λ h. earlier-more x y xs ys (ltb-true y x h))
+    (λ h. earlier-cons x y xs ys (sym (eqb-true y x (and-left (eqb y x) (earlier ys xs) h))) ∙ later-earlier xs ys (and-right (eqb y x) (earlier ys xs) h))
+    (or-cases (ltb y x) (eqb y x && earlier ys xs) e)
 
 -- what is earlier by its first elements is earlier, however it goes on
 pub earlier-append : (xs t ys : List ℕ) → earlier xs ys ≡ true → earlier (xs ++ t) ys ≡ true

@@ -1,0 +1,2 @@
+-- The laws of the crate's definitions, and of one member's turn in the search.
+pub mod Chosen
