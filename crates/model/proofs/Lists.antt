@@ -65,6 +65,13 @@ module _ {ℓ} {A : Type ℓ} where
       (all-append (r x) xs ys (and-left (all (r x) xs) (pairwise r xs) p) (all-intro (r x) ys (λ y m. f x y here m)))
       (pairwise-append r xs ys (and-right (all (r x) xs) (pairwise r xs) p) q (λ y z m n. f y z (List·Memᴰ·tail m) n))
 
+  -- of two places, the earlier one's element is in the relation to the later one's
+  pub pairwise-getD : (r : A → A → Bool) (xs : List A) (i j : ℕ) (d : A) → pairwise r xs ≡ true → i < j → j < length xs → r (getD xs i d) (getD xs j d) ≡ true
+  pairwise-getD r [] i j d p h l = absurd (omega arith)
+  pairwise-getD r (x ∷ xs) i zero d p h l = absurd (omega arith)
+  pairwise-getD r (x ∷ xs) zero (suc j) d p h l = all-getD (r x) xs j d (and-left (all (r x) xs) (pairwise r xs) p) (le-of-suc-le-suc l)
+  pairwise-getD r (x ∷ xs) (suc i) (suc j) d p h l = pairwise-getD r xs i j d (and-right (all (r x) xs) (pairwise r xs) p) (le-of-suc-le-suc h) (le-of-suc-le-suc l)
+
   -- what stands before stands in the relation to all that stands after
   pub pairwise-after : (r : A → A → Bool) (xs : List A) (t : A) (ys : List A) → pairwise r (xs ++ (t ∷ ys)) ≡ true → all (r t) ys ≡ true
   pairwise-after r [] t ys p = and-left (all (r t) ys) (pairwise r ys) p

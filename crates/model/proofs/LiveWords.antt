@@ -16,7 +16,7 @@ use Rattle.model.specs.Lists.{from}
 use Rattle.model.specs.TupleSet.{TupleSet, has, count, without}
 use Rattle.model.specs.LiveWords.{bit, isSet, isLive, livingFrom, living, nextLive, digits, word, cleared, raised, bitAfter, writtenFrom, written}
 use Rattle.model.proofs.Bools.{iff-eq}
-use Rattle.model.proofs.Lists.{length-from, getD-map-from}
+use Rattle.model.proofs.Lists.{length-from, getD-map-from, First, select-from}
 use Rattle.model.proofs.TupleSet.{restrict-has, count-length}
 
 -- ---- Bits of a number
@@ -154,6 +154,10 @@ livingFrom-word ws i k h =
     (λ j l. isLive-at ws i j (omega arith) ∙ ap (isSet (getD ws i 0)) (sym (zero-add j)))
 
 -- ---- The next live id
+
+pub nextLive-first : (ws : List ℕ) (i end : ℕ) → i ≤ end → First (isLive ws) i end (nextLive ws i end)
+unfolding nextLive
+nextLive-first ws i end h = select-from (isLive ws) i (end - i) end (omega arith)
 
 pub nextLive-past : (ws : List ℕ) (i end : ℕ) → end ≤ i → nextLive ws i end ≡ end
 unfolding nextLive

@@ -15,12 +15,12 @@ use Rattle.model.specs.TupleSet.{TupleSet, has}
 use Rattle.model.specs.Network.{Network, total, idsOf, indexOf, relationOf}
 use Rattle.model.specs.Agreement.{agree}
 use Rattle.model.specs.Combination.{Combination}
-use Rattle.model.specs.LiveWords.{isLive, living, nextLive}
+use Rattle.model.specs.LiveWords.{living, nextLive}
 use Rattle.model.specs.Support.{candidates, isSupport, supports, firstSupport, firstAmong, supportFrom, completion}
 use Rattle.model.proofs.Bools.{not-both, and-intro}
-use Rattle.model.proofs.Lists.{here, all-at, all-intro, all-map, pairwise-at, pairwise-cross, Picks, choices-picks, picks-append, select-append, select-all, select-mem, select-none, head-append, firstOr-head, from-append, from-mem, earlier-append, select-from}
+use Rattle.model.proofs.Lists.{here, all-at, all-intro, all-map, pairwise-at, pairwise-cross, Picks, choices-picks, picks-append, select-append, select-all, select-mem, select-none, head-append, firstOr-head, from-append, from-mem, earlier-append}
 use Rattle.model.proofs.Agreement.{agree-sym}
-use Rattle.model.proofs.LiveWords.{living-has}
+use Rattle.model.proofs.LiveWords.{living-has, nextLive-first}
 use Rattle.model.proofs.Support.{isSupport-self, isSupport-live, isSupport-agree, picks-same}
 
 module _ (N : Network) (S : TupleSet) (g : ℕ) (low : List ℕ) where
@@ -196,9 +196,8 @@ module _ (N : Network) (S : TupleSet) (g : ℕ) (low : List ℕ) where
 
 module _ (N : Network) (ws : List ℕ) (g : ℕ) (low ch : List ℕ) (xss : List (List ℕ)) where
   pub reach-live : (i end : ℕ) → i ≤ end → end ≤ total N → reach N (living (total N) ws) g low ch xss i end ≡ reach N (living (total N) ws) g low ch xss (nextLive ws i end) end
-  unfolding nextLive
   reach-live i end h k =
-      let f = select-from (isLive ws) i (end - i) end (omega arith) in
+      let f = nextLive-first ws i end h in
       reach-skip N (living (total N) ws) g low ch xss i (nextLive ws i end) end (f .from-i) (f .to-end)
       (λ x b. completion-dead N (living (total N) ws) g low (ch ++ (x ∷ [])) xss (Memᴰ·append-right ch here)
       (living-has (total N) ws x (omega (arith, f .to-end, b .1)) ∙ f .none-before x (b .0) (b .1)))

@@ -1,13 +1,12 @@
 -- Laws of the tuples chosen so far, and of the test of the next one.
 -- From the definitions of `chosenIds` and `fits`, and the laws of lists and of ids.
-use mathlib.Core.Path.{_≡_, refl, sym, _∙_, ap, ap₂, subst}
-use mathlib.Core.Bool.{Bool, true, false, _&&_, _||_, and-false}
+use mathlib.Core.Path.{_≡_, refl, sym, _∙_, ap, ap₂}
+use mathlib.Core.Bool.{Bool, true, false, _&&_, and-false}
 use mathlib.Core.List.{List, [], _∷_, _++_, map, map-append, List·Memᴰ, Memᴰ·map}
 use Prim.Native.Nat.{ℕ, zero, suc, _+_, _≤_, _<_}
 use native.Mathlib.Nat.{zero-add}
 use native.Mathlib.Numerals.{add-one}
 use native.Mathlib.Omega.{arith}
-use lib.Dec.{eqb}
 use lib.ListN.{length, getD, take, set}
 use lib.Seq.{take-suc, getD-set-same, getD-set-other}
 use borrow.Author.Tests.{eq-eqb, ne-eqb}
@@ -16,7 +15,7 @@ use Rattle.model.specs.Network.{Network, size, firstId, idsOf, indexOf}
 use Rattle.model.specs.Agreement.{Cell, cellsOf, agreeing, agree}
 use Rattle.model.specs.Combination.{Combination}
 use Rattle.model.proofs.Bools.{and-intro, not-both}
-use Rattle.model.proofs.Lists.{here, all-at, all-append, mem-from, from-append, map-from-same, Picks, done, pick, picks-append}
+use Rattle.model.proofs.Lists.{all-at, all-append, mem-from, from-append, map-from-same, Picks, done, pick, picks-append}
 use Rattle.model.proofs.Network.{indexOf-at}
 use Rattle.support.specs.Search.{idAt, chosenIds, fits}
 
