@@ -1,7 +1,7 @@
 -- Laws of one member's turn in the search: the walk from live id to live id, and what is known once one tuple more is chosen.
 -- From the laws of the walk, of the tuples chosen and of the search.
 use mathlib.Core.Path.{_≡_, refl, sym, _∙_, ap, ap₂, subst}
-use mathlib.Core.Bool.{Bool, true, false, _&&_, false≢true}
+use mathlib.Core.Bool.{Bool, true, false, _&&_, false≢true, true≢false}
 use mathlib.Core.Option.{Option, none, some, orElse}
 use mathlib.Core.List.{List, [], _∷_, _++_, map, List·Memᴰ, List·Memᴰ·tail, List·Memᴰ·eq-of-singleton}
 use Prim.Native.Nat.{ℕ, suc, _+_, _-_, _*_, _≤_, _<_}
@@ -17,17 +17,38 @@ use Rattle.model.specs.Network.{size, total, firstId, idsOf, indexOf, relationO
 use Rattle.model.specs.Agreement.{Cell, cells, cellsOf, agreeing, agree}
 use Rattle.model.specs.TupleSet.{has}
 use Rattle.model.specs.LiveWords.{isLive, nextLive}
-use Rattle.model.specs.Support.{completion}
+use Rattle.model.specs.Support.{supportFrom, completion}
 use Rattle.model.proofs.Bools.{and-left, and-intro, not-both}
 use Rattle.model.proofs.Lists.{all-at, all-append, pairwise-append, earlier-take, earlier-above, later-append, later-earlier}
 use Rattle.model.proofs.Network.{relationOf-at}
 use Rattle.model.proofs.Agreement.{agree-sym}
 use Rattle.model.proofs.LiveWords.{living-has, nextLive-first}
 use Rattle.model.proofs.Support.{isSupport-intro}
-use Rattle.model.proofs.Search.{completion-done, completion-clash, reach, reach-none, reach-step, reach-live}
+use Rattle.model.proofs.Search.{completion-start, completion-done, completion-clash, reach, reach-none, reach-step, reach-live}
 use Rattle.support.specs.Search.{Search, network, live, idAt, seeker, Ready, chosenIds, Begun, Seeking, fits, Trial}
 use Rattle.support.proofs.Chosen.{chosen-mem, chosen-set, chosen-indices, fits-own, fits-other}
 use Rattle.support.proofs.Walk.{members-differ, few-tuples, member-below, member-start, member-within, span, span-inside, walk-whole}
+
+-- ---- No member has its tuple yet
+
+pub begun-none : (Q : Search) (chosen : List ℕ) → Begun Q 0 true chosen
+unfolding chosenIds
+begun-none Q chosen =
+    record {
+      depth = omega arith;
+      within = λ j l. absurd (omega arith);
+      own = λ l. absurd (omega arith);
+      live = refl;
+      pairs = refl;
+      seeker = λ l. refl;
+      at-low = λ e. refl;
+      past-low = λ e. absurd (true≢false e);
+    }
+
+-- what there is to find then is the first support at or after the bound
+pub sought-first : (Q : Search) (chosen : List ℕ) → completion (network Q) (live Q) (seeker Q) (Q .low) (chosenIds (network Q) (Q .members) chosen 0) (map (idsOf (network Q)) (drop 0 (Q .members))) ≡ supportFrom (network Q) (live Q) (Q .members) (seeker Q) (Q .low)
+unfolding chosenIds
+sought-first Q chosen = completion-start (network Q) (live Q) (seeker Q) (Q .low) (Q .members)
 
 -- ---- Every member has its tuple
 
@@ -328,9 +349,9 @@ module _ {Q : Search} {k : ℕ} {resumes : Bool} {chosen : List ℕ} {first begi
             live = ap (all (has (live Q))) ids-more ∙ all-append (has (live Q)) ids (g ∷ []) (B .live) (and-intro lives refl);
             pairs = ap (pairwise (agree N)) ids-more ∙ pairwise-append (agree N) ids (g ∷ []) (B .pairs) refl (λ y z m n. ap (agree N y) (List·Memᴰ·eq-of-singleton n) ∙ agrees-chosen e y m);
             seeker = λ l.
-              ap (all (agree N (seeker Q))) ids-more
-              ∙ all-append (agree N (seeker Q)) ids (g ∷ []) (B .seeker (omega arith))
-              (and-intro (and-left (agree N (seeker Q) g) (all (λ (y : ℕ). agree N y g) ids) (agrees-seeker e (λ q. omega arith))) refl);
+                ap (all (agree N (seeker Q))) ids-more
+                ∙ all-append (agree N (seeker Q)) ids (g ∷ []) (B .seeker (omega arith))
+                (and-intro (and-left (agree N (seeker Q) g) (all (λ (y : ℕ). agree N y g) ids) (agrees-seeker e (λ q. omega arith))) refl);
             at-low = more-at resumes refl;
             past-low = more-past resumes refl;
           }

@@ -1,11 +1,10 @@
 -- `search` finds the first support that has the tuples chosen. The loop's invariant: from the id reached on, there is still all to find;
 -- the measure is the number of members still unchosen. From the laws of one member's turn.
-use mathlib.Core.Path.{_≡_, refl, sym, ap, ap₂, subst, _∙_}
+use mathlib.Core.Path.{_≡_, sym, ap, subst, _∙_}
 use mathlib.Core.Bool.{Bool, true, false, _&&_}
-use mathlib.Core.Option.{Option, none}
+use mathlib.Core.Option.{none}
 use mathlib.Core.Logic.{_⊎_, ⊎-elim}
-use mathlib.Core.List.{List}
-use Prim.Native.Nat.{ℕ, _+_, _-_, _≤_, _<_}
+use Prim.Native.Nat.{ℕ, _+_, _-_, _<_}
 use native.Mathlib.Omega.{arith}
 use lib.Dec.{eqb}
 use lib.ListN.{length, getD, take, set}
@@ -15,7 +14,7 @@ use mir.Syntax.{w16}
 use borrow.Fn.Kinds.{In}
 use borrow.Fn.PlainCycle.{Measures, is, falls, and}
 use Rattle.support.specs.declared.Span.{Span}
-use Rattle.support.specs.Search.{Search, searching, Ready, Begun, Seeking, answer}
+use Rattle.support.specs.Search.{Search, searching, Begun, Seeking, answer}
 use Rattle.support.proofs.Turn.{turn-done, onward, Come, span-asks, Turn, walk-asks, walk-forward, come-first, come-from, come-none, come-found, next-ahead, come-next, trial, come-clash, onward-more, come-more}
 use Rattle.live.proofs.next.Reads as next-reads
 use Rattle.support.proofs.fits.Reads as fits-reads
@@ -90,7 +89,7 @@ turn t p =
 -- ---- The needs
 
 search-returns : (t : ℕ) → search-lts.Need-returns (callees t) (search-at t) search′.Post search-Inv-loop search-μ-loop
-search-returns t c = 
+search-returns t c =
     let a = c .before .before .before .before .before .before .before in
     sym (turn-done (searchOf t a) (a .pre .1 .0) (a .args .resumes) (a .args .chosen) (chosen-length t a) (a .args .k) (c .if1 .taken) (a .pre .1 .1 .0))
 
@@ -107,7 +106,7 @@ search-shared-slice-read-span-of : (t : ℕ) → search-lts.Need-shared-slice-re
 search-shared-slice-read-span-of t c = omega (arith, c .before .before .before .before .before .before .before .before .pre .1 .1 .0 .depth, c .before .if1 .left)
 
 search-span-of-requires : (t : ℕ) → search-lts.Need-span-of-requires (callees t) (search-at t) search′.Post search-Inv-loop search-μ-loop
-search-span-of-requires t c κs = 
+search-span-of-requires t c κs =
     let a = c .before .before .before .before .before .before .before .before in
     span-asks (searchOf t a) (a .args .k) (a .pre .1 .0) (omega (arith, a .pre .1 .1 .0 .depth, c .before .if1 .left))
 
@@ -121,7 +120,7 @@ search-sub-x : (t : ℕ) → search-lts.Need-sub-x (callees t) (search-at t) sea
 search-sub-x t c = come-from (turn t (c .before .before .before)) (c .before .loop .g) (c .before .loop .inv) .0
 
 search-fits-requires : (t : ℕ) → search-lts.Need-fits-requires (callees t) (search-at t) search′.Post search-Inv-loop search-μ-loop
-search-fits-requires t c κs = 
+search-fits-requires t c κs =
     let p = c .before .before .before in
     let a = entry t p in
     (a .pre .1 .0 .laid, trial (turn t p) (c .before .loop .g) (c .before .loop .inv) (c .loop-test .taken) (a .args .scope .now) (a .args .tuple .now) (seeks t a))
@@ -180,13 +179,13 @@ deeper t c =
     sym (c .search .ensures ∙ onward-more (turn t p) (l .g) (l .inv) (u .before .loop-test .taken) (a .args .scope .now) (a .args .tuple .now) (seeks t a))
 
 search-search-requires : (t : ℕ) → search-lts.Need-search-requires (callees t) (search-at t) search′.Post search-Inv-loop search-μ-loop
-search-search-requires t c κs = 
+search-search-requires t c κs =
     let p = spanned t (c .before .before) in
     let a = entry t p in
     (omega (arith, a .pre .0, turn t p .inside), (a .pre .1 .0, (more t c, seeks t a)))
 
 search-returns-2 : (t : ℕ) → search-lts.Need-returns-2 (callees t) (search-at t) search′.Post search-Inv-loop search-μ-loop
-search-returns-2 t c = 
+search-returns-2 t c =
     let u = c .before .before .before .before in
     let p = spanned t u in
     let a = entry t p in
@@ -196,19 +195,19 @@ search-returns-2 t c =
     e ∙ sym (come-found (turn t p) (l .g) (l .inv) (u .before .loop-test .taken) ts (deeper t (c .before) ∙ e))
 
 search-add-next : (t : ℕ) → search-lts.Need-add-next (callees t) (search-at t) search′.Post search-Inv-loop search-μ-loop
-search-add-next t c = 
+search-add-next t c =
     let p = spanned t (c .before) in
     let l = c .before .before .before .loop in
     omega (arith, walk-asks (turn t p) (l .g) (come-from (turn t p) (l .g) (l .inv) .1) (omega arith) .2)
 
 search-next-requires-2 : (t : ℕ) → search-lts.Need-next-requires-2 (callees t) (search-at t) search′.Post search-Inv-loop search-μ-loop
-search-next-requires-2 t c κs = 
+search-next-requires-2 t c κs =
     let p = spanned t (c .before) in
     let l = c .before .before .before .loop in
     walk-asks (turn t p) (l .g + 1) (omega (arith, come-from (turn t p) (l .g) (l .inv) .1)) (omega arith)
 
 search-loop-less : (t : ℕ) → search-lts.Need-loop-less (callees t) (search-at t) search′.Post search-Inv-loop search-μ-loop
-search-loop-less t c = 
+search-loop-less t c =
     let u = c .before .before in
     let p = spanned t u in
     let l = u .before .before .loop in
@@ -232,7 +231,7 @@ nowhere t c =
     (c .if2 .came)
 
 search-loop-again : (t : ℕ) → search-lts.Need-loop-again (callees t) (search-at t) search′.Post search-Inv-loop search-μ-loop
-search-loop-again t c = 
+search-loop-again t c =
     let u = c .before .before in
     let p = spanned t u in
     let a = entry t p in

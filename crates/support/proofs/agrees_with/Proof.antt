@@ -1,14 +1,11 @@
 -- `agrees_with` hands `agree` the parts of the lists where tuple x of relation r lies.
 -- From the laws of a network's tables, and of the cells of a tuple by relation and index.
-use mathlib.Core.Path.{_≡_, sym, ap, _∙_}
-use Prim.Native.Nat.{_<_}
+use mathlib.Core.Path.{sym, ap, _∙_}
 use native.Mathlib.Omega.{arith}
-use lib.ListN.{length}
-use borrow.Author.Needs.{needs}
-use Rattle.model.specs.Network.{Network, size}
+use Rattle.model.specs.Network.{Network}
 use Rattle.model.specs.Agreement.{cells, agreeing}
 use Rattle.model.proofs.Agreement.{cellsOf-at}
-use Rattle.network.specs.Layout.{tabled, Laid}
+use Rattle.network.specs.Layout.{tabled}
 use Rattle.network.proofs.Places.{Within, below-limit, rises, place-within, place-lengths, place-cells}
 use Rattle.support.proofs.agrees_with.Statement.{statement}
 use Rattle.support.proofs.agrees_with.Tie as tie
@@ -26,10 +23,11 @@ lies c =
 
 -- src/lib.rt:54:9
 place-of-requires : tie.Need-place-of-requires
-place-of-requires c κs = 
-    let s = c .before .before .before .before in
-    (below-limit (net s) (s .args .variable-starts .now) (s .args .value-starts .now) (s .pre .0) (s .args .r) (s .args .x) (s .pre .1 .0),
-    rises (net s) (s .args .variable-starts .now) (s .args .value-starts .now) (s .pre .0) (s .args .r) (s .args .x) (s .pre .1 .0))
+place-of-requires c κs =
+    let s = c .before .before .before .before in (
+      below-limit (net s) (s .args .variable-starts .now) (s .args .value-starts .now) (s .pre .0) (s .args .r) (s .args .x) (s .pre .1 .0),
+      rises (net s) (s .args .variable-starts .now) (s .args .value-starts .now) (s .pre .0) (s .args .r) (s .args .x) (s .pre .1 .0),
+    )
 
 -- src/lib.rt:59:25
 mul-agree : tie.Need-mul-agree
@@ -65,14 +63,15 @@ part-agree-end-2 c = let l = lies (c .before) in omega arith
 
 -- src/lib.rt:59:5
 agree-requires : tie.Need-agree-requires
-agree-requires c κs = 
-    let s = entry (c .before .before) in
-    (s .pre .1 .1,
-    place-lengths (net s) (s .args .variable-starts .now) (s .args .value-starts .now) (s .pre .0) (s .args .r) (s .args .x) (s .pre .1 .0) (c .before .before .place-of .result) (c .before .before .place-of .ensures))
+agree-requires c κs =
+    let s = entry (c .before .before) in (
+      s .pre .1 .1,
+      place-lengths (net s) (s .args .variable-starts .now) (s .args .value-starts .now) (s .pre .0) (s .args .r) (s .args .x) (s .pre .1 .0) (c .before .before .place-of .result) (c .before .before .place-of .ensures),
+    )
 
 -- src/lib.rt:50:1
 returns : tie.Need-returns
-returns c = 
+returns c =
     let s = entry (c .before .before .before) in
     c .agree .ensures
     ∙ ap (agreeing (cells (s .args .scope .now) (s .args .tuple .now)))

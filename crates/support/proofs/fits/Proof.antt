@@ -4,7 +4,7 @@ use mathlib.Core.Path.{_≡_, refl, sym, ap, _∙_}
 use mathlib.Core.Bool.{true}
 use mathlib.Core.List.{List}
 use mathlib.Core.Logic.{⊎-elim}
-use Prim.Native.Nat.{ℕ, suc, _+_, _-_, _≤_, _<_}
+use Prim.Native.Nat.{ℕ, _-_, _≤_}
 use native.Mathlib.Numerals.{add-one}
 use native.Mathlib.Omega.{arith}
 use lib.ListN.{getD}
@@ -116,14 +116,15 @@ agrees-own c e =
 loop-again : tie.Need-loop-again Inv-loop μ-loop
 loop-again c =
     let l = c .before .before in
-    let s = entry (l .before .before) in
-    (omega arith,
-    rw add-one
-    (chosen-all (net s) (s .args .members .now) (s .args .t10) (λ (y : ℕ). agree (net s) y (tried s)) (l .loop .j) (l .loop .inv .1)
-    (⊎-elim
-    (λ w. sym (w .2 .ensures) ∙ not-false _ (w .3 .left))
-    (λ w. agrees-own (c .before) (w .left))
-    (c .if3 .came))))
+    let s = entry (l .before .before) in (
+      omega arith,
+      rw add-one
+          (chosen-all (net s) (s .args .members .now) (s .args .t10) (λ (y : ℕ). agree (net s) y (tried s)) (l .loop .j) (l .loop .inv .1)
+          (⊎-elim
+          (λ w. sym (w .2 .ensures) ∙ not-false _ (w .3 .left))
+          (λ w. agrees-own (c .before) (w .left))
+          (c .if3 .came))),
+    )
 
 returns-4 : tie.Need-returns-4 Inv-loop μ-loop
 returns-4 c =
