@@ -119,11 +119,12 @@ agree-sym N g h =
     iff-eq (agreeing (cellsOf N g) (cellsOf N h)) (agreeing (cellsOf N h) (cellsOf N g))
     (agreeing-turned (cellsOf N g) (cellsOf N h)) (agreeing-turned (cellsOf N h) (cellsOf N g))
 
-cells-at : (N : Network) (r x : ℕ) → x < size N r → cellsOf N (firstId N r + x) ≡ cells (scopeOf N r) (valuesAt N r x)
+-- the cells of the tuple at index x of relation r
+pub cellsOf-at : (N : Network) (r x : ℕ) → x < size N r → cellsOf N (firstId N r + x) ≡ cells (scopeOf N r) (valuesAt N r x)
 unfolding cellsOf tupleOf
-cells-at N r x h = rw (relationOf-at N r x h, indexOf-at N r x h)
+cellsOf-at N r x h = rw (relationOf-at N r x h, indexOf-at N r x h)
 
 -- by relation and index
 pub agree-at : (N : Network) (r x s y : ℕ) → x < size N r → y < size N s → agree N (firstId N r + x) (firstId N s + y) ≡ agreeing (cells (scopeOf N r) (valuesAt N r x)) (cells (scopeOf N s) (valuesAt N s y))
 unfolding agree
-agree-at N r x s y hx hy = ap₂ agreeing (cells-at N r x hx) (cells-at N s y hy)
+agree-at N r x s y hx hy = ap₂ agreeing (cellsOf-at N r x hx) (cellsOf-at N s y hy)

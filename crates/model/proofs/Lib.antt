@@ -8,6 +8,7 @@ pub mod Fault
 pub mod Combination
 pub mod LiveWords
 pub mod Support
+pub mod Search
 pub mod Consistency
 pub mod SupportList
 pub mod Work

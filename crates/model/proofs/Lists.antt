@@ -1,17 +1,18 @@
 -- Tests over lists against membership, the choices of one element from each list, and sums over parts of a list.
 use mathlib.Core.Path.{_≡_, refl, sym, _∙_, ap, subst}
 use mathlib.Core.Bool.{Bool, true, false, _&&_, _||_, false≢true}
-use mathlib.Core.List.{List, [], _∷_, _++_, map, map-append, List·Memᴰ, List·Memᴰ·head, List·Memᴰ·tail, List·Memᴰ·eq-of-singleton, List·Memᴰ·cases-cons, List·Memᴰ·append-cases, Memᴰ·append-left, Memᴰ·append-right, Memᴰ·map, Memᴰ·of-map, Memᴰ·cast, List·Memᴰ·not-nil}
+use mathlib.Core.Option.{orElse, Option·getD}
+use mathlib.Core.List.{List, [], _∷_, _++_, map, map-append, head?, List·Memᴰ, List·Memᴰ·head, List·Memᴰ·tail, List·Memᴰ·eq-of-singleton, List·Memᴰ·cases-cons, List·Memᴰ·append-cases, Memᴰ·append-left, Memᴰ·append-right, Memᴰ·map, Memᴰ·of-map, Memᴰ·cast, List·Memᴰ·not-nil}
 use mathlib.Core.Logic.{⊎-elim}
 use Prim.Native.Nat.{ℕ, zero, suc, _+_, _-_, _≤_, _<_}
 use native.Mathlib.Numerals.{add-one}
 use native.Mathlib.Omega.{arith}
 use native.Mathlib.Decide.{ℕ-discrete}
-use native.Mathlib.Nat.{add-zero, add-suc, suc-add, le-of-suc-le-suc}
+use native.Mathlib.Nat.{add-zero, zero-add, add-suc, suc-add, le-of-suc-le-suc}
 use lib.Dec.{ltb, eqb}
 use lib.ListN.{length, getD, take, drop}
 use lib.Seq.{drop-cons}
-use borrow.Author.Tests.{eqb-true, eq-eqb, ltb-true, lt-ltb}
+use borrow.Author.Tests.{eqb-true, eq-eqb, ltb-true, lt-ltb, ne-eqb, le-ltb}
 use Rattle.model.specs.Lists.{all, any, elem, from, sum, select, keepIf, firstOr, pairwise, choices, prefixed, earlier}
 use Rattle.model.proofs.Bools.{and-left, and-right, and-intro, or-left, or-right, or-cases}
 
@@ -65,10 +66,39 @@ module _ {ℓ} {A : Type ℓ} where
       (all-append (r x) xs ys (and-left (all (r x) xs) (pairwise r xs) p) (all-intro (r x) ys (λ y m. f x y here m)))
       (pairwise-append r xs ys (and-right (all (r x) xs) (pairwise r xs) p) q (λ y z m n. f y z (List·Memᴰ·tail m) n))
 
+  -- of two places, the earlier one's element is in the relation to the later one's
+  pub pairwise-getD : (r : A → A → Bool) (xs : List A) (i j : ℕ) (d : A) → pairwise r xs ≡ true → i < j → j < length xs → r (getD xs i d) (getD xs j d) ≡ true
+  pairwise-getD r [] i j d p h l = absurd (omega arith)
+  pairwise-getD r (x ∷ xs) i zero d p h l = absurd (omega arith)
+  pairwise-getD r (x ∷ xs) zero (suc j) d p h l = all-getD (r x) xs j d (and-left (all (r x) xs) (pairwise r xs) p) (le-of-suc-le-suc l)
+  pairwise-getD r (x ∷ xs) (suc i) (suc j) d p h l = pairwise-getD r xs i j d (and-right (all (r x) xs) (pairwise r xs) p) (le-of-suc-le-suc h) (le-of-suc-le-suc l)
+
   -- what stands before stands in the relation to all that stands after
   pub pairwise-after : (r : A → A → Bool) (xs : List A) (t : A) (ys : List A) → pairwise r (xs ++ (t ∷ ys)) ≡ true → all (r t) ys ≡ true
   pairwise-after r [] t ys p = and-left (all (r t) ys) (pairwise r ys) p
   pairwise-after r (x ∷ xs) t ys p = pairwise-after r xs t ys (and-right (all (r x) (xs ++ (t ∷ ys))) (pairwise r (xs ++ (t ∷ ys))) p)
+
+  -- what stands in the first part is in the relation to what stands in the second
+  pub pairwise-cross : (r : A → A → Bool) (xs ys : List A) {x y : A} → pairwise r (xs ++ ys) ≡ true → List·Memᴰ x xs → List·Memᴰ y ys → r x y ≡ true
+  pairwise-cross r [] ys p m n = absurd (List·Memᴰ·not-nil m)
+  pairwise-cross r (z ∷ xs) ys {y = y} p m n =
+      ⊎-elim
+      (λ e. ap (λ (x : A). r x y) e ∙ all-at (r z) (xs ++ ys) (and-left (all (r z) (xs ++ ys)) (pairwise r (xs ++ ys)) p) (Memᴰ·append-right xs n))
+      (λ h. pairwise-cross r xs ys (and-right (all (r z) (xs ++ ys)) (pairwise r (xs ++ ys)) p) h n)
+      (List·Memᴰ·cases-cons m)
+
+  -- two different elements are in the relation, if it is symmetric
+  pub pairwise-at : (r : A → A → Bool) → ((x y : A) → r x y ≡ r y x) → (xs : List A) {x y : A} → pairwise r xs ≡ true → List·Memᴰ x xs → List·Memᴰ y xs → (x ≡ y → ⊥) → r x y ≡ true
+  pairwise-at r s [] p m n d = absurd (List·Memᴰ·not-nil m)
+  pairwise-at r s (z ∷ xs) {x} {y} p m n d =
+      let first = and-left (all (r z) xs) (pairwise r xs) p in
+      ⊎-elim
+      (λ ex. ⊎-elim (λ ey. absurd (d (ex ∙ sym ey))) (λ hy. ap (λ (w : A). r w y) ex ∙ all-at (r z) xs first hy) (List·Memᴰ·cases-cons n))
+      (λ hx. ⊎-elim
+      (λ ey. s x y ∙ ap (λ (w : A). r w x) ey ∙ all-at (r z) xs first hx)
+      (λ hy. pairwise-at r s xs (and-right (all (r z) xs) (pairwise r xs) p) hx hy d)
+      (List·Memᴰ·cases-cons n))
+      (List·Memᴰ·cases-cons m)
 
   -- one element of each list
   pub data Picks : List (List A) → List A → Type ℓ where
@@ -99,6 +129,10 @@ module _ {ℓ} {A : Type ℓ} where
   picks-choices done = List·Memᴰ·head refl
   picks-choices (pick {xs} {xss} m p) = in-prefixed xs (choices xss) m (picks-choices p)
 
+  pub picks-append : {xss yss : List (List A)} {t u : List A} → Picks xss t → Picks yss u → Picks (xss ++ yss) (t ++ u)
+  picks-append done q = q
+  picks-append (pick m p) q = pick m (picks-append p q)
+
 -- ---- Selection
 
 -- tests that say the same of the list's elements select the same
@@ -106,7 +140,32 @@ pub select-cong {ℓ} : {A : Type ℓ} (p q : A → Bool) (xs : List A) → ((x 
 select-cong p q [] f = refl
 select-cong p q (x ∷ xs) f = ap (λ b. keepIf b x (select p xs)) (f x here) ∙ ap (keepIf (q x) x) (select-cong p q xs (λ y m. f y (List·Memᴰ·tail m)))
 
+module _ {ℓ} {A : Type ℓ} where
+  pub head-append : (xs ys : List A) → head? (xs ++ ys) ≡ orElse (head? xs) (head? ys)
+  unfolding orElse
+  head-append [] ys = refl
+  head-append (x ∷ xs) ys = refl
+
+  pub firstOr-head : (d : A) (xs : List A) → firstOr d xs ≡ Option·getD (head? xs) d
+  firstOr-head d [] = refl
+  firstOr-head d (x ∷ xs) = refl
+
 module _ {ℓ} {A : Type ℓ} (p : A → Bool) where
+  keepIf-append : (b : Bool) (x : A) (xs ys : List A) → keepIf b x (xs ++ ys) ≡ keepIf b x xs ++ ys
+  keepIf-append true x xs ys = refl
+  keepIf-append false x xs ys = refl
+
+  pub select-append : (xs ys : List A) → select p (xs ++ ys) ≡ select p xs ++ select p ys
+  select-append [] ys = refl
+  select-append (x ∷ xs) ys = ap (keepIf (p x) x) (select-append xs ys) ∙ keepIf-append (p x) x (select p xs) (select p ys)
+
+  -- all is selected where all passes
+  pub select-all : (xs : List A) → all p xs ≡ true → select p xs ≡ xs
+  select-all [] e = refl
+  select-all (x ∷ xs) e =
+      ap (λ (b : Bool). keepIf b x (select p xs)) (and-left (p x) (all p xs) e)
+      ∙ ap {B = List A} (λ t. x ∷ t) (select-all xs (and-right (p x) (all p xs) e))
+
   keepIf-mem : (y : A) (xs : List A) {x : A} → (List·Memᴰ x (select p xs) → List·Memᴰ x xs × (p x ≡ true)) → (v : Bool) → p y ≡ v → List·Memᴰ x (keepIf v y (select p xs)) → List·Memᴰ x (y ∷ xs) × (p x ≡ true)
   keepIf-mem y xs f true e m =
       ⊎-elim (λ q. (List·Memᴰ·head q, ap p q ∙ e)) (λ h. (List·Memᴰ·tail (f h .0), f h .1)) (List·Memᴰ·cases-cons m)
@@ -207,10 +266,23 @@ pub length-from : (i n : ℕ) → length (from i n) ≡ n
 length-from i zero = refl
 length-from i (suc n) = ap suc (length-from (suc i) n)
 
+pub from-append : (i m n : ℕ) → from i (m + n) ≡ from i m ++ from (i + m) n
+from-append i zero n = simp (zero-add, add-zero)
+from-append i (suc m) n =
+    let e : suc i + m ≡ i + suc m = omega arith in
+    rw suc-add (ap {B = List ℕ} (λ t. i ∷ t) (from-append (suc i) m n ∙ ap (λ (k : ℕ). from (suc i) m ++ from k n) e))
+
 pub getD-map-from {ℓ} : {A : Type ℓ} (f : ℕ → A) (i n k : ℕ) (d : A) → k < n → getD (map f (from i n)) k d ≡ f (i + k)
 getD-map-from f i zero k d h = absurd (omega arith)
 getD-map-from f i (suc n) zero d h = rw add-zero
 getD-map-from f i (suc n) (suc k) d h = getD-map-from f (suc i) n k d (le-of-suc-le-suc h) ∙ ap f (suc-add i k ∙ sym (add-suc i k))
+
+-- functions that give the same on a range
+pub map-from-same {ℓ} : {A : Type ℓ} (f g : ℕ → A) (i n : ℕ) → ((j : ℕ) → i ≤ j → j < i + n → f j ≡ g j) → map f (from i n) ≡ map g (from i n)
+map-from-same f g i zero h = refl
+map-from-same {A = A} f g i (suc n) h =
+    ap {B = List A} (λ x. x ∷ map f (from (suc i) n)) (h i (omega arith) (omega arith))
+    ∙ ap {B = List A} (λ t. g i ∷ t) (map-from-same f g (suc i) n (λ j a b. h j (omega arith) (omega arith)))
 
 -- The first number from i on that passes, and end where none does.
 pub record First (p : ℕ → Bool) (i end x : ℕ) : Type 0 where
@@ -274,6 +346,60 @@ earlier-same x t u e = or-right (ltb x x) (and-intro (eq-eqb x x refl) e)
 
 earlier-less : (x y : ℕ) (t u : List ℕ) → x < y → earlier (x ∷ t) (y ∷ u) ≡ true
 earlier-less x y t u h = or-left (eqb x y && earlier t u) (lt-ltb x y h)
+
+earlier-cons : (x y : ℕ) (xs ys : List ℕ) → x ≡ y → earlier (x ∷ xs) (y ∷ ys) ≡ earlier xs ys
+earlier-cons x y xs ys e =
+    ap (λ (b : Bool). b || (eqb x y && earlier xs ys)) (le-ltb x y (omega arith)) ∙ ap (λ (b : Bool). b && earlier xs ys) (eq-eqb x y e)
+
+earlier-more : (x y : ℕ) (xs ys : List ℕ) → y < x → earlier (x ∷ xs) (y ∷ ys) ≡ false
+earlier-more x y xs ys h =
+    ap (λ (b : Bool). b || (eqb x y && earlier xs ys)) (le-ltb x y (omega arith)) ∙ ap (λ (b : Bool). b && earlier xs ys) (ne-eqb x y (λ e. omega arith))
+
+-- the first elements of a list are not earlier than the list
+pub earlier-take : (k : ℕ) (ys : List ℕ) → earlier (take k ys) ys ≡ false
+earlier-take zero ys = refl
+earlier-take (suc k) [] = refl
+earlier-take (suc k) (y ∷ ys) = earlier-cons y y (take k ys) ys refl ∙ earlier-take k ys
+
+-- equal up to place k, and there less, or more
+pub earlier-below : (k x : ℕ) (ys : List ℕ) → k < length ys → x < getD ys k 0 → earlier (take k ys ++ (x ∷ [])) ys ≡ true
+earlier-below k x [] h l = absurd (omega arith)
+earlier-below zero x (y ∷ ys) h l = or-left (eqb x y && false) (lt-ltb x y l)
+earlier-below (suc k) x (y ∷ ys) h l = earlier-cons y y (take k ys ++ (x ∷ [])) ys refl ∙ earlier-below k x ys (le-of-suc-le-suc h) l
+
+pub earlier-above : (k x : ℕ) (ys : List ℕ) → k < length ys → getD ys k 0 < x → earlier ys (take k ys ++ (x ∷ [])) ≡ true
+earlier-above k x [] h l = absurd (omega arith)
+earlier-above zero x (y ∷ ys) h l = or-left (eqb y x && earlier ys []) (lt-ltb y x l)
+earlier-above (suc k) x (y ∷ ys) h l = earlier-cons y y ys (take k ys ++ (x ∷ [])) refl ∙ earlier-above k x ys (le-of-suc-le-suc h) l
+
+-- what is later by its first elements is later, however it goes on
+pub later-append : (xs t ys : List ℕ) → earlier ys xs ≡ true → earlier ys (xs ++ t) ≡ true
+later-append xs t [] e = absurd (false≢true e)
+later-append [] t (y ∷ ys) e = absurd (false≢true e)
+later-append (x ∷ xs) t (y ∷ ys) e =
+    ⊎-elim
+    (λ h. or-left (eqb y x && earlier ys (xs ++ t)) h)
+    (λ h. or-right (ltb y x) (and-intro (and-left (eqb y x) (earlier ys xs) h) (later-append xs t ys (and-right (eqb y x) (earlier ys xs) h))))
+    (or-cases (ltb y x) (eqb y x && earlier ys xs) e)
+
+pub later-earlier : (xs ys : List ℕ) → earlier ys xs ≡ true → earlier xs ys ≡ false
+later-earlier xs [] e = absurd (false≢true e)
+later-earlier [] (y ∷ ys) e = refl
+later-earlier (x ∷ xs) (y ∷ ys) e =
+    ⊎-elim
+    (λ h. earlier-more x y xs ys (ltb-true y x h))
+    (λ h. earlier-cons x y xs ys (sym (eqb-true y x (and-left (eqb y x) (earlier ys xs) h))) ∙ later-earlier xs ys (and-right (eqb y x) (earlier ys xs) h))
+    (or-cases (ltb y x) (eqb y x && earlier ys xs) e)
+
+-- what is earlier by its first elements is earlier, however it goes on
+pub earlier-append : (xs t ys : List ℕ) → earlier xs ys ≡ true → earlier (xs ++ t) ys ≡ true
+earlier-append [] t ys e = absurd (false≢true e)
+earlier-append (x ∷ xs) t [] e = absurd (false≢true e)
+earlier-append (x ∷ xs) t (y ∷ ys) e =
+    ⊎-elim
+    (λ h. or-left (eqb x y && earlier (xs ++ t) ys) h)
+    (λ h. or-right (ltb x y) (and-intro (and-left (eqb x y) (earlier xs ys) h) (earlier-append xs t ys (and-right (eqb x y) (earlier xs ys) h))))
+    (or-cases (ltb x y) (eqb x y && earlier xs ys) e)
 
 prefix-earlier : (x : ℕ) (ts : List (List ℕ)) → pairwise earlier ts ≡ true → pairwise earlier (map (λ (t : List ℕ). x ∷ t) ts) ≡ true
 prefix-earlier x [] e = refl

@@ -3,8 +3,9 @@ use mathlib.Core.Path.{_≡_, refl, sym, _∙_, ap, subst}
 use mathlib.Core.Bool.{Bool, true, false, _&&_}
 use mathlib.Core.List.{List, [], _∷_, map, List·Memᴰ, List·Memᴰ·head, List·Memᴰ·tail, List·Memᴰ·cases-cons, List·Memᴰ·append-cases, List·Memᴰ·not-nil, Memᴰ·append-right}
 use mathlib.Core.Logic.{_⊎_, inl, inr, ⊎-elim}
-use Prim.Native.Nat.{ℕ, zero, suc, _-_, _≤_}
+use Prim.Native.Nat.{ℕ, zero, suc, _-_, _≤_, _<_}
 use native.Mathlib.Omega.{arith}
+use borrow.Author.Tests.{ltb-true}
 use lib.Dec.{ltb}
 use lib.ListN.{length, replicate, length-map, length-replicate}
 use Rattle.model.specs.Limits.{noSupport}
@@ -64,6 +65,25 @@ module _ (N : Network) where
       ⊎-elim
       (λ e. List·Memᴰ·head (ap (relationOf N) e ∙ relationOf-ids N r k))
       (λ h. List·Memᴰ·tail (picks-member c p h))
+      (List·Memᴰ·cases-cons m)
+
+  -- the first member is below the others
+  rising-head : (r : ℕ) (c : Combination) {s : ℕ} → pairwise ltb (r ∷ c) ≡ true → List·Memᴰ s c → r < s
+  rising-head r c {s} rises m = ltb-true r s (all-at (ltb r) c (and-left (all (ltb r) c) (pairwise ltb c) rises) m)
+
+  -- a choice has one tuple of a relation, if the members rise
+  pub picks-same : (c : Combination) {t : List ℕ} {x y : ℕ} → pairwise ltb c ≡ true → Picks (map (idsOf N) c) t → List·Memᴰ x t → List·Memᴰ y t → relationOf N x ≡ relationOf N y → x ≡ y
+  picks-same [] rises done m n e = absurd (List·Memᴰ·not-nil m)
+  picks-same (r ∷ c) {x = x} {y} rises (pick k p) m n e =
+      ⊎-elim
+      (λ hx. ⊎-elim
+      (λ hy. hx ∙ sym hy)
+      (λ ty. let l = rising-head r c rises (picks-member c p ty) in let q = ap (relationOf N) hx ∙ relationOf-ids N r k in absurd (omega arith))
+      (List·Memᴰ·cases-cons n))
+      (λ tx. ⊎-elim
+      (λ hy. let l = rising-head r c rises (picks-member c p tx) in let q = ap (relationOf N) hy ∙ relationOf-ids N r k in absurd (omega arith))
+      (λ ty. picks-same c (and-right (all (ltb r) c) (pairwise ltb c) rises) p tx ty e)
+      (List·Memᴰ·cases-cons n))
       (List·Memᴰ·cases-cons m)
 
   -- a candidate's tuples are of the members

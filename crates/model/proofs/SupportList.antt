@@ -13,7 +13,7 @@ use Rattle.model.specs.Network.{Network, size, firstId, idsOf}
 use Rattle.model.specs.Combination.{Combination, combinations, pairCombination, pairMember}
 use Rattle.model.specs.Support.{firstSupport}
 use Rattle.model.specs.Consistency.{supportList, needed, supportStart}
-use Rattle.model.proofs.Lists.{here, from-mem, length-from, map-places, sum-take-suc, sum-take-le}
+use Rattle.model.proofs.Lists.{here, from-mem, length-from, map-places, sum-take-suc, sum-take-le, from-append}
 use Rattle.model.proofs.Consistency.{each-length, sum-times, sum-same, supportList-length}
 use Rattle.model.proofs.Support.{firstSupport-length}
 
@@ -43,12 +43,6 @@ each-from {B} f len i (suc n) list h =
     ∙ subst (λ (x : ℕ). take (len x) (drop (a + sum (map len (from (suc i) k))) list) ≡ f x) (add-suc i k ∙ sym (suc-add i k)) (h (suc k) (omega arith))))
 
 -- ---- The support list by pairs
-
-from-append : (i m n : ℕ) → from i (m + n) ≡ from i m ++ from (i + m) n
-from-append i zero n = ap (from i) (zero-add n) ∙ ap (λ (k : ℕ). from k n) (sym (add-zero i))
-from-append i (suc m) n =
-    ap (from i) (suc-add m n)
-    ∙ ap {B = List ℕ} (λ t. i ∷ t) (from-append (suc i) m n ∙ ap (λ (k : ℕ). from (suc i) m ++ from k n) (suc-add i m ∙ sym (add-suc i m)))
 
 -- f of each element of a part of a list, by places
 each-part : {B : Type 0} (f : ℕ → List B) (list : List ℕ) (m i : ℕ) → i + m ≤ length list → each f (take m (drop i list)) ≡ each (λ (p : ℕ). f (getD list p 0)) (from i m)

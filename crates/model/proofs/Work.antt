@@ -2,47 +2,25 @@
 -- From the laws of supports and of filtering; no order of work is assumed.
 use mathlib.Core.Path.{_≡_, sym, _∙_, ap, subst}
 use mathlib.Core.Bool.{true, not}
-use mathlib.Core.List.{List, [], _∷_, map, List·Memᴰ, List·Memᴰ·cases-cons, List·Memᴰ·not-nil}
-use mathlib.Core.Logic.{⊎-elim}
-use Prim.Native.Nat.{ℕ, _<_}
-use native.Mathlib.Omega.{arith}
+use mathlib.Core.List.{List, map, List·Memᴰ}
+use Prim.Native.Nat.{ℕ}
 use lib.Dec.{eqb, ltb}
 use lib.ListN.{length, replicate}
-use borrow.Author.Tests.{ne-eqb, ltb-true}
+use borrow.Author.Tests.{ne-eqb}
 use Rattle.model.specs.Limits.{noSupport}
 use Rattle.model.specs.Lists.{all, firstOr, pairwise}
 use Rattle.model.specs.TupleSet.{TupleSet, has, without, Inside}
-use Rattle.model.specs.Network.{Network, idsOf, relationOf, indexOf}
+use Rattle.model.specs.Network.{Network, relationOf, indexOf}
 use Rattle.model.specs.Combination.{Combination}
 use Rattle.model.specs.Support.{candidates, isSupport, supports, firstSupport}
 use Rattle.model.specs.Consistency.{filtered}
-use Rattle.model.proofs.Bools.{and-left, and-right, iff-eq}
-use Rattle.model.proofs.Lists.{all-at, all-intro, select-cong, Picks, done, pick}
+use Rattle.model.proofs.Bools.{iff-eq}
+use Rattle.model.proofs.Lists.{all-at, all-intro, select-cong}
 use Rattle.model.proofs.TupleSet.{restrict-intro, restrict-inside, without-length, inside-eq}
-use Rattle.model.proofs.Network.{relationOf-ids}
-use Rattle.model.proofs.Support.{Supported, isSupport-intro, isSupport-self, isSupport-live, isSupport-agree, isSupport-mono, isSupport-shared, candidates-picks, candidates-member, picks-member}
+use Rattle.model.proofs.Support.{Supported, isSupport-intro, isSupport-self, isSupport-live, isSupport-agree, isSupport-mono, isSupport-shared, candidates-picks, candidates-member, picks-same}
 use Rattle.model.proofs.Consistency.{supported-at, supported-intro, filtered-largest, filtered-length, filtered-mono, filtered-consistent}
 
 module _ (N : Network) where
-  -- ---- A choice has one tuple of a relation
-
-  rising-head : (r : ℕ) (c : Combination) {s : ℕ} → pairwise ltb (r ∷ c) ≡ true → List·Memᴰ s c → r < s
-  rising-head r c {s} e m = ltb-true r s (all-at (ltb r) c (and-left (all (ltb r) c) (pairwise ltb c) e) m)
-
-  pub picks-same : (c : Combination) {t : List ℕ} {x y : ℕ} → pairwise ltb c ≡ true → Picks (map (idsOf N) c) t → List·Memᴰ x t → List·Memᴰ y t → relationOf N x ≡ relationOf N y → x ≡ y
-  picks-same [] e done m n q = absurd (List·Memᴰ·not-nil m)
-  picks-same (r ∷ c) e (pick k p) m n q =
-      ⊎-elim
-      (λ hx. ⊎-elim
-      (λ hy. hx ∙ sym hy)
-      (λ ty. let l = rising-head r c e (picks-member N c p ty) in let s = ap (relationOf N) hx ∙ relationOf-ids N r k in absurd (omega arith))
-      (List·Memᴰ·cases-cons n))
-      (λ tx. ⊎-elim
-      (λ hy. let l = rising-head r c e (picks-member N c p tx) in let s = ap (relationOf N) hy ∙ relationOf-ids N r k in absurd (omega arith))
-      (λ ty. picks-same c (and-right (all (ltb r) c) (pairwise ltb c) e) p tx ty q)
-      (List·Memᴰ·cases-cons n))
-      (List·Memᴰ·cases-cons m)
-
   -- ---- Removing tuple g
 
   module _ (S : TupleSet) (g : ℕ) where
@@ -94,7 +72,7 @@ module _ (N : Network) where
 
     -- h is another tuple of g's relation
     pub unused-sibling : (c : Combination) (h : ℕ) → pairwise ltb c ≡ true → relationOf N h ≡ relationOf N g → (g ≡ h → ⊥) → Unused c h
-    unused-sibling c h rise q d t m e k = d (picks-same c rise (candidates-picks N c m) k (isSupport-self N S h t e) (sym q))
+    unused-sibling c h rise q d t m e k = d (picks-same N c rise (candidates-picks N c m) k (isSupport-self N S h t e) (sym q))
 
   -- ---- What is left does not change, and the end
 

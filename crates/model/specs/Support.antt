@@ -1,10 +1,11 @@
 -- Supports of a tuple in a combination, in the papers' order.
-use mathlib.Core.Bool.{Bool, _&&_}
-use mathlib.Core.List.{List, map}
+use mathlib.Core.Bool.{Bool, not, _&&_}
+use mathlib.Core.Option.{Option}
+use mathlib.Core.List.{List, _++_, map, head?}
 use Prim.Native.Nat.{ℕ}
 use lib.ListN.{length, replicate}
 use Rattle.model.specs.Limits.{noSupport}
-use Rattle.model.specs.Lists.{all, elem, select, firstOr, pairwise, choices}
+use Rattle.model.specs.Lists.{all, elem, select, firstOr, pairwise, choices, earlier}
 use Rattle.model.specs.TupleSet.{TupleSet, has}
 use Rattle.model.specs.Network.{Network, idsOf, indexOf}
 use Rattle.model.specs.Agreement.{agree}
@@ -25,3 +26,17 @@ supports N S c g = select (isSupport N S g) (candidates N c)
 -- the indices of the first support, one for each member; 65,535 for each where there is none
 unfoldable pub firstSupport : Network → TupleSet → Combination → ℕ → List ℕ
 firstSupport N S c g = firstOr (replicate (length c) noSupport) (map (map (indexOf N)) (supports N S c g))
+
+-- ---- From a place in the order
+
+-- the first of the candidates ts that is a support of tuple g and not earlier than low, by the indices of its tuples
+unfoldable pub firstAmong : Network → TupleSet → ℕ → List ℕ → List (List ℕ) → Option (List ℕ)
+firstAmong N S g low ts = head? (select (λ (is : List ℕ). not (earlier is low)) (map (map (indexOf N)) (select (isSupport N S g) ts)))
+
+-- the first support of tuple g in combination c at or after low
+unfoldable pub supportFrom : Network → TupleSet → Combination → ℕ → List ℕ → Option (List ℕ)
+supportFrom N S c g low = firstAmong N S g low (candidates N c)
+
+-- the first that begins with the tuples ch and goes on with one tuple of each list of xss
+unfoldable pub completion : Network → TupleSet → ℕ → List ℕ → List ℕ → List (List ℕ) → Option (List ℕ)
+completion N S g low ch xss = firstAmong N S g low (map (λ (t : List ℕ). ch ++ t) (choices xss))

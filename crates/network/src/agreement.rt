@@ -39,7 +39,7 @@ pub fn agree(scope_a: &[u16], a: &[u16], scope_b: &[u16], b: &[u16]) -> bool
 }
 
 // Where the scope of relation r and the values of its tuple x lie.
-fn place_of(variable_starts: &[u16; 65], value_starts: &[u16; 65], r: u16, x: u16) -> Place
+pub fn place_of(variable_starts: &[u16; 65], value_starts: &[u16; 65], r: u16, x: u16) -> Place
     requires { ⌜ (r < 64) × (getD (now «variable_starts») r 0 ≤ getD (now «variable_starts») (r + 1) 0) ⌝ }
     ensures { λ p. ⌜ p ≡ placeAt (now («variable_starts» .entry)) (now («value_starts» .entry)) r x ⌝ }
 {

@@ -1,0 +1,203 @@
+-- Laws of the search for a support, member by member: when it is done, when it goes on, and when it can find nothing.
+-- From the definition of the first support among candidates, and the laws of lists, supports, agreement and live words.
+use mathlib.Core.Path.{_≡_, refl, sym, _∙_, ap, subst}
+use mathlib.Core.Bool.{Bool, true, false, not}
+use mathlib.Core.Option.{Option, none, some, orElse, Option·getD}
+use mathlib.Core.List.{List, [], _∷_, _++_, map, map-append, map-id, append-nil, append-assoc, head?, List·Memᴰ, List·Memᴰ·tail, Memᴰ·append-left, Memᴰ·append-right, Memᴰ·of-map}
+use Prim.Native.Nat.{ℕ, suc, _+_, _-_, _≤_, _<_}
+use native.Mathlib.Omega.{arith}
+use lib.Dec.{ltb}
+use lib.ListN.{length, replicate}
+use borrow.Author.Tests.{not-true}
+use Rattle.model.specs.Limits.{noSupport}
+use Rattle.model.specs.Lists.{from, all, select, pairwise, choices, prefixed, earlier}
+use Rattle.model.specs.TupleSet.{TupleSet, has}
+use Rattle.model.specs.Network.{Network, total, idsOf, indexOf, relationOf}
+use Rattle.model.specs.Agreement.{agree}
+use Rattle.model.specs.Combination.{Combination}
+use Rattle.model.specs.LiveWords.{living, nextLive}
+use Rattle.model.specs.Support.{candidates, isSupport, supports, firstSupport, firstAmong, supportFrom, completion}
+use Rattle.model.proofs.Bools.{not-both, and-intro}
+use Rattle.model.proofs.Lists.{here, all-at, all-intro, all-map, pairwise-at, pairwise-cross, Picks, choices-picks, picks-append, select-append, select-all, select-mem, select-none, head-append, firstOr-head, from-append, from-mem, earlier-append}
+use Rattle.model.proofs.Agreement.{agree-sym}
+use Rattle.model.proofs.LiveWords.{living-has, nextLive-first}
+use Rattle.model.proofs.Support.{isSupport-self, isSupport-live, isSupport-agree, picks-same}
+
+module _ (N : Network) (S : TupleSet) (g : ℕ) (low : List ℕ) where
+  abbrev late : List ℕ → Bool
+  late is = not (earlier is low)
+
+  -- ---- The first among candidates
+
+  abbrev named : List (List ℕ) → List (List ℕ)
+  named ts = map (map (indexOf N)) (select (isSupport N S g) ts)
+
+  firstAmong-append : (ts us : List (List ℕ)) → firstAmong N S g low (ts ++ us) ≡ orElse (firstAmong N S g low ts) (firstAmong N S g low us)
+  unfolding firstAmong
+  firstAmong-append ts us =
+      ap (λ (vs : List (List ℕ)). head? (select late (map (map (indexOf N)) vs))) (select-append (isSupport N S g) ts us)
+      ∙ ap (λ (vs : List (List ℕ)). head? (select late vs)) (map-append (map (indexOf N)) (select (isSupport N S g) ts) (select (isSupport N S g) us))
+      ∙ ap head? (select-append late (named ts) (named us))
+      ∙ head-append (select late (named ts)) (select late (named us))
+
+  firstAmong-none : (ts : List (List ℕ)) → ((t : List ℕ) → List·Memᴰ t ts → isSupport N S g t ≡ true → earlier (map (indexOf N) t) low ≡ false → ⊥) → firstAmong N S g low ts ≡ none
+  unfolding firstAmong
+  firstAmong-none ts f =
+      ap head?
+      (select-none late (named ts)
+      (λ is m e.
+      let k = Memᴰ·of-map (map (indexOf N)) (select (isSupport N S g) ts) m in
+      let s = select-mem (isSupport N S g) ts (k .1) in
+      f (k .0) (s .0) (s .1) (ap (λ (js : List ℕ). earlier js low) (k .2) ∙ not-true (earlier is low) e)))
+
+  -- ---- One member's turn
+
+  -- no member is left
+  pub completion-done : (ch : List ℕ) → isSupport N S g ch ≡ true → earlier (map (indexOf N) ch) low ≡ false → completion N S g low ch [] ≡ some (map (indexOf N) ch)
+  unfolding completion firstAmong
+  completion-done ch s l = rw (append-nil ch, s, l)
+
+  -- the next member has no tuple left
+  pub completion-none : (ch : List ℕ) (xss : List (List ℕ)) → completion N S g low ch ([] ∷ xss) ≡ none
+  unfolding completion firstAmong
+  completion-none ch xss = refl
+
+  -- the next member's tuple x first, and otherwise the tuples after x
+  pub completion-step : (ch : List ℕ) (x : ℕ) (xs : List ℕ) (xss : List (List ℕ)) → completion N S g low ch ((x ∷ xs) ∷ xss) ≡ orElse (completion N S g low (ch ++ (x ∷ [])) xss) (completion N S g low ch (xs ∷ xss))
+  unfolding completion
+  completion-step ch x xs xss =
+      ap (firstAmong N S g low)
+      (map-append (λ (t : List ℕ). ch ++ t) (map (λ (t : List ℕ). x ∷ t) (choices xss)) (prefixed xs (choices xss))
+      ∙ ap (λ (ts : List (List ℕ)). ts ++ map (λ (t : List ℕ). ch ++ t) (prefixed xs (choices xss))) (onward (choices xss)))
+      ∙ firstAmong-append (map (λ (t : List ℕ). ch ++ (x ∷ []) ++ t) (choices xss)) (map (λ (t : List ℕ). ch ++ t) (prefixed xs (choices xss)))
+    where
+      onward : (ts : List (List ℕ)) → map (λ (t : List ℕ). ch ++ t) (map (λ (t : List ℕ). x ∷ t) ts) ≡ map (λ (t : List ℕ). ch ++ (x ∷ []) ++ t) ts
+      onward [] = refl
+      onward (t ∷ ts) = ap {B = List (List ℕ)} (λ u. u ∷ map (λ (t : List ℕ). ch ++ t) (map (λ (t : List ℕ). x ∷ t) ts)) (sym (append-assoc ch (x ∷ []) t)) ∙ ap {B = List (List ℕ)} (λ us. (ch ++ (x ∷ []) ++ t) ∷ us) (onward ts)
+
+  -- ---- When nothing can be found
+
+  -- no support goes on from ch
+  completion-hopeless : (ch : List ℕ) (xss : List (List ℕ)) → ((t : List ℕ) → Picks xss t → isSupport N S g (ch ++ t) ≡ true → earlier (map (indexOf N) (ch ++ t)) low ≡ false → ⊥) → completion N S g low ch xss ≡ none
+  unfolding completion
+  completion-hopeless ch xss f =
+      firstAmong-none (map (λ (t : List ℕ). ch ++ t) (choices xss))
+      (λ u m s l.
+      let k = Memᴰ·of-map (λ (t : List ℕ). ch ++ t) (choices xss) m in
+      f (k .0) (choices-picks xss (k .1))
+      (ap (isSupport N S g) (k .2) ∙ s) (ap (λ (t : List ℕ). earlier (map (indexOf N) t) low) (k .2) ∙ l))
+
+  -- a tuple chosen is dead
+  pub completion-dead : (ch : List ℕ) (xss : List (List ℕ)) {x : ℕ} → List·Memᴰ x ch → has S x ≡ false → completion N S g low ch xss ≡ none
+  completion-dead ch xss m e =
+      completion-hopeless ch xss (λ t p s l. not-both (all-at (has S) (ch ++ t) (isSupport-live N S g (ch ++ t) s) (Memᴰ·append-left t m)) e)
+
+  -- what is chosen is earlier than low
+  pub completion-early : (ch : List ℕ) (xss : List (List ℕ)) → earlier (map (indexOf N) ch) low ≡ true → completion N S g low ch xss ≡ none
+  completion-early ch xss e =
+      completion-hopeless ch xss
+      (λ t p s l. not-both
+      (ap (λ (is : List ℕ). earlier is low) (map-append (indexOf N) ch t) ∙ earlier-append (map (indexOf N) ch) (map (indexOf N) t) low e)
+      l)
+
+  -- the tuple chosen last, another than g, does not agree with g or with one chosen before it
+  pub completion-clash : (ch : List ℕ) (x : ℕ) (xss : List (List ℕ)) → (g ≡ x → ⊥) → all (λ (y : ℕ). agree N y x) (g ∷ ch) ≡ false → completion N S g low (ch ++ (x ∷ [])) xss ≡ none
+  completion-clash ch x xss d e =
+      completion-hopeless (ch ++ (x ∷ [])) xss
+      (λ t p s l.
+      let u = ch ++ (x ∷ []) ++ t in
+      let pairs = isSupport-agree N S g u s in
+      let x-in : List·Memᴰ x u = Memᴰ·append-left t (Memᴰ·append-right ch here) in
+      let x-after : List·Memᴰ x ((x ∷ []) ++ t) = here in
+      not-both
+      (and-intro
+      (pairwise-at (agree N) (agree-sym N) u pairs (isSupport-self N S g u s) x-in d)
+      (all-intro (λ (y : ℕ). agree N y x) ch
+      (λ y m. pairwise-cross (agree N) ch ((x ∷ []) ++ t) (ap (pairwise (agree N)) (sym (append-assoc ch (x ∷ []) t)) ∙ pairs) m x-after)))
+      e)
+
+  -- a tuple chosen is of g's relation, and not g
+  pub completion-other : (c d : Combination) (ch : List ℕ) {x : ℕ} → pairwise ltb (c ++ d) ≡ true → Picks (map (idsOf N) c) ch → List·Memᴰ x ch → relationOf N x ≡ relationOf N g → (x ≡ g → ⊥) → completion N S g low ch (map (idsOf N) d) ≡ none
+  completion-other c d ch rises p m e other =
+      completion-hopeless ch (map (idsOf N) d)
+      (λ t q s l. other
+      (picks-same N (c ++ d) rises (subst (λ (xss : List (List ℕ)). Picks xss (ch ++ t)) (sym (map-append (idsOf N) c d)) (picks-append p q))
+      (Memᴰ·append-left t m) (isSupport-self N S g (ch ++ t) s) e))
+
+  -- ---- Parts of the next member's tuples
+
+  module _ (ch : List ℕ) (xss : List (List ℕ)) where
+    -- every one of these tuples leads to nothing
+    abbrev pub Hopeless : (ℕ → Type 0) → Type 0
+    Hopeless P = (x : ℕ) → P x → completion N S g low (ch ++ (x ∷ [])) xss ≡ none
+
+    completion-skip : (xs ys : List ℕ) → Hopeless (λ x. List·Memᴰ x xs) → completion N S g low ch ((xs ++ ys) ∷ xss) ≡ completion N S g low ch (ys ∷ xss)
+    unfolding orElse
+    completion-skip [] ys f = refl
+    completion-skip (x ∷ xs) ys f =
+        completion-step ch x (xs ++ ys) xss
+        ∙ ap (λ (o : Option (List ℕ)). orElse o (completion N S g low ch ((xs ++ ys) ∷ xss))) (f x here)
+        ∙ completion-skip xs ys (λ y m. f y (List·Memᴰ·tail m))
+
+    completion-cut : (xs ys : List ℕ) → Hopeless (λ y. List·Memᴰ y ys) → completion N S g low ch ((xs ++ ys) ∷ xss) ≡ completion N S g low ch (xs ∷ xss)
+    completion-cut [] ys f =
+        ap (λ (zs : List ℕ). completion N S g low ch (zs ∷ xss)) (sym (append-nil ys)) ∙ completion-skip ys [] f
+    completion-cut (x ∷ xs) ys f =
+        completion-step ch x (xs ++ ys) xss
+        ∙ ap (orElse (completion N S g low (ch ++ (x ∷ [])) xss)) (completion-cut xs ys f)
+        ∙ sym (completion-step ch x xs xss)
+
+    -- the first that goes on with one of the ids from i on and below end
+    abbrev pub reach : ℕ → ℕ → Option (List ℕ)
+    reach i end = completion N S g low ch (from i (end - i) ∷ xss)
+
+    pub reach-none : (i end : ℕ) → end ≤ i → reach i end ≡ none
+    reach-none i end h = let e : end - i ≡ 0 = omega arith in rw e (completion-none ch xss)
+
+    pub reach-step : (i end : ℕ) → i < end → reach i end ≡ orElse (completion N S g low (ch ++ (i ∷ [])) xss) (reach (suc i) end)
+    reach-step i end h = let e : end - i ≡ suc (end - suc i) = omega arith in rw e (completion-step ch i (from (suc i) (end - suc i)) xss)
+
+    -- ids that lead to nothing are passed over
+    pub reach-skip : (i j end : ℕ) → i ≤ j → j ≤ end → Hopeless (λ x. (i ≤ x) × (x < j)) → reach i end ≡ reach j end
+    reach-skip i j end h k f =
+        let e : end - i ≡ (j - i) + (end - j) = omega arith in
+        let b : i + (j - i) ≡ j = omega arith in
+        rw (e, from-append i (j - i) (end - j), b)
+        (completion-skip (from i (j - i)) (from j (end - j)) (λ x m. let r = from-mem i (j - i) x m in f x (r .0, omega arith)))
+
+    -- the last ids lead to nothing
+    pub reach-cut : (i j end : ℕ) → i ≤ j → j ≤ end → Hopeless (λ x. (j ≤ x) × (x < end)) → reach i end ≡ reach i j
+    reach-cut i j end h k f =
+        let e : end - i ≡ (j - i) + (end - j) = omega arith in
+        let b : i + (j - i) ≡ j = omega arith in
+        rw (e, from-append i (j - i) (end - j), b)
+        (completion-cut (from i (j - i)) (from j (end - j)) (λ x m. let r = from-mem j (end - j) x m in f x (r .0, omega arith)))
+
+  -- ---- The whole search
+
+  -- nothing chosen yet: the first support at or after low
+  pub completion-start : (c : Combination) → completion N S g low [] (map (idsOf N) c) ≡ supportFrom N S c g low
+  unfolding completion supportFrom candidates
+  completion-start c = ap (firstAmong N S g low) (map-id (choices (map (idsOf N) c)))
+
+  -- no support is earlier than low: the first support
+  pub supportFrom-first : (c : Combination) → ((t : List ℕ) → List·Memᴰ t (candidates N c) → isSupport N S g t ≡ true → earlier (map (indexOf N) t) low ≡ false) → firstSupport N S c g ≡ Option·getD (supportFrom N S c g low) (replicate (length c) noSupport)
+  unfolding firstSupport supports supportFrom firstAmong
+  supportFrom-first c f =
+      firstOr-head (replicate (length c) noSupport) (named (candidates N c))
+      ∙ ap (λ (ts : List (List ℕ)). Option·getD (head? ts) (replicate (length c) noSupport))
+      (sym
+      (select-all late (named (candidates N c))
+      (all-map (map (indexOf N)) late (select (isSupport N S g) (candidates N c))
+      ∙ all-intro (λ (t : List ℕ). late (map (indexOf N) t)) (select (isSupport N S g) (candidates N c))
+      (λ t m. let s = select-mem (isSupport N S g) (candidates N c) m in ap not (f t (s .0) (s .1))))))
+
+-- ---- From one live id to the next
+
+module _ (N : Network) (ws : List ℕ) (g : ℕ) (low ch : List ℕ) (xss : List (List ℕ)) where
+  pub reach-live : (i end : ℕ) → i ≤ end → end ≤ total N → reach N (living (total N) ws) g low ch xss i end ≡ reach N (living (total N) ws) g low ch xss (nextLive ws i end) end
+  reach-live i end h k =
+      let f = nextLive-first ws i end h in
+      reach-skip N (living (total N) ws) g low ch xss i (nextLive ws i end) end (f .from-i) (f .to-end)
+      (λ x b. completion-dead N (living (total N) ws) g low (ch ++ (x ∷ [])) xss (Memᴰ·append-right ch here)
+      (living-has (total N) ws x (omega (arith, f .to-end, b .1)) ∙ f .none-before x (b .0) (b .1)))

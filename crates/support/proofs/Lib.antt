@@ -1,0 +1,4 @@
+-- The laws of the crate's definitions, and of one member's turn in the search.
+pub mod Chosen
+pub mod Walk
+pub mod Turn

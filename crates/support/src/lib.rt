@@ -1,0 +1,264 @@
+// The first support of a tuple, sought member by member.
+ghost use mathlib.Core.Path.{_≡_};
+ghost use mathlib.Core.List.{map};
+ghost use Prim.Native.Nat.{_+_, _<_};
+ghost use lib.ListN.{length, getD, take, drop};
+ghost use Rattle.model.specs.Network.{size, firstId, idsOf};
+ghost use Rattle.model.specs.Agreement.{cells, cellsOf, agreeing};
+ghost use Rattle.model.specs.Support.{supportFrom, completion};
+ghost use Rattle.network.specs.Layout.{tabled, Laid};
+ghost use Rattle.support.specs.Search.{searching, network, live, seeker, Ready, chosenIds, Begun, Seeking, spanAt, fits, Trial, answer};
+use live::next;
+use network::agreement::agree;
+use network::agreement::place_of;
+use network::agreement::tuples_agree;
+use network::wide;
+
+// The indices of a support, one for each member; where there is none, ok is false.
+pub struct Found {
+    pub ok: bool,
+    pub tuples: [u16; 4],
+}
+
+// The id of a relation's first tuple, and the ids that a walk goes over: from start on and below end.
+struct Span {
+    first: u16,
+    start: u16,
+    end: u16,
+}
+
+// The walk over relation r: its tuple `own` alone, or its tuples, from index `from` on if the search resumes.
+fn span_of(
+    tuple_starts: &[u16; 65],
+    r: u16,
+    alone: bool,
+    own: u16,
+    resumes: bool,
+    from: u16,
+) -> Span
+    requires { ⌜ (r < 64) × ((getD (now «tuple_starts») r 0 + own + 1 < 65536) × (getD (now «tuple_starts») r 0 + from < 65536)) ⌝ }
+    ensures { λ s. ⌜ s ≡ spanAt (now («tuple_starts» .entry)) r alone own resumes from ⌝ }
+{
+    let relation = wide(r);
+    let first = tuple_starts[relation];
+    if alone {
+        let start = first + own;
+        return Span {
+            first,
+            start,
+            end: start + 1,
+        };
+    }
+    let end = tuple_starts[relation + 1];
+    if resumes {
+        return Span {
+            first,
+            start: first + from,
+            end,
+        };
+    }
+    Span {
+        first,
+        start: first,
+        end,
+    }
+}
+
+// Whether the tuple with this scope and these values agrees with tuple x of relation r.
+fn agrees_with(
+    variables: &[u16],
+    values: &[u16],
+    variable_starts: &[u16; 65],
+    value_starts: &[u16; 65],
+    scope: &[u16],
+    tuple: &[u16],
+    r: u16,
+    x: u16,
+) -> bool
+    requires { ⌜ (let N = tabled (now variables) (now values) (now «variable_starts») (now «value_starts») in Laid N (now «variable_starts») (now «value_starts») × ((x < size N r) × (length (now scope) ≡ length (now tuple)))) ⌝ }
+    ensures { λ b. ⌜ (let N = tabled (now (variables .entry)) (now (values .entry)) (now («variable_starts» .entry)) (now («value_starts» .entry)) in b ≡ agreeing (cells (now (scope .entry)) (now (tuple .entry))) (cellsOf N (firstId N r + x))) ⌝ }
+{
+    let p = place_of(variable_starts, value_starts, r, x);
+    let other = p.scope;
+    let other_end = p.scope_end;
+    let b = p.tuple;
+    let b_end = p.tuple_end;
+    agree(
+        scope,
+        tuple,
+        &variables[other..other_end],
+        &values[b..b_end],
+    )
+}
+
+// Whether tuple x of member k, unless that is the seeking tuple's place, agrees with the seeking tuple and with all chosen before it.
+fn fits(
+    variables: &[u16],
+    values: &[u16],
+    variable_starts: &[u16; 65],
+    value_starts: &[u16; 65],
+    members: &[u16],
+    scope: &[u16],
+    tuple: &[u16],
+    place: usize,
+    k: usize,
+    chosen: [u16; 4],
+    x: u16,
+) -> bool
+    requires { ⌜ (let N = tabled (now variables) (now values) (now «variable_starts») (now «value_starts») in Laid N (now «variable_starts») (now «value_starts») × Trial N (now members) (now scope) (now tuple) place k chosen x) ⌝ }
+    ensures { λ b. ⌜ b ≡ fits (tabled (now (variables .entry)) (now (values .entry)) (now («variable_starts» .entry)) (now («value_starts» .entry))) (now (members .entry)) (cells (now (scope .entry)) (now (tuple .entry))) place k chosen x ⌝ }
+{
+    if k == place {
+        return true;
+    }
+    let r = members[k];
+    if !agrees_with(
+        variables,
+        values,
+        variable_starts,
+        value_starts,
+        scope,
+        tuple,
+        r,
+        x,
+    ) {
+        return false;
+    }
+    let mut j = 0;
+    while j < k {
+        if j != place {
+            if !tuples_agree(
+                variables,
+                values,
+                variable_starts,
+                value_starts,
+                members[j],
+                chosen[j],
+                r,
+                x,
+            ) {
+                return false;
+            }
+        }
+        j += 1;
+    }
+    true
+}
+
+// The first support at or after `low` that has the tuples chosen for the members before k.
+fn search(
+    variables: &[u16],
+    values: &[u16],
+    variable_starts: &[u16; 65],
+    tuple_starts: &[u16; 65],
+    value_starts: &[u16; 65],
+    words: &[u64],
+    members: &[u16],
+    scope: &[u16],
+    tuple: &[u16],
+    place: usize,
+    own: u16,
+    low: [u16; 4],
+    k: usize,
+    resumes: bool,
+    chosen: [u16; 4],
+) -> Found
+    requires { ⌜ (let Q = searching (now variables) (now values) (now «variable_starts») (now «tuple_starts») (now «value_starts») (now words) (now members) place own low in Ready Q × (Begun Q k resumes chosen × Seeking Q (now scope) (now tuple))) ⌝ }
+    ensures { λ f. ⌜ (let Q = searching (now (variables .entry)) (now (values .entry)) (now («variable_starts» .entry)) (now («tuple_starts» .entry)) (now («value_starts» .entry)) (now (words .entry)) (now (members .entry)) place own low in answer (f .ok) (take (length (now (members .entry))) (f .tuples)) ≡ completion (network Q) (live Q) (seeker Q) low (chosenIds (network Q) (now (members .entry)) chosen k) (map (idsOf (network Q)) (drop k (now (members .entry))))) ⌝ }
+{
+    if k == members.len() {
+        return Found {
+            ok: true,
+            tuples: chosen,
+        };
+    }
+    let lowest = low[k];
+    let span = span_of(tuple_starts, members[k], k == place, own, resumes, lowest);
+    let first = span.first;
+    let end = span.end;
+    let mut g = next(words, span.start, end);
+    while g < end {
+        let x = g - first;
+        if fits(
+            variables,
+            values,
+            variable_starts,
+            value_starts,
+            members,
+            scope,
+            tuple,
+            place,
+            k,
+            chosen,
+            x,
+        ) {
+            let mut more = chosen;
+            more[k] = x;
+            let found = search(
+                variables,
+                values,
+                variable_starts,
+                tuple_starts,
+                value_starts,
+                words,
+                members,
+                scope,
+                tuple,
+                place,
+                own,
+                low,
+                k + 1,
+                resumes && x == lowest,
+                more,
+            );
+            if found.ok {
+                return found;
+            }
+        }
+        g = next(words, g + 1, end);
+    }
+    Found {
+        ok: false,
+        tuples: chosen,
+    }
+}
+
+// The first support at or after `low` of tuple `own` of the member at `place`.
+pub fn first_support(
+    variables: &[u16],
+    values: &[u16],
+    variable_starts: &[u16; 65],
+    tuple_starts: &[u16; 65],
+    value_starts: &[u16; 65],
+    words: &[u64],
+    members: &[u16],
+    place: usize,
+    own: u16,
+    low: [u16; 4],
+) -> Found
+    requires { ⌜ Ready (searching (now variables) (now values) (now «variable_starts») (now «tuple_starts») (now «value_starts») (now words) (now members) place own low) ⌝ }
+    ensures { λ f. ⌜ (let Q = searching (now (variables .entry)) (now (values .entry)) (now («variable_starts» .entry)) (now («tuple_starts» .entry)) (now («value_starts» .entry)) (now (words .entry)) (now (members .entry)) place own low in answer (f .ok) (take (length (now (members .entry))) (f .tuples)) ≡ supportFrom (network Q) (live Q) (now (members .entry)) (seeker Q) low) ⌝ }
+{
+    let p = place_of(variable_starts, value_starts, members[place], own);
+    let scope = p.scope;
+    let scope_end = p.scope_end;
+    let tuple = p.tuple;
+    let tuple_end = p.tuple_end;
+    search(
+        variables,
+        values,
+        variable_starts,
+        tuple_starts,
+        value_starts,
+        words,
+        members,
+        &variables[scope..scope_end],
+        &values[tuple..tuple_end],
+        place,
+        own,
+        low,
+        0,
+        true,
+        low,
+    )
+}
