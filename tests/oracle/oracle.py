@@ -27,9 +27,27 @@ def own_lists(shared: Request, call: Request) -> list[str]:
     return [name for name in SHARED + ["marks"] if getattr(call, name) != getattr(shared, name)]
 
 
+def counted(numbers: list[int]) -> list[int]:
+    return [len(numbers), *numbers]
+
+
+def print_plain(request: Request, reply: Reply) -> None:
+    """One line of numbers, each list behind its length: the call, its lists and arguments, then its reply."""
+    records = [number for sheet in request.sheets for number in sheet]
+    before = [records, request.questions, request.codes, request.combinations, request.marks, request.supports, request.rows]
+    numbers = [draw.CALLS.index(request.call), request.m, request.question, request.code]
+    for entries in [*before, *map(list, reply)]:
+        numbers += counted(entries)
+    print(*numbers)
+
+
 def print_requests(arguments: argparse.Namespace) -> None:
     for request in draw.requests(arguments.seed, arguments.count, arguments.calls, arguments.size):
-        print_line(with_reply(request, book.reply(request)))
+        reply = book.reply(request)
+        if arguments.plain:
+            print_plain(request, reply)
+        else:
+            print_line(with_reply(request, reply))
 
 
 def print_lists(arguments: argparse.Namespace) -> None:
@@ -70,6 +88,7 @@ def read_arguments() -> argparse.Namespace:
         command.add_argument("--count", type=int, required=True)
     commands.choices["requests"].add_argument("--calls", type=call_names, default=draw.CALLS)
     commands.choices["requests"].add_argument("--size", choices=sorted(draw.SIZES), default="mixed")
+    commands.choices["requests"].add_argument("--plain", action="store_true", help="lines of numbers, not JSON")
     commands.choices["texts"].add_argument("--into", type=Path, required=True)
     commands.add_parser("check")
     return parser.parse_args()

@@ -1,0 +1,94 @@
+// Visits until no pair waits: what lives then is the largest consistent set.
+ghost use mathlib.Core.Path.{_≡_};
+ghost use mathlib.Core.List.{_++_};
+ghost use Prim.Native.Nat.{_*_, _≤_};
+ghost use lib.ListN.{length, drop};
+ghost use Rattle.model.specs.Limits.{wordBits};
+ghost use Rattle.model.specs.Network.{total};
+ghost use Rattle.model.specs.Consistency.{filtered, supportList, needed};
+ghost use Rattle.model.specs.LiveWords.{written};
+ghost use Rattle.engine.specs.Setting.{setting, network, listed, liveIn, Sound};
+use super::visit::visit;
+use model::MAX_PAIRS;
+use network::wide;
+use worklist::list::blank;
+use worklist::list::fill;
+use worklist::list::pair_starts;
+use worklist::queue::Queue;
+
+// Every dead tuple of pair p's member has 65,535 in each of its numbers, and all other numbers stay.
+fn blank_dead(
+    tuple_starts: &[u16; 65],
+    members: &[u16],
+    m: u16,
+    words: &[u64],
+    numbers: &mut [u16],
+    p: u16,
+    start: usize,
+) {
+    let r = wide(members[wide(p)]);
+    let first = tuple_starts[r];
+    let end = tuple_starts[r + 1];
+    let mut g = first;
+    let mut at = start;
+    while g < end {
+        if !live::is_live(words, g) {
+            blank(numbers, at, wide(m));
+        }
+        at += wide(m);
+        g += 1;
+    }
+}
+
+// The live tuples are the largest consistent set of those that lived, and the support list holds their first supports; every
+// other bit and number stays.
+pub fn filter(
+    variables: &[u16],
+    values: &[u16],
+    variable_starts: &[u16; 65],
+    tuple_starts: &[u16; 65],
+    value_starts: &[u16; 65],
+    members: &[u16],
+    m: u16,
+    needed: usize,
+    words: &mut [u64],
+    numbers: &mut [u16],
+)
+    requires { ⌜ (let G = setting (now variables) (now values) (now «variable_starts») (now «tuple_starts») (now «value_starts») (now members) m in Sound G × ((total (network G) ≤ wordBits * length (now words)) × ((needed ≡ needed (network G) (listed G)) × (needed ≤ length (now numbers))))) ⌝ }
+    ensures { λ _. ⌜ (let G = setting (now (variables .entry)) (now (values .entry)) (now («variable_starts» .entry)) (now («tuple_starts» .entry)) (now («value_starts» .entry)) (now (members .entry)) m in let L = filtered (network G) (listed G) (liveIn G (now (words .entry))) in (now (words .exit) ≡ written (total (network G)) L (now (words .entry))) × (now (numbers .exit) ≡ supportList (network G) (listed G) L ++ drop (needed (network G) (listed G)) (now (numbers .entry)))) ⌝ }
+{
+    let starts = pair_starts(tuple_starts, members, m);
+    fill(numbers, needed);
+    let mut waiting = Queue::full(members.len() as u16);
+    let mut taken = waiting.take();
+    while taken.pair < MAX_PAIRS {
+        waiting = visit(
+            taken.rest,
+            variables,
+            values,
+            variable_starts,
+            tuple_starts,
+            value_starts,
+            members,
+            m,
+            &starts,
+            words,
+            numbers,
+            taken.pair,
+        );
+        taken = waiting.take();
+    }
+    let mut p = 0;
+    while p < members.len() {
+        blank_dead(
+            tuple_starts,
+            members,
+            m,
+            words,
+            numbers,
+            p as u16,
+            wide(starts[p]),
+        );
+        p += 1;
+    }
+}
