@@ -5,14 +5,14 @@ use mathlib.Core.List.{List, [], _∷_, _++_, map, map-append, List·Memᴰ, Lis
 use mathlib.Core.Logic.{⊎-elim}
 use Prim.Native.Nat.{ℕ, zero, suc, _+_, _≤_, _<_}
 use native.Mathlib.Omega.{arith}
-use native.Mathlib.Decide.{ℕ-discrete}
+use native.Mathlib.Decide.{ℕ-discrete, decLt}
 use native.Mathlib.Nat.{add-zero, add-suc, suc-add, le-of-suc-le-suc}
 use lib.Dec.{ltb, eqb}
 use lib.ListN.{length, getD, take, drop}
 use lib.Seq.{drop-cons}
 use borrow.Author.Tests.{eqb-true, eq-eqb, ltb-true, lt-ltb}
 use Rattle.model.specs.Lists.{all, any, elem, from, select, keepIf, firstOr, pairwise, choices, prefixed, earlier}
-use Rattle.model.proofs.Bools.{and-left, and-right, and-intro, or-left, or-right, or-cases}
+use Rattle.model.proofs.Bools.{and-left, and-right, and-intro, or-left, or-right, or-cases, iff-eq, not-both}
 
 module _ {ℓ} {A : Type ℓ} where
   pub here : {x : A} {xs : List A} → List·Memᴰ x (x ∷ xs)
@@ -68,6 +68,14 @@ module _ {ℓ} {A : Type ℓ} where
   pub pairwise-after : (r : A → A → Bool) (xs : List A) (t : A) (ys : List A) → pairwise r (xs ++ (t ∷ ys)) ≡ true → all (r t) ys ≡ true
   pairwise-after r [] t ys p = and-left (all (r t) ys) (pairwise r ys) p
   pairwise-after r (x ∷ xs) t ys p = pairwise-after r xs t ys (and-right (all (r x) (xs ++ (t ∷ ys))) (pairwise r (xs ++ (t ∷ ys))) p)
+
+  -- by places: the earlier element stands in the relation to the later one
+  pub pairwise-getD : (r : A → A → Bool) (xs : List A) (j k : ℕ) (d : A) → pairwise r xs ≡ true → j < k → k < length xs → r (getD xs j d) (getD xs k d) ≡ true
+  pairwise-getD r [] j k d p h l = absurd (omega arith)
+  pairwise-getD r (x ∷ xs) j zero d p h l = absurd (omega arith)
+  pairwise-getD r (x ∷ xs) zero (suc k) d p h l = all-getD (r x) xs k d (and-left (all (r x) xs) (pairwise r xs) p) (le-of-suc-le-suc l)
+  pairwise-getD r (x ∷ xs) (suc j) (suc k) d p h l =
+      pairwise-getD r xs j k d (and-right (all (r x) xs) (pairwise r xs) p) (le-of-suc-le-suc h) (le-of-suc-le-suc l)
 
   -- one element of each list
   pub data Picks : List (List A) → List A → Type ℓ where
@@ -175,6 +183,9 @@ module _ {ℓ} {A : Type ℓ} (p : A → Bool) where
 
 -- ---- Numbers
 
+pub eqb-sym : (a b : ℕ) → eqb a b ≡ eqb b a
+eqb-sym a b = iff-eq (eqb a b) (eqb b a) (λ h. eq-eqb b a (sym (eqb-true a b h))) (λ h. eq-eqb a b (sym (eqb-true b a h)))
+
 pub elem-mem : (x : ℕ) (xs : List ℕ) → elem x xs ≡ true → List·Memᴰ x xs
 elem-mem x xs e = let k = any-at (eqb x) xs e in Memᴰ·cast (eqb-true x (k .0) (k .2)) (k .1)
 
@@ -235,6 +246,15 @@ select-from p i zero end e =
 select-from p i (suc n) end e =
     subst (First p i end) (firstOr-keepIf (p i) end i (select p (from (suc i) n)))
     (first-keep p i n end (firstOr end (select p (from (suc i) n))) e (select-from p (suc i) n end (omega arith)) (p i) refl)
+
+-- there is one such number
+pub first-unique : (p : ℕ → Bool) (i end x y : ℕ) → First p i end x → First p i end y → x ≡ y
+first-unique p i end x y f g = apart (decLt x y) (decLt y x)
+  where
+    apart : Dec (x < y) → Dec (y < x) → x ≡ y
+    apart (yes h) l = absurd (not-both (f .passes (omega (arith, g .to-end))) (g .none-before x (f .from-i) h))
+    apart (no h) (yes l) = absurd (not-both (g .passes (omega (arith, f .to-end))) (f .none-before y (g .from-i) l))
+    apart (no h) (no l) = omega arith
 
 -- ---- Maps, and the order of choices
 

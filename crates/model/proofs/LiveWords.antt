@@ -16,7 +16,7 @@ use Rattle.model.specs.Lists.{from}
 use Rattle.model.specs.TupleSet.{TupleSet, has, count, without}
 use Rattle.model.specs.LiveWords.{bit, isSet, isLive, livingFrom, living, nextLive, digits, word, cleared, raised, bitAfter, writtenFrom, written}
 use Rattle.model.proofs.Bools.{iff-eq}
-use Rattle.model.proofs.Lists.{length-from, getD-map-from}
+use Rattle.model.proofs.Lists.{First, length-from, getD-map-from, select-from}
 use Rattle.model.proofs.TupleSet.{restrict-has, count-length}
 
 -- ---- Bits of a number
@@ -175,6 +175,11 @@ nextLive-skip ws i (suc n) end dead =
     nextLive-skip ws i n end (λ j l. dead j (omega arith))
     ∙ nextLive-step ws (i + n) end (dead n (omega arith)) (decLe end (i + n))
     ∙ ap (λ (x : ℕ). nextLive ws x end) (sym (add-suc i n))
+
+-- it is the first live one
+pub nextLive-first : (ws : List ℕ) (i end : ℕ) → i ≤ end → First (isLive ws) i end (nextLive ws i end)
+unfolding nextLive
+nextLive-first ws i end h = select-from (isLive ws) i (end - i) end (omega arith)
 
 -- word lists with the same bits are the same
 pub words-ext : (vs ws : List ℕ) → length vs ≡ length ws → ((i : ℕ) → i < length vs → getD vs i 0 < 2 ^ 64) → ((i : ℕ) → i < length ws → getD ws i 0 < 2 ^ 64) → ((g : ℕ) → g < wordBits * length vs → isLive vs g ≡ isLive ws g) → vs ≡ ws
