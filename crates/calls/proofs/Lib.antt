@@ -1,3 +1,5 @@
 -- The laws of the crate's definitions.
 pub mod Instance
 pub mod Struck
+pub mod Columns
+pub mod Tables

@@ -75,24 +75,35 @@ between-true a e g h = (leb-true a g (and-left (leb a g) (ltb g e) h), ltb-true 
 between-intro : (a e g : ℕ) → a ≤ g → g < e → between a e g ≡ true
 between-intro a e g h l = and-intro (le-leb a g h) (lt-ltb g e l)
 
-module _ (n end : ℕ) (p : ℕ → Bool) where
-  -- the ids from a on and below end that pass
-  abbrev pub upward : ℕ → ℕ → Bool
-  upward a g = between a end g && p g
+-- the ids from a on and below end that pass
+abbrev pub upwards : ℕ → (ℕ → Bool) → ℕ → ℕ → Bool
+upwards end p a g = between a end g && p g
 
-  true-upward : (a g : ℕ) → upward a g ≡ true → (a ≤ g) × (g < end) × (p g ≡ true)
-  true-upward a g h =
+module _ (end : ℕ) (p : ℕ → Bool) where
+  true-upwards : (a g : ℕ) → upwards end p a g ≡ true → (a ≤ g) × (g < end) × (p g ≡ true)
+  true-upwards a g h =
       let l = between-true a end g (and-left (between a end g) (p g) h) in (l .0, l .1, and-right (between a end g) (p g) h)
 
-  upward-true : (a g : ℕ) → a ≤ g → g < end → p g ≡ true → upward a g ≡ true
-  upward-true a g h l e = and-intro (between-intro a end g h l) e
+  upwards-true : (a g : ℕ) → a ≤ g → g < end → p g ≡ true → upwards end p a g ≡ true
+  upwards-true a g h l e = and-intro (between-intro a end g h l) e
+
+-- tests that say the same of the ids from a on and below end
+pub upwards-cong : (end a : ℕ) (p q : ℕ → Bool) → ((g : ℕ) → a ≤ g → g < end → p g ≡ q g) → (g : ℕ) → upwards end p a g ≡ upwards end q a g
+upwards-cong end a p q f g =
+    iff-eq (upwards end p a g) (upwards end q a g)
+    (λ u. let t = true-upwards end p a g u in upwards-true end q a g (t .0) (t .1) (sym (f g (t .0) (t .1)) ∙ t .2))
+    (λ u. let t = true-upwards end q a g u in upwards-true end p a g (t .0) (t .1) (f g (t .0) (t .1) ∙ t .2))
+
+module _ (n end : ℕ) (p : ℕ → Bool) where
+  abbrev upward : ℕ → ℕ → Bool
+  upward = upwards end p
 
   -- the same ids, where none that passes lies between a and b
   same : (a b g : ℕ) → a ≤ b → (g < b → a ≤ g → p g ≡ true → ⊥) → upward b g ≡ upward a g
   same a b g h none =
       iff-eq (upward b g) (upward a g)
-      (λ u. let t = true-upward b g u in upward-true a g (omega arith) (t .1) (t .2))
-      (λ u. let t = true-upward a g u in upward-true b g (past t (decLt g b)) (t .1) (t .2))
+      (λ u. let t = true-upwards end p b g u in upwards-true end p a g (omega arith) (t .1) (t .2))
+      (λ u. let t = true-upwards end p a g u in upwards-true end p b g (past t (decLt g b)) (t .1) (t .2))
     where
       past : (a ≤ g) × (g < end) × (p g ≡ true) → Dec (g < b) → b ≤ g
       past t (yes l) = absurd (none l (t .0) (t .2))
@@ -112,11 +123,17 @@ module _ (n end : ℕ) (p : ℕ → Bool) where
         struck-cong n ws (upward (a + 1)) (upward a)
         (λ g _ _. same a (a + 1) g (omega arith) (λ l m t. let q : g ≡ a = omega arith in not-both t (ap p q ∙ e)))
 
+    -- all that pass
+    pub upward-all : n ≤ end → struck n (upward 0) ws ≡ struck n p ws
+    upward-all h =
+        struck-cong n ws (upward 0) p
+        (λ g l _. ap (λ (b : Bool). b && p g) (between-intro 0 end g (omega arith) (omega arith)))
+
     pub upward-end : Small ws → struck n (upward end) ws ≡ ws
     upward-end small = struck-none n ws (upward end) small (λ g _ _. none g (upward end g) refl)
       where
         none : (g : ℕ) (b : Bool) → upward end g ≡ b → b ≡ false
-        none g true e = absurd (let t = true-upward end g e in omega arith)
+        none g true e = absurd (let t = true-upwards end p end g e in omega arith)
         none g false e = refl
 
     module _ (enough : n ≤ wordBits * length ws) where
@@ -126,11 +143,27 @@ module _ (n end : ℕ) (p : ℕ → Bool) where
           struck-next n ws a (upward a) (upward (a + 1)) small enough (omega arith)
           (λ g. iff-eq (eqb a g || upward (a + 1) g) (upward a g)
           (λ u. ⊎-elim
-          (λ q. let q = eqb-true a g q in upward-true a g (omega arith) (omega arith) (ap p (sym q) ∙ e))
-          (λ v. let t = true-upward (a + 1) g v in upward-true a g (omega arith) (t .1) (t .2))
+          (λ q. let q = eqb-true a g q in upwards-true end p a g (omega arith) (omega arith) (ap p (sym q) ∙ e))
+          (λ v. let t = true-upwards end p (a + 1) g v in upwards-true end p a g (omega arith) (t .1) (t .2))
           (or-cases (eqb a g) (upward (a + 1) g) u))
-          (λ u. first g (true-upward a g u) (ℕ-discrete a g)))
+          (λ u. first g (true-upwards end p a g u) (ℕ-discrete a g)))
         where
           first : (g : ℕ) → (a ≤ g) × (g < end) × (p g ≡ true) → Dec (a ≡ g) → (eqb a g || upward (a + 1) g) ≡ true
           first g t (yes q) = or-left (upward (a + 1) g) (eq-eqb a g q)
-          first g t (no d) = or-right (eqb a g) (upward-true (a + 1) g (omega arith) (t .1) (t .2))
+          first g t (no d) = or-right (eqb a g) (upwards-true end p (a + 1) g (omega arith) (t .1) (t .2))
+
+      -- those below end, and then those from it on
+      pub upward-parts : (a last : ℕ) → a ≤ end → end ≤ last → struck n (upwards last p end) (struck n (upward a) ws) ≡ struck n (upwards last p a) ws
+      upward-parts a last h l =
+          struck-struck n ws (upward a) (upwards last p end) enough
+          ∙ struck-cong n ws (λ (g : ℕ). upward a g || upwards last p end g) (upwards last p a)
+          (λ g _ _. iff-eq (upward a g || upwards last p end g) (upwards last p a g)
+          (λ u. ⊎-elim
+          (λ v. let t = true-upwards end p a g v in upwards-true last p a g (t .0) (omega arith) (t .2))
+          (λ v. let t = true-upwards last p end g v in upwards-true last p a g (omega arith) (t .1) (t .2))
+          (or-cases (upward a g) (upwards last p end g) u))
+          (λ u. side g (true-upwards last p a g u) (decLt g end)))
+        where
+          side : (g : ℕ) → (a ≤ g) × (g < last) × (p g ≡ true) → Dec (g < end) → (upward a g || upwards last p end g) ≡ true
+          side g t (yes b) = or-left (upwards last p end g) (upwards-true end p a g (t .0) b (t .2))
+          side g t (no b) = or-right (upward a g) (upwards-true last p end g (omega arith) (t .1) (t .2))

@@ -256,6 +256,17 @@ first-unique p i end x y f g = apart (decLt x y) (decLt y x)
     apart (no h) (yes l) = absurd (not-both (g .passes (omega (arith, f .to-end))) (f .none-before y (g .from-i) l))
     apart (no h) (no l) = omega arith
 
+-- some number of a range passes exactly if the first that passes lies in it
+pub any-first : (p q : ℕ → Bool) (i n end x : ℕ) → end ≡ i + n → ((k : ℕ) → i ≤ k → k < end → q k ≡ p k) → First p i end x → any q (from i n) ≡ ltb x end
+any-first p q i n end x e same f =
+    iff-eq (any q (from i n)) (ltb x end)
+    (λ h. let k = any-at q (from i n) h in let l = from-mem i n (k .0) (k .1) in lt-ltb x end (inside (k .0) (l .0) (omega arith) (k .2) (decLt x end)))
+    (λ h. let l = ltb-true x end h in any-intro q (from i n) (mem-from i n x (f .from-i) (omega arith)) (same x (f .from-i) l ∙ f .passes l))
+  where
+    inside : (k : ℕ) → i ≤ k → k < end → q k ≡ true → Dec (x < end) → x < end
+    inside k a b c (yes h) = h
+    inside k a b c (no h) = absurd (not-both c (same k a b ∙ f .none-before k a (omega arith)))
+
 -- ---- Maps, and the order of choices
 
 module _ {ℓ κ} {A : Type ℓ} {B : Type κ} (f : A → B) where

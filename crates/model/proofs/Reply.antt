@@ -1,6 +1,6 @@
 -- Laws of replies: accepted or refused, the lowest empty relation, what the answer tells, and the sum of its counts.
 use mathlib.Core.Path.{_≡_, refl, _∙_, ap}
-use mathlib.Core.Bool.{Bool, true, false, cond}
+use mathlib.Core.Bool.{Bool, true, false, not, cond}
 use mathlib.Core.Option.{Option}
 use mathlib.Core.Logic.{_⊎_, inl, inr}
 use mathlib.Core.List.{List, _++_}
@@ -12,20 +12,20 @@ use lib.ListN.{length, drop}
 use borrow.Author.Tests.{lt-ltb, le-ltb}
 use Rattle.model.specs.declared.Counts.{Counts}
 use Rattle.model.specs.declared.Answer.the-variants.{Settled, Emptied}
-use Rattle.model.specs.TupleSet.{TupleSet, count, restrict, without}
-use Rattle.model.specs.Network.{Network, total}
+use Rattle.model.specs.TupleSet.{TupleSet, has, count, restrict, without}
+use Rattle.model.specs.Network.{Network, total, size, firstId}
 use Rattle.model.specs.Consistency.{supportList, needed}
-use Rattle.model.specs.LiveWords.{written}
+use Rattle.model.specs.LiveWords.{isLive, living, nextLive, written}
 use Rattle.model.specs.Request.{Change, filter, Instance, combinationsOf, Request, removes}
 use Rattle.model.specs.Fault.{firstFault, refusal, changeFaults, faultsOn, faults, isNone, accepts}
 use Rattle.model.specs.Reply.{Numbers, answerNumbers, Reply, isEmptied, lowestEmpty, answerFor, remainder, countsFor, leaving, accepted, refused, replyTo, reply}
 use Rattle.model.specs.Promises.{Tells}
 use Rattle.model.proofs.Bools.{not-both}
-use Rattle.model.proofs.Lists.{First, select-from}
+use Rattle.model.proofs.Lists.{First, select-from, any-first}
 use Rattle.model.proofs.Fault.{isNone-none, isNone-some, refusal-shared, refusal-own, refusal-neither}
 use Rattle.model.proofs.TupleSet.{without-count, without-length}
 use Rattle.model.proofs.Consistency.{filtered-length, filtered-count}
-use Rattle.model.proofs.LiveWords.{written-written}
+use Rattle.model.proofs.LiveWords.{living-has, nextLive-first, written-written}
 
 -- ---- Accepted or refused
 
@@ -69,6 +69,13 @@ accepts-kind q n k h false e = absurd (omega (arith, ap (λ (p : Reply). (p .ans
 pub lowestEmpty-first : (N : Network) (L : TupleSet) → First (isEmptied N L) 0 (length (N .relations)) (lowestEmpty N L)
 unfolding lowestEmpty
 lowestEmpty-first N L = select-from (isEmptied N L) 0 (length (N .relations)) (length (N .relations)) (omega arith)
+
+-- a relation is emptied exactly if the next live id from its first one on lies past its last
+pub isEmptied-next : (N : Network) (ws : List ℕ) (r end : ℕ) → end ≡ firstId N r + size N r → end ≤ total N → isEmptied N (living (total N) ws) r ≡ not (ltb (nextLive ws (firstId N r) end) end)
+isEmptied-next N ws r end e h =
+    ap not
+    (any-first (isLive ws) (has (living (total N) ws)) (firstId N r) (size N r) end (nextLive ws (firstId N r) end) e
+    (λ g _ l. living-has (total N) ws g (omega arith)) (nextLive-first ws (firstId N r) end (omega arith)))
 
 -- ---- What the answer tells
 
