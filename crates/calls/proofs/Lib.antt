@@ -3,3 +3,4 @@ pub mod Instance
 pub mod Struck
 pub mod Columns
 pub mod Tables
+pub mod Change

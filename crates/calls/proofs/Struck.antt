@@ -11,10 +11,9 @@ use lib.Dec.{leb, ltb, eqb}
 use lib.ListN.{length, getD}
 use borrow.Author.Tests.{leb-true, ltb-true, le-leb, lt-ltb, eqb-true, eq-eqb}
 use Rattle.model.specs.Limits.{wordBits}
-use Rattle.model.specs.TupleSet.{TupleSet, has, without}
+use Rattle.model.specs.TupleSet.{TupleSet, without}
 use Rattle.model.specs.LiveWords.{isLive, living, nextLive, cleared, written}
 use Rattle.model.proofs.Bools.{and-left, and-right, and-intro, or-left, or-right, or-cases, iff-eq, not-both}
-use Rattle.model.proofs.Lists.{First}
 use Rattle.model.proofs.TupleSet.{has-below, without-length, without-cong, without-none, without-without}
 use Rattle.model.proofs.LiveWords.{living-length, living-has, written-length, written-below, written-living, living-written, written-written, cleared-written, nextLive-first}
 use Rattle.calls.specs.Struck.{between, struck}

@@ -1,7 +1,7 @@
 -- Laws of replies: accepted or refused, the lowest empty relation, what the answer tells, and the sum of its counts.
-use mathlib.Core.Path.{_≡_, refl, _∙_, ap}
+use mathlib.Core.Path.{_≡_, refl, sym, _∙_, ap}
 use mathlib.Core.Bool.{Bool, true, false, not, cond}
-use mathlib.Core.Option.{Option}
+use mathlib.Core.Option.{Option, none}
 use mathlib.Core.Logic.{_⊎_, inl, inr}
 use mathlib.Core.List.{List, _++_}
 use Prim.Native.Nat.{ℕ, _+_, _-_, _≤_, _<_}
@@ -14,15 +14,15 @@ use Rattle.model.specs.declared.Counts.{Counts}
 use Rattle.model.specs.declared.Answer.the-variants.{Settled, Emptied}
 use Rattle.model.specs.TupleSet.{TupleSet, has, count, restrict, without}
 use Rattle.model.specs.Network.{Network, total, size, firstId}
-use Rattle.model.specs.Consistency.{supportList, needed}
+use Rattle.model.specs.Consistency.{isConsistent, supportList, needed}
 use Rattle.model.specs.LiveWords.{isLive, living, nextLive, written}
 use Rattle.model.specs.Request.{Change, filter, Instance, combinationsOf, Request, removes}
-use Rattle.model.specs.Fault.{firstFault, refusal, changeFaults, faultsOn, faults, isNone, accepts}
-use Rattle.model.specs.Reply.{Numbers, answerNumbers, Reply, isEmptied, lowestEmpty, answerFor, remainder, countsFor, leaving, accepted, refused, replyTo, reply}
+use Rattle.model.specs.Fault.{firstFault, refusal, changeFaults, faultsOn, faults, testFaults, isNone, accepts}
+use Rattle.model.specs.Reply.{Numbers, answerNumbers, verdictNumbers, verdictFor, Reply, isEmptied, lowestEmpty, answerFor, remainder, countsFor, leaving, accepted, refused, replyTo, reply, testReply}
 use Rattle.model.specs.Promises.{Tells}
 use Rattle.model.proofs.Bools.{not-both}
 use Rattle.model.proofs.Lists.{First, select-from, any-first}
-use Rattle.model.proofs.Fault.{isNone-none, isNone-some, refusal-shared, refusal-own, refusal-neither}
+use Rattle.model.proofs.Fault.{isNone-none, isNone-some, refusal-some, refusal-none, refusal-shared, refusal-own, refusal-neither}
 use Rattle.model.proofs.TupleSet.{without-count, without-length}
 use Rattle.model.proofs.Consistency.{filtered-length, filtered-count}
 use Rattle.model.proofs.LiveWords.{living-has, nextLive-first, written-written}
@@ -58,6 +58,21 @@ module _ (q : Request) where
   pub accepts-neither : 0 ≡ shared → 0 ≡ own → accepts q ≡ true
   unfolding accepts faults
   accepts-neither h e = ap isNone (refusal-neither (q .given) (length (q .words)) (length (q .supports)) (q .change) h e)
+
+-- test's answer from the number of its first fault
+module _ (I : Instance) (ws : List ℕ) where
+  abbrev consistent : Bool
+  consistent = isConsistent (I .network) (combinationsOf I) (living (total (I .network)) ws)
+
+  pub testReply-refused : (k : ℕ) → k ≡ refusal (firstFault (testFaults I ws)) → (k ≡ 0 → ⊥) → testReply I ws ≡ (2, k)
+  unfolding testReply
+  testReply-refused k e d =
+      ap (λ (o : Option ℕ). verdictNumbers (verdictFor o consistent)) (refusal-some (firstFault (testFaults I ws)) k (sym e) d)
+
+  pub testReply-checked : 0 ≡ refusal (firstFault (testFaults I ws)) → testReply I ws ≡ verdictNumbers (verdictFor none consistent)
+  unfolding testReply testFaults
+  testReply-checked e =
+      ap (λ (o : Option ℕ). verdictNumbers (verdictFor o consistent)) (refusal-none (testFaults I ws) refl (sym e))
 
 -- what is not refused is accepted
 pub accepts-kind : (q : Request) (n : ℕ) → ((reply q) .answer) .kind ≡ n → n < 2 → (x : Bool) → accepts q ≡ x → accepts q ≡ true

@@ -1,6 +1,6 @@
 -- Laws of what a change removes: of a tuple by its relation and index, choose looks at the one place that has its variable.
 -- From the definition, and the laws of cells by places.
-use mathlib.Core.Path.{_≡_, sym, _∙_, ap, ap₂}
+use mathlib.Core.Path.{_≡_, sym, _∙_, ap}
 use mathlib.Core.Bool.{Bool, true, false, not, _&&_}
 use Prim.Native.Nat.{ℕ, _+_, _<_}
 use native.Mathlib.Omega.{arith}

@@ -1,7 +1,6 @@
 -- `answer_for` counts the live tuples, and answers Emptied if `lowest_empty` finds a relation.
 -- From what the count and `lowest_empty` ensure, and the definition of the answer.
 use mathlib.Core.Path.{_≡_, sym, ap, ap₂, _∙_}
-use mathlib.Core.List.{List}
 use Prim.Native.Nat.{ℕ, _-_}
 use native.Mathlib.Omega.{arith}
 use lib.ListN.{length, getD}

@@ -1,7 +1,7 @@
 -- `lowest_empty` looks for a live tuple in one relation after the other: none of those passed is empty.
 -- From the law of the next live id, and that the first relation that passes is one.
-use mathlib.Core.Path.{_≡_, refl, sym, ap, _∙_}
-use mathlib.Core.Bool.{Bool, true, false, not}
+use mathlib.Core.Path.{_≡_, ap, _∙_}
+use mathlib.Core.Bool.{true, false, not}
 use mathlib.Core.List.{List}
 use Prim.Native.Nat.{ℕ, _+_, _*_, _-_, _≤_, _<_}
 use native.Mathlib.Omega.{arith}
@@ -13,7 +13,7 @@ use Rattle.model.specs.TupleSet.{TupleSet}
 use Rattle.model.specs.Network.{Network, total}
 use Rattle.model.specs.LiveWords.{living, nextLive}
 use Rattle.model.specs.Reply.{isEmptied, lowestEmpty}
-use Rattle.model.proofs.Lists.{First, first-unique}
+use Rattle.model.proofs.Lists.{first-unique}
 use Rattle.model.proofs.LiveWords.{nextLive-first}
 use Rattle.model.proofs.Reply.{lowestEmpty-first}
 use Rattle.calls.specs.Tables.{Numbered}
@@ -21,13 +21,11 @@ use Rattle.calls.proofs.Tables.{count-few, ids-bounds, ids-emptied}
 use borrow.Author.Needs.{needs}
 use Rattle.calls.proofs.answer.lowest_empty.Statement.{statement}
 use Rattle.calls.proofs.answer.lowest_empty.Tie as tie
-use Rattle.calls.proofs.answer.lowest_empty.Reads as reads
-use Rattle.calls.proofs.answer.lowest_empty.Lts as lts
 
 abbrev Inv-loop : tie.InvT-loop
 Inv-loop tuple-starts relations words r₀ r =
-    (r ≤ relations)
-    × ((N : Network) → Numbered N tuple-starts relations (length words) → (s : ℕ) → s < r → isEmptied N (living (total N) words) s ≡ false)
+    ((N : Network) → Numbered N tuple-starts relations (length words) → (s : ℕ) → s < r → isEmptied N (living (total N) words) s ≡ false)
+    × (r ≤ relations)
 
 abbrev μ-loop : tie.MeasureT-loop
 μ-loop tuple-starts relations words r₀ r = relations - r
@@ -75,7 +73,7 @@ lowest N L r h none empty =
     (lowestEmpty-first N L)
 
 loop-holds : tie.Need-loop-holds Inv-loop μ-loop
-loop-holds c = (search needs, λ N t s h. absurd (omega arith))
+loop-holds c = ((λ N t s h. absurd (omega arith)), search needs)
 
 wide-requires : tie.Need-wide-requires Inv-loop μ-loop
 wide-requires c κs = search needs
@@ -104,7 +102,7 @@ returns c =
     let turn = read .before in
     let words = start turn .args .words .now in
     λ N t.
-    lowest N (living (total N) words) (turn .before .loop .r) (omega (arith, t .relations, turn .loop-test .taken)) (turn .before .loop .inv .1 N t)
+    lowest N (living (total N) words) (turn .before .loop .r) (omega (arith, t .relations, turn .loop-test .taken)) (turn .before .loop .inv .0 N t)
     (λ _. emptied read N t ∙ ap not (le-ltb (nextLive words (from-id read) (to-id read)) (to-id read) (omega (arith, c .before .next .ensures, c .if1 .taken))))
 
 add-r : tie.Need-add-r Inv-loop μ-loop
@@ -120,14 +118,14 @@ loop-again c =
     let words = start turn .args .words .now in
     let f = nextLive-first words (from-id read) (to-id read) (bounds read .0) in
     let h : nextLive words (from-id read) (to-id read) < to-id read = omega (arith, f .to-end, c .before .next .ensures, c .if1 .left) in
-    (search needs, λ N t. below-more _ _ (turn .before .loop .inv .1 N t) (emptied read N t ∙ ap not (lt-ltb (nextLive words (from-id read) (to-id read)) (to-id read) h)))
+    ((λ N t. below-more _ _ (turn .before .loop .inv .0 N t) (emptied read N t ∙ ap not (lt-ltb (nextLive words (from-id read) (to-id read)) (to-id read) h))), search needs)
 
 returns-2 : tie.Need-returns-2 Inv-loop μ-loop
 returns-2 c =
     let words = c .before .before .before .args .words .now in
     let l = c .before .loop in
     λ N t.
-    lowest N (living (total N) words) (l .r) (omega (arith, t .relations, l .inv .0)) (l .inv .1 N t)
+    lowest N (living (total N) words) (l .r) (omega (arith, t .relations, l .inv .1)) (l .inv .0 N t)
     (λ h. absurd (omega (arith, t .relations, c .loop-test .left)))
 
 pub lowest-empty-spec : {M : Type 1} → statement M

@@ -41,8 +41,7 @@ returns c =
 needed-requires : tie.Need-needed-requires
 needed-requires c κs =
     let entry = start (c .before) .args in
-    let I = instance (start (c .before)) in
-    (
+    let I = instance (start (c .before)) in (
       network-few (entry .shape) (entry .variables .now) (entry .values .now) (firstFault-front (networkFaults (I .network)) (combinationFaults I) (sound c)),
       combinations-proper (entry .shape) (entry .variables .now) (entry .values .now) (entry .m) (entry .members .now) (firstFault-back (networkFaults (I .network)) (combinationFaults I) (sound c)),
     )

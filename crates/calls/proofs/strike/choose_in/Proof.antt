@@ -1,7 +1,6 @@
 -- `choose_in` finds the variable's column in the scope, and strikes the tuples that have another value there.
 -- From the laws of the tables, and what the column's pass ensures.
-use mathlib.Core.Path.{_≡_, refl, sym, ap, ap₂, subst, _∙_}
-use mathlib.Core.List.{List}
+use mathlib.Core.Path.{_≡_, sym, ap, ap₂, _∙_}
 use Prim.Native.Nat.{ℕ, _+_, _-_, _≤_, _<_}
 use native.Mathlib.Omega.{arith}
 use lib.ListN.{length, getD, take, drop}
@@ -13,8 +12,6 @@ use Rattle.calls.proofs.Tables.{count-few, scope-rises, scope-fits, sco
 use borrow.Author.Needs.{needs}
 use Rattle.calls.proofs.strike.choose_in.Statement.{statement}
 use Rattle.calls.proofs.strike.choose_in.Tie as tie
-use Rattle.calls.proofs.strike.choose_in.Reads as reads
-use Rattle.calls.proofs.strike.choose_in.Lts as lts
 
 -- ---- What is read
 
@@ -176,8 +173,7 @@ strike-column-requires c κs =
     let f = c .before .before .before in
     let e = entry (found f) in
     let a = e .args in
-    let numbers = column-numbers f (e .pre .0) (e .pre .1) (e .pre .2) (e .pre .3) in
-    (
+    let numbers = column-numbers f (e .pre .0) (e .pre .1) (e .pre .2) (e .pre .3) in (
       column-bounds (network e (e .pre .0)) (a .variable-starts .now) (a .tuple-starts .now) (a .value-starts .now) (e .pre .1) (length (a .words .now)) (e .pre .2) (a .r) (e .pre .3) (a .x) (a .v) _ _ _ _ numbers,
       column-values (network e (e .pre .0)) (a .variable-starts .now) (a .tuple-starts .now) (a .value-starts .now) (e .pre .1) (length (a .words .now)) (e .pre .2) (a .r) (e .pre .3) (a .x) (a .v) _ _ _ _ numbers,
     )

@@ -24,10 +24,8 @@ from-relation N x v r words = struck (total N) (upwards (total N) (removes N (ch
 
 abbrev Inv-loop : tie.InvT-loop
 Inv-loop variables values variable-starts tuple-starts value-starts relations words₀ x v r₀ words r =
-    (r ≤ relations)
-    × ((length words ≡ length words₀)
-    × (Small words
-    × ((S : Shape) → (let N = networkOf S variables values in Tables N variable-starts tuple-starts value-starts relations (length words₀) → from-relation N x v r words ≡ struck (total N) (removes N (choose x v)) words₀))))
+    ((S : Shape) → (let N = networkOf S variables values in Tables N variable-starts tuple-starts value-starts relations (length words₀) → from-relation N x v r words ≡ struck (total N) (removes N (choose x v)) words₀))
+    × ((r ≤ relations) × ((length words ≡ length words₀) × Small words))
 
 abbrev μ-loop : tie.MeasureT-loop
 μ-loop variables values variable-starts tuple-starts value-starts relations words₀ x v r₀ words r = relations - r
@@ -44,13 +42,15 @@ Given c S words = Tables (network c S) (c .args .variable-starts .now) (c .args 
 
 -- .. as many as there are now
 given : (c : tie.In-loop Inv-loop μ-loop) (S : Shape) → Given (start c) S (length (start c .args .words .now)) → Given (start c) S (length (c .before .loop .words))
-given c S t = subst (Given (start c) S) (sym (c .before .loop .inv .1 .0)) t
+given c S t = subst (Given (start c) S) (sym (c .before .loop .inv .1 .1 .0)) t
 
 loop-holds : tie.Need-loop-holds Inv-loop μ-loop
 loop-holds c =
     let entry = c .before .before .before in
-    let a = entry .args in
-    (search needs, (refl, ((λ i _. c .slice-known .given i .fits), λ S t. let N = network entry S in upward-all (total N) (total N) (removes N (choose (a .x) (a .v))) (a .words .now) (omega arith))))
+    let a = entry .args in (
+      (λ S t. let N = network entry S in upward-all (total N) (total N) (removes N (choose (a .x) (a .v))) (a .words .now) (omega arith)),
+      (search needs, (refl, (λ i _. c .slice-known .given i .fits))),
+    )
 
 choose-in-requires : tie.Need-choose-in-requires Inv-loop μ-loop
 choose-in-requires c κs =
@@ -72,11 +72,7 @@ loop-again c =
     let passed = c .before .before .choose-in .ensures in
     let M = network entry (entry .pre .0) in
     let long = passed (entry .pre .0) (a .relations) (given turn (entry .pre .0) (entry .pre .1)) (turn .loop-test .taken) in (
-      search needs,
       (
-        ap length long ∙ struck-length (total M) (l .words) (upwards (firstId M (l .r + 1)) (removes M (choose (a .x) (a .v))) (firstId M (l .r))) ∙ l .inv .1 .0,
-        (
-          (λ i _. c .slice-known2 .given i .fits),
           λ S t.
           let N = network entry S in
           let known = given turn S t in
@@ -84,13 +80,19 @@ loop-again c =
           ap (from-relation N (a .x) (a .v) (l .r + 1)) (passed S (a .relations) known (turn .loop-test .taken))
           ∙ upward-parts (total N) (firstId N (l .r + 1)) (removes N (choose (a .x) (a .v))) (l .words) (known .numbered .enough) (firstId N (l .r)) (total N) (omega arith)
           (next-within N (a .tuple-starts .now) (a .relations) (length (l .words)) (known .numbered) (l .r) (turn .loop-test .taken))
-          ∙ l .inv .1 .1 .1 S t,
+          ∙ l .inv .0 S t
+          ),
+      (
+        search needs,
+        (
+          ap length long ∙ struck-length (total M) (l .words) (upwards (firstId M (l .r + 1)) (removes M (choose (a .x) (a .v))) (firstId M (l .r))) ∙ l .inv .1 .1 .0,
+          (λ i _. c .slice-known2 .given i .fits),
         ),
       ),
     )
 
 same-length : tie.Need-same-length Inv-loop μ-loop
-same-length c = c .before .loop .inv .1 .0
+same-length c = c .before .loop .inv .1 .1 .0
 
 returns : tie.Need-returns Inv-loop μ-loop
 returns c =
@@ -102,8 +104,8 @@ returns c =
     let e = before-past tuplesIn (N .relations) (l .r) (omega (arith, t .numbered .relations, c .loop-test .left)) in
     sym
     (ap (λ (k : ℕ). struck (total N) (upwards (total N) (removes N (choose (a .x) (a .v))) k) (l .words)) e
-    ∙ upward-end (total N) (total N) (removes N (choose (a .x) (a .v))) (l .words) (l .inv .1 .1 .0))
-    ∙ l .inv .1 .1 .1 S t
+    ∙ upward-end (total N) (total N) (removes N (choose (a .x) (a .v))) (l .words) (l .inv .1 .1 .1))
+    ∙ l .inv .0 S t
 
 pub choose-value-spec : {M : Type 1} → statement M
 choose-value-spec =

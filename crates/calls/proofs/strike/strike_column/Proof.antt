@@ -9,7 +9,6 @@ use native.Mathlib.Omega.{arith}
 use lib.ListN.{length, getD}
 use Rattle.model.specs.Agreement.{fit}
 use Rattle.model.specs.LiveWords.{nextLive, cleared}
-use Rattle.model.proofs.Lists.{First}
 use Rattle.model.proofs.Agreement.{fit-same, fit-different}
 use Rattle.model.proofs.LiveWords.{cleared-length, nextLive-first}
 use Rattle.calls.specs.Struck.{struck}
@@ -17,8 +16,6 @@ use Rattle.calls.proofs.Struck.{Small, upwards, upward-next, upward-kee
 use borrow.Author.Needs.{needs}
 use Rattle.calls.proofs.strike.strike_column.Statement.{statement}
 use Rattle.calls.proofs.strike.strike_column.Tie as tie
-use Rattle.calls.proofs.strike.strike_column.Reads as reads
-use Rattle.calls.proofs.strike.strike_column.Lts as lts
 
 -- the tuple with id g has another value than v
 abbrev other : List ℕ → ℕ → ℕ → ℕ → ℕ → ℕ → Bool

@@ -10,7 +10,6 @@ use lib.Dec.{eqb}
 use lib.ListN.{length, drop, getD, drop-of-length-le}
 use lib.Seq.{drop-cons}
 use Rattle.model.specs.Lists.{elem}
-use Rattle.model.specs.LiveWords.{cleared}
 use Rattle.model.proofs.Lists.{eqb-sym}
 use Rattle.model.proofs.LiveWords.{cleared-length}
 use Rattle.combination.specs.Proper.{below}
@@ -74,9 +73,9 @@ loop-again c =
         (
           (λ i _. c .slice-known2 .given i .fits),
           λ n h k.
-          ap (struck n (listed ids (l .i + 1))) e
-          ∙ struck-next n (l .words) g (listed ids (l .i)) (listed ids (l .i + 1)) (l .inv .1 .1 .0) (omega (arith, l .inv .1 .0)) (member-below n ids (l .i) k (turn .loop-test .taken)) (λ x. listed-next ids (l .i) x (turn .loop-test .taken))
-          ∙ l .inv .1 .1 .1 n h k,
+              ap (struck n (listed ids (l .i + 1))) e
+              ∙ struck-next n (l .words) g (listed ids (l .i)) (listed ids (l .i + 1)) (l .inv .1 .1 .0) (omega (arith, l .inv .1 .0)) (member-below n ids (l .i) k (turn .loop-test .taken)) (λ x. listed-next ids (l .i) x (turn .loop-test .taken))
+              ∙ l .inv .1 .1 .1 n h k,
         ),
       ),
     )
