@@ -7,14 +7,14 @@ use mathlib.Core.Logic.{⊎-elim}
 use Prim.Native.Nat.{ℕ, zero, suc, _+_, _-_, _≤_, _<_}
 use native.Mathlib.Numerals.{add-one}
 use native.Mathlib.Omega.{arith}
-use native.Mathlib.Decide.{ℕ-discrete}
+use native.Mathlib.Decide.{ℕ-discrete, decLt}
 use native.Mathlib.Nat.{add-zero, zero-add, add-suc, suc-add, le-of-suc-le-suc}
 use lib.Dec.{ltb, eqb}
 use lib.ListN.{length, getD, take, drop}
 use lib.Seq.{drop-cons}
 use borrow.Author.Tests.{eqb-true, eq-eqb, ltb-true, lt-ltb, ne-eqb, le-ltb}
 use Rattle.model.specs.Lists.{all, any, elem, from, sum, select, keepIf, firstOr, pairwise, choices, prefixed, earlier}
-use Rattle.model.proofs.Bools.{and-left, and-right, and-intro, or-left, or-right, or-cases}
+use Rattle.model.proofs.Bools.{and-left, and-right, and-intro, or-left, or-right, or-cases, iff-eq, not-both}
 
 module _ {ℓ} {A : Type ℓ} where
   pub here : {x : A} {xs : List A} → List·Memᴰ x (x ∷ xs)
@@ -235,6 +235,9 @@ module _ {ℓ} {A : Type ℓ} (p : A → Bool) where
 
 -- ---- Numbers
 
+pub eqb-sym : (a b : ℕ) → eqb a b ≡ eqb b a
+eqb-sym a b = iff-eq (eqb a b) (eqb b a) (λ h. eq-eqb b a (sym (eqb-true a b h))) (λ h. eq-eqb a b (sym (eqb-true b a h)))
+
 pub elem-mem : (x : ℕ) (xs : List ℕ) → elem x xs ≡ true → List·Memᴰ x xs
 elem-mem x xs e = let k = any-at (eqb x) xs e in Memᴰ·cast (eqb-true x (k .0) (k .2)) (k .1)
 
@@ -312,6 +315,26 @@ select-from p i zero end e =
 select-from p i (suc n) end e =
     subst (First p i end) (firstOr-keepIf (p i) end i (select p (from (suc i) n)))
     (first-keep p i n end (firstOr end (select p (from (suc i) n))) e (select-from p (suc i) n end (omega arith)) (p i) refl)
+
+-- there is one such number
+pub first-unique : (p : ℕ → Bool) (i end x y : ℕ) → First p i end x → First p i end y → x ≡ y
+first-unique p i end x y f g = apart (decLt x y) (decLt y x)
+  where
+    apart : Dec (x < y) → Dec (y < x) → x ≡ y
+    apart (yes h) l = absurd (not-both (f .passes (omega (arith, g .to-end))) (g .none-before x (f .from-i) h))
+    apart (no h) (yes l) = absurd (not-both (g .passes (omega (arith, f .to-end))) (f .none-before y (g .from-i) l))
+    apart (no h) (no l) = omega arith
+
+-- some number of a range passes exactly if the first that passes lies in it
+pub any-first : (p q : ℕ → Bool) (i n end x : ℕ) → end ≡ i + n → ((k : ℕ) → i ≤ k → k < end → q k ≡ p k) → First p i end x → any q (from i n) ≡ ltb x end
+any-first p q i n end x e same f =
+    iff-eq (any q (from i n)) (ltb x end)
+    (λ h. let k = any-at q (from i n) h in let l = from-mem i n (k .0) (k .1) in lt-ltb x end (inside (k .0) (l .0) (omega arith) (k .2) (decLt x end)))
+    (λ h. let l = ltb-true x end h in any-intro q (from i n) (mem-from i n x (f .from-i) (omega arith)) (same x (f .from-i) l ∙ f .passes l))
+  where
+    inside : (k : ℕ) → i ≤ k → k < end → q k ≡ true → Dec (x < end) → x < end
+    inside k a b c (yes h) = h
+    inside k a b c (no h) = absurd (not-both c (same k a b ∙ f .none-before k a (omega arith)))
 
 -- ---- Maps, and the order of choices
 

@@ -8,7 +8,6 @@ use Prim.Native.Nat.{ℕ, _+_, _-_, _<_}
 use native.Mathlib.Omega.{arith}
 use lib.Dec.{eqb}
 use lib.ListN.{length, getD, take, set}
-use borrow.Author.Needs.{needs}
 use borrow.Kind.Array.{eInt, good-length}
 use mir.Syntax.{w16}
 use borrow.Fn.Kinds.{In}
