@@ -43,17 +43,19 @@ fn span_of(
     let first = tuple_starts[relation];
     if alone {
         let start = first + own;
+        let end = start + 1;
         return Span {
             first,
             start,
-            end: start + 1,
+            end,
         };
     }
     let end = tuple_starts[relation + 1];
     if resumes {
+        let start = first + from;
         return Span {
             first,
-            start: first + from,
+            start,
             end,
         };
     }
