@@ -96,7 +96,7 @@ pub record Come (Q : Search) (k : ℕ) (resumes : Bool) (chosen : List ℕ) (g :
   pub rest : left Q k resumes chosen g ≡ sought Q k chosen
 
 -- what `span_of` asks
-pub span-asks : (Q : Search) (k : ℕ) (R : Ready Q) → k < length (Q .members) → (getD (Q .members) k 0 < 64) × ((getD (Q .tupleStarts) (getD (Q .members) k 0) 0 + Q .own + 1 < 65536) × (getD (Q .tupleStarts) (getD (Q .members) k 0) 0 + getD (Q .low) k 0 < 65536))
+pub span-asks : (Q : Search) (k : ℕ) (R : Ready Q) → k < length (Q .members) → (getD (Q .members) k 0 < 64) × ((getD (Q .tupleStarts) (getD (Q .members) k 0) 0 + Q .own < 65535) × (getD (Q .tupleStarts) (getD (Q .members) k 0) 0 + getD (Q .low) k 0 < 65535))
 span-asks Q k R inside =
     let m = member-start Q R k inside in
     let w = member-within Q R k inside in

@@ -36,7 +36,7 @@ fn span_of(
     resumes: bool,
     from: u16,
 ) -> Span
-    requires { ⌜ (r < 64) × ((getD (now «tuple_starts») r 0 + own + 1 < 65536) × (getD (now «tuple_starts») r 0 + from < 65536)) ⌝ }
+    requires { ⌜ (r < 64) × ((getD (now «tuple_starts») r 0 + own < 65535) × (getD (now «tuple_starts») r 0 + from < 65535)) ⌝ }
     ensures { λ s. ⌜ s ≡ spanAt (now («tuple_starts» .entry)) r alone own resumes from ⌝ }
 {
     let relation = wide(r);
