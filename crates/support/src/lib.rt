@@ -44,20 +44,12 @@ fn span_of(
     if alone {
         let start = first + own;
         let end = start + 1;
-        return Span {
-            first,
-            start,
-            end,
-        };
+        return Span { first, start, end };
     }
     let end = tuple_starts[relation + 1];
     if resumes {
         let start = first + from;
-        return Span {
-            first,
-            start,
-            end,
-        };
+        return Span { first, start, end };
     }
     Span {
         first,
