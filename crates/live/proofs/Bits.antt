@@ -10,14 +10,14 @@ use native.Mathlib.Omega.{arith}
 use lib.Dec.{eqb, eqb·zero-suc, eqb·suc-zero, eqb·suc-suc}
 use lib.ListN.{getD}
 use lib.Pow.{pow-mono, pow-lt, shl-exact, shr-shr, field, mod-mod-pow}
-use lib.Bits.{bitAnd, bitOr, and-shr, or-shr, and-step, or-step, and-le-l, or-lt}
+use lib.Bits.{bitAnd, bitOr, and-shr, or-shr, and-step, or-step, and-le-l, and-le-r, or-lt, or-add-and}
 use lib.Count.{ones, ones-step, trailingZeros, under}
 use borrow.Author.Tests.{eq-eqb}
 use Rattle.model.specs.Limits.{wordBits}
 use Rattle.model.specs.Lists.{from}
 use Rattle.model.specs.TupleSet.{count}
 use Rattle.model.specs.LiveWords.{bit, isSet, isLive, livingFrom, word}
-use Rattle.model.proofs.Bools.{not-both}
+use Rattle.model.proofs.Bools.{and-left, and-right, and-intro, not-both}
 use Rattle.model.proofs.LiveWords.{isSet-suc, isLive-at, livingFrom-word, digit-low, digit-half, digit-mod, word-ext, map-from-cong, count-cons}
 
 -- ---- One bit
@@ -167,3 +167,28 @@ trailing-at (suc k) w p h = go (trailing-at k (w / 2)) (w % 2) refl
     go : (0 < w / 2 → w / 2 < 2 ^ k → isSet (w / 2) (trailingZeros k (w / 2)) ≡ true) → (d : ℕ) → w % 2 ≡ d → isSet w (under d (trailingZeros k (w / 2))) ≡ true
     go rest zero e = isSet-suc w (trailingZeros k (w / 2)) ∙ rest (omega arith) (omega (arith, pow-succ' 2 k))
     go rest (suc d) e = isSet-zero w ∙ eq-eqb (w % 2) 1 (omega arith)
+
+-- ---- Sets that have a member in common
+
+lt-pow : (w : ℕ) → w < 2 ^ w
+lt-pow zero = omega arith
+lt-pow (suc w) = omega (arith, pow-succ' 2 w, lt-pow w)
+
+-- a word that is not 0 has a bit set
+some-bit : (w : ℕ) → (w ≡ 0 → ⊥) → (j : ℕ) × (isSet w j ≡ true)
+some-bit w d = (trailingZeros w w, trailing-at w w (omega arith) (lt-pow w))
+
+-- `a & b` is not 0 exactly if some bit is set in both
+pub and-some : (a b : ℕ) → (bitAnd a b ≡ 0 → ⊥) → (j : ℕ) × (isSet a j ≡ true) × (isSet b j ≡ true)
+and-some a b d =
+    let k = some-bit (bitAnd a b) d in
+    let e = sym (isSet-and a b (k .0)) ∙ k .1 in
+    (k .0, and-left (isSet a (k .0)) (isSet b (k .0)) e, and-right (isSet a (k .0)) (isSet b (k .0)) e)
+
+pub and-none : (a b j : ℕ) → isSet a j ≡ true → isSet b j ≡ true → bitAnd a b ≡ 0 → ⊥
+and-none a b j e f z =
+    not-both (isSet-and a b j ∙ and-intro e f) (ap (λ (w : ℕ). isSet w j) z ∙ isSet-high 0 0 j (omega arith) (omega arith))
+
+-- `a | b` is no less than `a`
+pub le-or : (a b : ℕ) → a ≤ bitOr a b
+le-or a b = omega (arith, or-add-and a b, and-le-r a b)

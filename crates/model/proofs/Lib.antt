@@ -5,6 +5,7 @@ pub mod TupleSet
 pub mod Network
 pub mod Agreement
 pub mod Fault
+pub mod Combination
 pub mod LiveWords
 pub mod Support
 pub mod Search

@@ -1,18 +1,19 @@
--- Tests over lists against membership, and the choices of one element from each list.
+-- Tests over lists against membership, the choices of one element from each list, and sums over parts of a list.
 use mathlib.Core.Path.{_≡_, refl, sym, _∙_, ap, subst}
 use mathlib.Core.Bool.{Bool, true, false, _&&_, _||_, false≢true, and-false}
 use mathlib.Core.Option.{orElse, Option·getD}
 use mathlib.Core.List.{List, [], _∷_, _++_, map, map-append, head?, List·Memᴰ, List·Memᴰ·head, List·Memᴰ·tail, List·Memᴰ·eq-of-singleton, List·Memᴰ·cases-cons, List·Memᴰ·append-cases, Memᴰ·append-left, Memᴰ·append-right, Memᴰ·map, Memᴰ·of-map, Memᴰ·cast, List·Memᴰ·not-nil}
 use mathlib.Core.Logic.{⊎-elim}
-use Prim.Native.Nat.{ℕ, zero, suc, _+_, _≤_, _<_}
+use Prim.Native.Nat.{ℕ, zero, suc, _+_, _-_, _≤_, _<_}
+use native.Mathlib.Numerals.{add-one}
 use native.Mathlib.Omega.{arith}
 use native.Mathlib.Decide.{ℕ-discrete}
 use native.Mathlib.Nat.{add-zero, zero-add, add-suc, suc-add, le-of-suc-le-suc}
 use lib.Dec.{ltb, eqb}
 use lib.ListN.{length, getD, take, drop}
 use lib.Seq.{drop-cons}
-use borrow.Author.Tests.{eqb-true, eq-eqb, ne-eqb, ltb-true, lt-ltb, le-ltb}
-use Rattle.model.specs.Lists.{all, any, elem, from, select, keepIf, firstOr, pairwise, choices, prefixed, earlier}
+use borrow.Author.Tests.{eqb-true, eq-eqb, ltb-true, lt-ltb, ne-eqb, le-ltb}
+use Rattle.model.specs.Lists.{all, any, elem, from, sum, select, keepIf, firstOr, pairwise, choices, prefixed, earlier}
 use Rattle.model.proofs.Bools.{and-left, and-right, and-intro, or-left, or-right, or-cases}
 
 module _ {ℓ} {A : Type ℓ} where
@@ -185,6 +186,23 @@ module _ {ℓ} {A : Type ℓ} (p : A → Bool) where
   select-mem [] m = absurd (List·Memᴰ·not-nil m)
   select-mem (y ∷ xs) m = keepIf-mem y xs (select-mem xs) (p y) refl m
 
+  keepIf-more : (b : Bool) (y : A) {x : A} (ys : List A) → List·Memᴰ x ys → List·Memᴰ x (keepIf b y ys)
+  keepIf-more true y ys m = List·Memᴰ·tail m
+  keepIf-more false y ys m = m
+
+  keepIf-here : (b : Bool) {x : A} (y : A) (ys : List A) → x ≡ y → b ≡ true → List·Memᴰ x (keepIf b y ys)
+  keepIf-here true y ys q e = List·Memᴰ·head q
+  keepIf-here false y ys q e = absurd (false≢true e)
+
+  -- what is in the list and passes is selected
+  pub mem-select : (xs : List A) {x : A} → List·Memᴰ x xs → p x ≡ true → List·Memᴰ x (select p xs)
+  mem-select [] m e = absurd (List·Memᴰ·not-nil m)
+  mem-select (y ∷ xs) m e =
+      ⊎-elim
+      (λ q. keepIf-here (p y) y (select p xs) q (sym (ap p q) ∙ e))
+      (λ h. keepIf-more (p y) y (select p xs) (mem-select xs h e))
+      (List·Memᴰ·cases-cons m)
+
   keepIf-none : (y : A) (ys : List A) (v : Bool) → (v ≡ true → ⊥) → ys ≡ [] → keepIf v y ys ≡ []
   keepIf-none y ys true f e = absurd (f refl)
   keepIf-none y ys false f e = e
@@ -249,6 +267,10 @@ mem-from-suc i n g h k f (no d) = List·Memᴰ·tail (f (omega arith) (omega ari
 pub mem-from : (i n g : ℕ) → i ≤ g → g < i + n → List·Memᴰ g (from i n)
 mem-from i zero g h k = absurd (omega arith)
 mem-from i (suc n) g h k = mem-from-suc i n g h k (mem-from (suc i) n g) (ℕ-discrete g i)
+
+-- the numbers from i on and below end, by the first of them
+pub from-cons : (i end : ℕ) → i < end → from i (end - i) ≡ i ∷ from (i + 1) (end - (i + 1))
+from-cons i end h = let e : end - i ≡ suc (end - (i + 1)) = omega arith in rw (e, add-one)
 
 pub length-from : (i n : ℕ) → length (from i n) ≡ n
 length-from i zero = refl
@@ -445,3 +467,18 @@ map-places f xs zero i h = refl
 map-places {A = A} f xs (suc n) i h =
     ap {B = List A} (λ t. f (getD xs i 0) ∷ t) (map-places f xs n (suc i) (omega arith))
     ∙ ap (λ (t : List ℕ). map f (take (suc n) t)) (sym (drop-cons xs i 0 (omega arith)))
+
+-- ---- Sums
+
+module _ {ℓ} {A : Type ℓ} (f : A → ℕ) where
+  -- one element more
+  pub sum-take-suc : (d : A) (xs : List A) (k : ℕ) → k < length xs → sum (map f (take (suc k) xs)) ≡ sum (map f (take k xs)) + f (getD xs k d)
+  sum-take-suc d [] k h = absurd (omega arith)
+  sum-take-suc d (x ∷ xs) zero h = omega arith
+  sum-take-suc d (x ∷ xs) (suc k) h = let e = sum-take-suc d xs k (le-of-suc-le-suc h) in omega arith
+
+  pub sum-take-le : (xs : List A) (k : ℕ) → sum (map f (take k xs)) ≤ sum (map f xs)
+  sum-take-le [] zero = omega arith
+  sum-take-le [] (suc k) = omega arith
+  sum-take-le (x ∷ xs) zero = omega arith
+  sum-take-le (x ∷ xs) (suc k) = let e = sum-take-le xs k in omega arith

@@ -8,7 +8,7 @@ use native.Mathlib.Nat.{add-zero, zero-add, add-suc, suc-add, pow-suc, pow-succ'
 use native.Mathlib.Omega.{arith}
 use native.Mathlib.Decide.{ℕ-discrete, decLe}
 use lib.Dec.{ltb, eqb}
-use lib.ListN.{length, getD, set, length-map, length-set}
+use lib.ListN.{length, getD, set, replicate, length-map, length-set}
 use lib.Seq.{ext-getD, getD-set-same, getD-set-other}
 use borrow.Author.Tests.{eqb-true, eqb-false, eq-eqb, ne-eqb, lt-ltb, ltb-true, ltb-false}
 use Rattle.model.specs.Limits.{wordBits}
@@ -17,7 +17,7 @@ use Rattle.model.specs.TupleSet.{TupleSet, has, count, without}
 use Rattle.model.specs.LiveWords.{bit, isSet, isLive, livingFrom, living, nextLive, digits, word, cleared, raised, bitAfter, writtenFrom, written}
 use Rattle.model.proofs.Bools.{iff-eq}
 use Rattle.model.proofs.Lists.{length-from, getD-map-from, First, select-from}
-use Rattle.model.proofs.TupleSet.{restrict-has, count-length}
+use Rattle.model.proofs.TupleSet.{restrict-has, without-length, count-length, without-count, count-one}
 
 -- ---- Bits of a number
 
@@ -155,10 +155,6 @@ livingFrom-word ws i k h =
 
 -- ---- The next live id
 
-pub nextLive-first : (ws : List ℕ) (i end : ℕ) → i ≤ end → First (isLive ws) i end (nextLive ws i end)
-unfolding nextLive
-nextLive-first ws i end h = select-from (isLive ws) i (end - i) end (omega arith)
-
 pub nextLive-past : (ws : List ℕ) (i end : ℕ) → end ≤ i → nextLive ws i end ≡ end
 unfolding nextLive
 nextLive-past ws i end h = let e : end - i ≡ 0 = omega arith in rw e
@@ -179,6 +175,11 @@ nextLive-skip ws i (suc n) end dead =
     nextLive-skip ws i n end (λ j l. dead j (omega arith))
     ∙ nextLive-step ws (i + n) end (dead n (omega arith)) (decLe end (i + n))
     ∙ ap (λ (x : ℕ). nextLive ws x end) (sym (add-suc i n))
+
+-- no id before it is live, and it is, where it is below end
+pub nextLive-first : (ws : List ℕ) (i end : ℕ) → i ≤ end → First (isLive ws) i end (nextLive ws i end)
+unfolding nextLive
+nextLive-first ws i end h = select-from (isLive ws) i (end - i) end (omega arith)
 
 -- word lists with the same bits are the same
 pub words-ext : (vs ws : List ℕ) → length vs ≡ length ws → ((i : ℕ) → i < length vs → getD vs i 0 < 2 ^ 64) → ((i : ℕ) → i < length ws → getD ws i 0 < 2 ^ 64) → ((g : ℕ) → g < wordBits * length vs → isLive vs g ≡ isLive ws g) → vs ≡ ws
@@ -310,13 +311,96 @@ pub cleared-isLive : (g : ℕ) (ws : List ℕ) → ((i : ℕ) → i < length ws 
 unfolding cleared
 cleared-isLive = changed-isLive clears and-true
 
+abbrev raises : Bool → Bool → Bool
+raises b here = b || here
+
 pub raised-length : (g : ℕ) (ws : List ℕ) → length (raised g ws) ≡ length ws
 unfolding raised
 raised-length g ws = simp length-set
 
 pub raised-isLive : (g : ℕ) (ws : List ℕ) → ((i : ℕ) → i < length ws → getD ws i 0 < 2 ^ 64) → (h : ℕ) → h < wordBits * length ws → isLive (raised g ws) h ≡ (isLive ws h || eqb g h)
 unfolding raised
-raised-isLive = changed-isLive (λ b here. b || here) or-false
+raised-isLive = changed-isLive raises or-false
+
+-- no id of empty words is live
+pub none-isLive : (n g : ℕ) → isLive (replicate n 0) g ≡ false
+unfolding isLive isSet bit
+none-isLive n g = ap (λ (w : ℕ). isSet w (g % wordBits)) (empty n (g / wordBits)) ∙ unset (g % wordBits)
+  where
+    empty : (n i : ℕ) → getD (replicate n zero) i zero ≡ zero
+    empty zero i = refl
+    empty (suc n) zero = refl
+    empty (suc n) (suc i) = empty n i
+
+    unset : (k : ℕ) → isSet 0 k ≡ false
+    unset zero = refl
+    unset (suc k) = isSet-suc 0 k ∙ unset k
+
+pub cleared-below : (g : ℕ) (ws : List ℕ) → ((i : ℕ) → i < length ws → getD ws i 0 < 2 ^ 64) → (i : ℕ) → i < length ws → getD (cleared g ws) i 0 < 2 ^ 64
+unfolding cleared
+cleared-below g ws small i h =
+    subst (λ (x : ℕ). x < 2 ^ 64) (sym (changed-at clears and-true g ws small i h (ℕ-discrete i (g / wordBits)))) (word-below (bits clears g ws i))
+
+pub raised-below : (g : ℕ) (ws : List ℕ) → ((i : ℕ) → i < length ws → getD ws i 0 < 2 ^ 64) → (i : ℕ) → i < length ws → getD (raised g ws) i 0 < 2 ^ 64
+unfolding raised
+raised-below g ws small i h =
+    subst (λ (x : ℕ). x < 2 ^ 64) (sym (changed-at raises or-false g ws small i h (ℕ-discrete i (g / wordBits)))) (word-below (bits raises g ws i))
+
+-- ---- How many ids are live once one is changed
+
+pub living-count : (n : ℕ) (ws : List ℕ) → count (living n ws) ≤ n
+unfolding living
+living-count n ws = count-from-le (isLive ws) 0 n
+
+module _ (n g : ℕ) (ws : List ℕ) (small : (i : ℕ) → i < length ws → getD ws i 0 < 2 ^ 64) (inside : n ≤ wordBits * length ws) where
+  pub living-cleared : living n (cleared g ws) ≡ without (eqb g) (living n ws)
+  living-cleared =
+      ext-getD false (living n (cleared g ws)) (without (eqb g) (living n ws))
+      (living-length n (cleared g ws) ∙ sym (without-length (eqb g) (living n ws) ∙ living-length n ws))
+      (λ h k.
+      let b : h < n = subst (λ (x : ℕ). h < x) (living-length n (cleared g ws)) k in
+      living-has n (cleared g ws) h b
+      ∙ cleared-isLive g ws small h (omega arith)
+      ∙ sym (restrict-has (λ h. not (eqb g h)) (living n ws) h ∙ ap (λ (x : Bool). x && not (eqb g h)) (living-has n ws h b)))
+
+  -- a live id less
+  pub cleared-count : g < n → isLive ws g ≡ true → suc (count (living n (cleared g ws))) ≡ count (living n ws)
+  cleared-count h live =
+      let one = count-one g (living n ws) ∙ ap (λ (b : Bool). cond b 1 0) (living-has n ws g h ∙ live) in
+      omega (arith, one, without-count (eqb g) (living n ws), ap count living-cleared)
+
+  drop-raised : (b e : Bool) → ((b || e) && not e) ≡ (b && not e)
+  drop-raised true e = refl
+  drop-raised false true = refl
+  drop-raised false false = refl
+
+  -- the ids but g are as they were
+  raised-others : without (eqb g) (living n (raised g ws)) ≡ without (eqb g) (living n ws)
+  raised-others =
+      ext-getD false (without (eqb g) (living n (raised g ws))) (without (eqb g) (living n ws))
+      (without-length (eqb g) (living n (raised g ws)) ∙ living-length n (raised g ws) ∙ sym (without-length (eqb g) (living n ws) ∙ living-length n ws))
+      (λ h k.
+      let b : h < n = subst (λ (x : ℕ). h < x) (without-length (eqb g) (living n (raised g ws)) ∙ living-length n (raised g ws)) k in
+      restrict-has (λ h. not (eqb g h)) (living n (raised g ws)) h
+      ∙ ap (λ (x : Bool). x && not (eqb g h)) (living-has n (raised g ws) h b ∙ raised-isLive g ws small h (omega arith))
+      ∙ drop-raised (isLive ws h) (eqb g h)
+      ∙ sym (restrict-has (λ h. not (eqb g h)) (living n ws) h ∙ ap (λ (x : Bool). x && not (eqb g h)) (living-has n ws h b)))
+
+  at-most-one : (b : Bool) → cond b 1 0 ≤ 1
+  at-most-one true = omega arith
+  at-most-one false = omega arith
+
+  -- at most one live id more
+  pub raised-count : count (living n (raised g ws)) ≤ suc (count (living n ws))
+  raised-count =
+      omega (
+        arith,
+        count-one g (living n (raised g ws)),
+        at-most-one (has (living n (raised g ws)) g),
+        without-count (eqb g) (living n (raised g ws)),
+        without-count (eqb g) (living n ws),
+        ap count raised-others,
+      )
 
 pub written-below : (n : ℕ) (S : TupleSet) (ws : List ℕ) (i : ℕ) → i < length ws → getD (written n S ws) i 0 < 2 ^ 64
 written-below n S ws i h = subst (λ (x : ℕ). x < 2 ^ 64) (sym (written-at n S ws i h)) (word-below (bitAfter n S i (getD ws i 0)))

@@ -1,8 +1,8 @@
 -- Laws of ids: a relation's ids are those whose relation it is. Laws of where a relation begins in the lists.
+-- From the definitions alone.
 use mathlib.Core.Path.{_≡_, ap}
 use mathlib.Core.List.{List, [], _∷_, map, List·Memᴰ}
 use Prim.Native.Nat.{ℕ, zero, suc, _+_, _-_, _≤_, _<_}
-use native.Mathlib.Nat.{le-of-suc-le-suc}
 use native.Mathlib.Omega.{arith}
 use native.Mathlib.Decide.{decLt}
 use borrow.Author.Tests.{lt-ltb, le-ltb}
@@ -11,7 +11,7 @@ use lib.Seq.{take-length, take-all}
 use Rattle.model.specs.declared.Relation.{Relation}
 use Rattle.model.specs.Lists.{sum}
 use Rattle.model.specs.Network.{Network, noRelation, size, tuplesIn, before, firstId, total, idsOf, relationAt, relationOf, indexOf}
-use Rattle.model.proofs.Lists.{from-mem, mem-from}
+use Rattle.model.proofs.Lists.{from-mem, mem-from, sum-take-suc, sum-take-le}
 
 sizeAt : List Relation → ℕ → ℕ
 sizeAt Rs r = (getD Rs r noRelation) .tuples
@@ -92,19 +92,14 @@ module _ (N : Network) where
 module _ (f : Relation → ℕ) where
   -- one relation more
   pub before-suc : (Rs : List Relation) (r : ℕ) → r < length Rs → before f Rs (suc r) ≡ before f Rs r + f (getD Rs r noRelation)
-  before-suc [] r h = absurd (omega arith)
-  before-suc (R ∷ Rs) zero h = omega arith
-  before-suc (R ∷ Rs) (suc r) h = let e = before-suc Rs r (le-of-suc-le-suc h) in omega arith
+  before-suc = sum-take-suc f noRelation
 
   -- past the last relation: the total
   pub before-past : (Rs : List Relation) (r : ℕ) → length Rs ≤ r → before f Rs r ≡ sum (map f Rs)
   before-past Rs r h = ap (λ (Qs : List Relation). sum (map f Qs)) (take-all r Rs h)
 
   pub before-le : (Rs : List Relation) (r : ℕ) → before f Rs r ≤ sum (map f Rs)
-  before-le [] zero = omega arith
-  before-le [] (suc r) = omega arith
-  before-le (R ∷ Rs) zero = omega arith
-  before-le (R ∷ Rs) (suc r) = let e = before-le Rs r in omega arith
+  before-le = sum-take-le f
 
   -- a relation lies within the total
   pub before-within : (Rs : List Relation) (r : ℕ) → r < length Rs → before f Rs r + f (getD Rs r noRelation) ≤ sum (map f Rs)

@@ -3,17 +3,17 @@
 use mathlib.Core.Path.{_≡_, refl, sym, _∙_, ap, subst}
 use mathlib.Core.List.{List, [], _∷_, _++_, map, append-assoc, List·Memᴰ, List·Memᴰ·tail}
 use Prim.Native.Nat.{ℕ, zero, suc, _+_, _*_, _/_, _≤_, _<_}
-use native.Mathlib.Nat.{add-zero, zero-add, add-suc, suc-add, zero-mul, mul-le-mul-right, div-eq-of-lt-le, div-lt-iff-lt-mul}
+use native.Mathlib.Nat.{add-zero, zero-add, add-suc, suc-add, zero-mul, add-mul, mul-le-mul-right, div-eq-of-lt-le, div-lt-iff-lt-mul}
 use native.Mathlib.Omega.{arith}
 use lib.ListN.{length, getD, take, drop, length-drop}
-use lib.Seq.{take-add, drop-drop, drop-cons, length-take-le}
+use lib.Seq.{take-add, take-length, drop-drop, drop-cons, length-take-le}
 use Rattle.model.specs.Lists.{from, sum, each}
 use Rattle.model.specs.TupleSet.{TupleSet}
 use Rattle.model.specs.Network.{Network, size, firstId, idsOf}
 use Rattle.model.specs.Combination.{Combination, combinations, pairCombination, pairMember}
 use Rattle.model.specs.Support.{firstSupport}
 use Rattle.model.specs.Consistency.{supportList, needed, supportStart}
-use Rattle.model.proofs.Lists.{here, from-mem, length-from, map-places, from-append}
+use Rattle.model.proofs.Lists.{here, from-mem, length-from, map-places, sum-take-suc, sum-take-le, from-append}
 use Rattle.model.proofs.Consistency.{each-length, sum-times, sum-same, supportList-length}
 use Rattle.model.proofs.Support.{firstSupport-length}
 
@@ -163,3 +163,21 @@ module _ (N : Network) (S : TupleSet) (m : ℕ) (list : List ℕ) where
       (λ p b. subst (λ (x : ℕ). take (pairLength x) (drop (sum (map pairLength (from 0 p))) numbers) ≡ pairSupports x) (sym (zero-add p))
       (ap (λ (k : ℕ). take (pairLength p) (drop k numbers)) (supportStart-sum p (omega arith)) ∙ pair-piece numbers p (λ i k. h p i b k)))
       ∙ sym (supportList-pairs pos whole)
+
+-- ---- Where the pairs' numbers begin
+
+module _ (N : Network) (m : ℕ) (list : List ℕ) where
+  -- where the next pair's numbers begin
+  pub supportStart-suc : (p : ℕ) → p < length list → supportStart N m list (suc p) ≡ supportStart N m list p + size N (getD list p 0) * m
+  unfolding supportStart
+  supportStart-suc p h =
+      ap (λ (n : ℕ). n * m) (sum-take-suc (size N) 0 list p h)
+      ∙ add-mul (sum (map (size N) (take p list))) (size N (getD list p 0)) m
+
+  -- a pair's numbers lie within the needed length
+  pub supportStart-within : 0 < m → length list / m * m ≡ length list → (p : ℕ) → p < length list → supportStart N m list p + size N (getD list p 0) * m ≤ needed N (combinations m list)
+  unfolding supportStart
+  supportStart-within pos whole p h =
+      let l = mul-le-mul-right m (sum-take-le (size N) list (suc p)) in
+      let e = ap (λ (xs : List ℕ). sum (map (size N) xs) * m) (take-length list) in
+      omega (arith, supportStart-suc p h, needed-pairs N [] m list pos whole)

@@ -1,13 +1,15 @@
 -- Laws of sets of tuples; and for any rule that more live tuples only help, `closure` is the largest consistent set.
 use mathlib.Core.Path.{_≡_, refl, sym, _∙_, ap, subst}
-use mathlib.Core.Bool.{Bool, true, false, not, _&&_, _||_, and-true, false≢true}
+use mathlib.Core.Bool.{Bool, true, false, not, _&&_, _||_, cond, and-true, and-false, false≢true}
 use mathlib.Core.List.{[], _∷_}
 use Prim.Native.Nat.{ℕ, zero, suc, _+_, _≤_, _<_}
 use native.Mathlib.Nat.{add-zero, zero-add, add-suc, suc-add, le-refl}
 use native.Mathlib.Decide.{ℕ-discrete, decLt}
 use native.Mathlib.Omega.{arith}
+use lib.Dec.{eqb}
 use lib.ListN.{length, List·getD-eq-default}
 use lib.Seq.{ext-getD}
+use borrow.Author.Tests.{eq-eqb, ne-eqb}
 use Rattle.model.specs.Lists.{iterate}
 use Rattle.model.specs.TupleSet.{TupleSet, has, count, restrictFrom, restrict, without, Inside, Rule, Consistent, Largest, round, closure}
 use Rattle.model.proofs.Bools.{and-left, and-right, and-intro, iff-eq}
@@ -117,6 +119,32 @@ parts-count i p (x ∷ S) =
 -- the tuples that pass a test, and those that do not
 pub without-count : (t : ℕ → Bool) (S : TupleSet) → count (restrict t S) + count (without t S) ≡ count S
 without-count t S = parts-count 0 t S
+
+-- an id before i is not met
+skipped-count : (i g : ℕ) (S : TupleSet) → g < i → count (restrictFrom i (eqb g) S) ≡ 0
+skipped-count i g [] h = refl
+skipped-count i g (x ∷ S) h =
+    ap (λ (b : Bool). count ((x && b) ∷ restrictFrom (suc i) (eqb g) S)) (ne-eqb g i (λ e. omega arith))
+    ∙ ap (λ (b : Bool). count (b ∷ restrictFrom (suc i) (eqb g) S)) (and-false x)
+    ∙ skipped-count (suc i) g S (omega arith)
+
+met-count : (x : Bool) (S : TupleSet) → count S ≡ 0 → count ((x && true) ∷ S) ≡ cond x 1 0
+met-count true S e = ap suc e
+met-count false S e = e
+
+one-count : (i k g : ℕ) (S : TupleSet) → g ≡ i + k → count (restrictFrom i (eqb g) S) ≡ cond (has S k) 1 0
+one-count i k g [] e = refl
+one-count i zero g (x ∷ S) e =
+    ap (λ (b : Bool). count ((x && b) ∷ restrictFrom (suc i) (eqb g) S)) (eq-eqb g i (omega arith))
+    ∙ met-count x (restrictFrom (suc i) (eqb g) S) (skipped-count (suc i) g S (omega arith))
+one-count i (suc k) g (x ∷ S) e =
+    ap (λ (b : Bool). count ((x && b) ∷ restrictFrom (suc i) (eqb g) S)) (ne-eqb g i (λ q. omega arith))
+    ∙ ap (λ (b : Bool). count (b ∷ restrictFrom (suc i) (eqb g) S)) (and-false x)
+    ∙ one-count (suc i) k g S (omega arith)
+
+-- the tuple with id g alone
+pub count-one : (g : ℕ) (S : TupleSet) → count (restrict (eqb g) S) ≡ cond (has S g) 1 0
+count-one g S = one-count 0 g g S (sym (zero-add g))
 
 -- ---- Rounds
 

@@ -28,6 +28,10 @@ maxMembers = 4
 abbrev pub maxCombinations : ℕ
 maxCombinations = 256
 
+-- "The waiting list holds each pair of combination and member at most once, 1,024 pairs at most"
+abbrev pub maxPairs : ℕ
+maxPairs = 1024
+
 -- "The support list needs over 32,768 numbers"
 abbrev pub maxSupportNumbers : ℕ
 maxSupportNumbers = 32768

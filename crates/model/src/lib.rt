@@ -15,6 +15,8 @@ pub const MAX_MEMBERS: usize = 4;
 
 pub const MAX_COMBINATIONS: usize = 256;
 
+pub const MAX_PAIRS: u16 = 1024;
+
 pub const MAX_SUPPORT_NUMBERS: usize = 32768;
 
 pub const NO_SUPPORT: u16 = 65535;

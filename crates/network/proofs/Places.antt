@@ -1,17 +1,17 @@
 -- Laws of a network's tables: where its scopes and tuples lie in the lists, read by the tables.
 -- From the definition of `Laid` and what a network without network faults has.
-use mathlib.Core.Path.{_≡_, refl, sym, _∙_, ap, ap₂}
+use mathlib.Core.Path.{_≡_, sym, _∙_, ap, ap₂}
 use mathlib.Core.List.{List}
 use Prim.Native.Nat.{ℕ, suc, _+_, _-_, _*_, _≤_, _<_}
-use native.Mathlib.Nat.{mul-le-mul-left, mul-comm, mul-suc, add-sub-cancel-left}
+use native.Mathlib.Nat.{mul-le-mul-left, mul-comm, mul-suc}
 use native.Mathlib.Numerals.{add-one}
 use native.Mathlib.Omega.{arith}
 use lib.ListN.{length, getD, take, drop, length-drop}
 use lib.Seq.{length-take-le}
 use Rattle.model.specs.Network.{Network, width, size, variablesIn, valuesIn, before, scopeOf, valuesAt}
-use Rattle.model.specs.Agreement.{Cell, cells}
+use Rattle.model.specs.Agreement.{cells}
 use Rattle.model.proofs.Network.{size-below, before-suc, before-within}
-use Rattle.model.proofs.Fault.{Faultless, faultless}
+use Rattle.model.proofs.Fault.{faultless}
 use Rattle.network.specs.declared.agreement.Place.{Place}
 use Rattle.network.specs.Layout.{widthIn, Laid, placeAt}
 use Rattle.network.proofs.Starts.{start-at}

@@ -78,11 +78,12 @@ abbrev pub Filled : (ℕ → ℕ) → ℕ → List ℕ → Type 0
 Filled f r xs = (length xs ≡ 65) × ((k : ℕ) → k < r → getD xs k 0 ≡ f k)
 
 pub filled-more : (f : ℕ → ℕ) (r : ℕ) (xs : List ℕ) (v : ℕ) → r < 65 → v ≡ f r → Filled f r xs → Filled f (r + 1) (set xs r v)
-filled-more f r xs v h e l =
-    (length-set xs r v ∙ l .0,
-    below-more _ r
-    (λ k m. getD-set-other xs r k v 0 (λ q. omega arith) ∙ l .1 k m)
-    (getD-set-same xs r v 0 (omega arith) ∙ e))
+filled-more f r xs v h e l = (
+  length-set xs r v ∙ l .0,
+  below-more _ r
+      (λ k m. getD-set-other xs r k v 0 (λ q. omega arith) ∙ l .1 k m)
+      (getD-set-same xs r v 0 (omega arith) ∙ e),
+)
 
 filled-map : (f : ℕ → ℕ) (n : ℕ) (xs : List ℕ) → length xs ≡ n → ((k : ℕ) → k < n → getD xs k 0 ≡ f k) → xs ≡ map f (from 0 n)
 filled-map f n xs l g =

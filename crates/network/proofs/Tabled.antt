@@ -8,7 +8,7 @@ use native.Mathlib.Nat.{add-zero, zero-add, le-of-suc-le-suc, mul-div-cancel-lef
 use native.Mathlib.Numerals.{add-one}
 use native.Mathlib.Omega.{arith}
 use borrow.Author.Tests.{leb-true, ltb-true, lt-ltb, le-ltb}
-use lib.Dec.{leb, ltb}
+use lib.Dec.{leb}
 use lib.ListN.{length, getD}
 use Rattle.model.specs.declared.Relation.{Relation}
 use Rattle.model.specs.Limits.{maxWidth}
@@ -16,9 +16,9 @@ use Rattle.model.specs.Lists.{from, all, select, keepIf}
 use Rattle.model.specs.Network.{Network, noRelation, variablesIn, valuesIn, before}
 use Rattle.model.proofs.Bools.{and-left, and-right, and-intro}
 use Rattle.model.proofs.Network.{before-suc, before-past}
-use Rattle.model.proofs.Fault.{Faultless, faultless}
+use Rattle.model.proofs.Fault.{faultless}
 use Rattle.network.specs.Shape.{properWidth}
-use Rattle.network.specs.Layout.{starts, widthIn, recordIn, hasVariable, relationsIn, tabled, Laid}
+use Rattle.network.specs.Layout.{widthIn, recordIn, hasVariable, relationsIn, tabled, Laid}
 use Rattle.network.proofs.Starts.{start-at}
 
 -- the records that have a variable, where those are the first ones

@@ -1,13 +1,12 @@
 -- The network whose relation records were taken apart.
-use mathlib.Core.Path.{_≡_}
-use mathlib.Core.Bool.{Bool, true}
+use mathlib.Core.Bool.{Bool}
 use mathlib.Core.List.{List, map}
-use Prim.Native.Nat.{ℕ, _≤_}
-use lib.ListN.{length, getD}
+use Prim.Native.Nat.{ℕ}
+use lib.ListN.{getD}
 use Rattle.model.specs.declared.Relation.{Relation}
-use Rattle.model.specs.Limits.{maxRelations, maxWidth, maxTuples}
-use Rattle.model.specs.Lists.{from, sum, all}
-use Rattle.model.specs.Network.{Network, tuplesIn, before}
+use Rattle.model.specs.Limits.{maxWidth}
+use Rattle.model.specs.Lists.{from}
+use Rattle.model.specs.Network.{Network}
 use Rattle.model.specs.Fault.{within}
 use Rattle.network.specs.declared.Shape.{Shape}
 

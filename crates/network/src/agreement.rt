@@ -5,7 +5,6 @@ ghost use lib.ListN.{length, getD};
 ghost use Rattle.model.specs.Network.{size, firstId};
 ghost use Rattle.model.specs.Agreement.{cells, agreeing, agree};
 ghost use Rattle.network.specs.Layout.{tabled, Laid, placeAt};
-
 use super::wide;
 
 // Where a relation's scope lies in the variable list, and one of its tuples in the value list.
@@ -58,7 +57,16 @@ pub fn place_of(variable_starts: &[u16; 65], value_starts: &[u16; 65], r: u16, x
 }
 
 // Whether tuple x of relation r and tuple y of relation s agree.
-pub fn tuples_agree(variables: &[u16], values: &[u16], variable_starts: &[u16; 65], value_starts: &[u16; 65], r: u16, x: u16, s: u16, y: u16) -> bool
+pub fn tuples_agree(
+    variables: &[u16],
+    values: &[u16],
+    variable_starts: &[u16; 65],
+    value_starts: &[u16; 65],
+    r: u16,
+    x: u16,
+    s: u16,
+    y: u16,
+) -> bool
     requires { ⌜ (let N = tabled (now variables) (now values) (now «variable_starts») (now «value_starts») in Laid N (now «variable_starts») (now «value_starts») × ((x < size N r) × (y < size N s))) ⌝ }
     ensures { λ b. ⌜ (let N = tabled (now (variables .entry)) (now (values .entry)) (now («variable_starts» .entry)) (now («value_starts» .entry)) in b ≡ agree N (firstId N r + x) (firstId N s + y)) ⌝ }
 {
@@ -72,5 +80,10 @@ pub fn tuples_agree(variables: &[u16], values: &[u16], variable_starts: &[u16; 6
     let scope_b_end = q.scope_end;
     let b = q.tuple;
     let b_end = q.tuple_end;
-    agree(&variables[scope_a..scope_a_end], &values[a..a_end], &variables[scope_b..scope_b_end], &values[b..b_end])
+    agree(
+        &variables[scope_a..scope_a_end],
+        &values[a..a_end],
+        &variables[scope_b..scope_b_end],
+        &values[b..b_end],
+    )
 }

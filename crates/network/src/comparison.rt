@@ -6,18 +6,25 @@ ghost use Rattle.model.specs.Agreement.{agree};
 ghost use Rattle.model.specs.Reply.{comparisonNumbers, compareReply};
 ghost use Rattle.network.specs.Shape.{networkOf};
 ghost use Rattle.network.specs.Layout.{starts, tabled, Laid};
-
-use model::Comparison;
-use model::MAX_RELATIONS;
 use super::Shape;
 use super::agreement::tuples_agree;
 use super::faults::fault;
 use super::tables::offsets;
 use super::tables::relation_of;
 use super::wide;
+use model::Comparison;
+use model::MAX_RELATIONS;
 
 // Whether the tuples with ids g and h agree.
-fn ids_agree(variables: &[u16], values: &[u16], variable_starts: &[u16; 65], tuple_starts: &[u16; 65], value_starts: &[u16; 65], g: u16, h: u16) -> bool
+fn ids_agree(
+    variables: &[u16],
+    values: &[u16],
+    variable_starts: &[u16; 65],
+    tuple_starts: &[u16; 65],
+    value_starts: &[u16; 65],
+    g: u16,
+    h: u16,
+) -> bool
     requires { ⌜ (let N = tabled (now variables) (now values) (now «variable_starts») (now «value_starts») in Laid N (now «variable_starts») (now «value_starts») × ((now «tuple_starts» ≡ starts tuplesIn (N .relations)) × ((g < total N) × (h < total N)))) ⌝ }
     ensures { λ b. ⌜ b ≡ agree (tabled (now (variables .entry)) (now (values .entry)) (now («variable_starts» .entry)) (now («value_starts» .entry))) g h ⌝ }
 {
@@ -47,7 +54,15 @@ pub fn compare(shape: Shape, variables: &[u16], values: &[u16], g: u16, h: u16) 
     if total <= h {
         return Comparison::Refused(13);
     }
-    if ids_agree(variables, values, &variable_starts, &tuple_starts, &value_starts, g, h) {
+    if ids_agree(
+        variables,
+        values,
+        &variable_starts,
+        &tuple_starts,
+        &value_starts,
+        g,
+        h,
+    ) {
         return Comparison::Agree;
     }
     Comparison::Differ

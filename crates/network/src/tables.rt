@@ -5,10 +5,9 @@ ghost use lib.ListN.{getD};
 ghost use Rattle.model.specs.Network.{Network, variablesIn, tuplesIn, valuesIn, relationOf};
 ghost use Rattle.network.specs.Shape.{relationsOf};
 ghost use Rattle.network.specs.Layout.{Bounded, starts};
-
-use model::MAX_RELATIONS;
 use super::Offsets;
 use super::Shape;
+use model::MAX_RELATIONS;
 
 // Where each relation begins in each list.
 pub fn offsets(shape: Shape) -> Offsets

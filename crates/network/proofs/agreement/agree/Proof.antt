@@ -7,7 +7,7 @@ use Prim.Native.Nat.{ℕ, _≤_, _<_, _-_}
 use native.Mathlib.Omega.{arith}
 use borrow.Author.Needs.{needs}
 use borrow.Author.Count.{below-more}
-use lib.ListN.{length, getD}
+use lib.ListN.{length}
 use Rattle.model.specs.Agreement.{clash}
 use Rattle.model.proofs.Agreement.{cellAt, agreeing-places, agreeing-clash, clash-other-variable, clash-same-value, clash-different-value}
 use Rattle.network.proofs.agreement.agree.Statement.{statement}

@@ -46,7 +46,7 @@ wide-requires-3 : tie.Need-wide-requires-3
 wide-requires-3 c κs = search needs
 
 sub-width : tie.Need-sub-width
-sub-width c = 
+sub-width c =
     let relation = c .before .before .before .before .wide .ensures .0 in
     let a = scope-read (c .before .before) in
     let e = scope-end-read c in
@@ -74,12 +74,12 @@ add-t10 : tie.Need-add-t10
 add-t10 c = omega (arith, product c)
 
 returns : tie.Need-returns
-returns c = 
+returns c =
     simp (
-    scope-read (c .before .before .before .before .before),
-    scope-end-read (c .before .before .before),
-    value-read (c .before),
-    c .wide5 .ensures .0,
+      scope-read (c .before .before .before .before .before),
+      scope-end-read (c .before .before .before),
+      value-read (c .before),
+      c .wide5 .ensures .0,
     )
 
 pub place-of-spec : {M : Type 1} → statement M

@@ -1,8 +1,7 @@
 -- `tuples_agree` decides whether two tuples agree: it hands `agree` the parts of the lists where they lie.
 -- From the laws of a network's tables and of agreement by relation and index.
-use mathlib.Core.Path.{_≡_, sym, ap₂, _∙_}
+use mathlib.Core.Path.{sym, ap₂, _∙_}
 use native.Mathlib.Omega.{arith}
-use borrow.Author.Needs.{needs}
 use Rattle.model.specs.Network.{Network}
 use Rattle.model.specs.Agreement.{agreeing}
 use Rattle.model.proofs.Agreement.{agree-at}
@@ -25,16 +24,18 @@ second c =
     place-within (network start) (start .args .variable-starts .now) (start .args .value-starts .now) (start .pre .0) (start .args .s) (start .args .y) (start .pre .1 .1) (c .place-of2 .result) (c .place-of2 .ensures)
 
 place-of-requires : tie.Need-place-of-requires
-place-of-requires c κs = 
-    let start = c .before .before in
-    (below-limit (network start) (start .args .variable-starts .now) (start .args .value-starts .now) (start .pre .0) (start .args .r) (start .args .x) (start .pre .1 .0),
-    rises (network start) (start .args .variable-starts .now) (start .args .value-starts .now) (start .pre .0) (start .args .r) (start .args .x) (start .pre .1 .0))
+place-of-requires c κs =
+    let start = c .before .before in (
+      below-limit (network start) (start .args .variable-starts .now) (start .args .value-starts .now) (start .pre .0) (start .args .r) (start .args .x) (start .pre .1 .0),
+      rises (network start) (start .args .variable-starts .now) (start .args .value-starts .now) (start .pre .0) (start .args .r) (start .args .x) (start .pre .1 .0),
+    )
 
 place-of-requires-2 : tie.Need-place-of-requires-2
-place-of-requires-2 c κs = 
-    let start = c .before .before .before in
-    (below-limit (network start) (start .args .variable-starts .now) (start .args .value-starts .now) (start .pre .0) (start .args .s) (start .args .y) (start .pre .1 .1),
-    rises (network start) (start .args .variable-starts .now) (start .args .value-starts .now) (start .pre .0) (start .args .s) (start .args .y) (start .pre .1 .1))
+place-of-requires-2 c κs =
+    let start = c .before .before .before in (
+      below-limit (network start) (start .args .variable-starts .now) (start .args .value-starts .now) (start .pre .0) (start .args .s) (start .args .y) (start .pre .1 .1),
+      rises (network start) (start .args .variable-starts .now) (start .args .value-starts .now) (start .pre .0) (start .args .s) (start .args .y) (start .pre .1 .1),
+    )
 
 mul-agree : tie.Need-mul-agree
 mul-agree c = let l = first c in omega arith
@@ -85,16 +86,17 @@ part-agree-end-4 : tie.Need-part-agree-end-4
 part-agree-end-4 c = let l = second (c .before .before .before) in omega arith
 
 agree-requires : tie.Need-agree-requires
-agree-requires c κs = 
+agree-requires c κs =
     let start = c .before .before .before .before .before .before .before .before in
     let places = c .before .before .before .before in
     let vs = start .args .variable-starts .now in
-    let ws = start .args .value-starts .now in
-    (place-lengths (network start) vs ws (start .pre .0) (start .args .r) (start .args .x) (start .pre .1 .0) (places .before .place-of .result) (places .before .place-of .ensures),
-    place-lengths (network start) vs ws (start .pre .0) (start .args .s) (start .args .y) (start .pre .1 .1) (places .place-of2 .result) (places .place-of2 .ensures))
+    let ws = start .args .value-starts .now in (
+      place-lengths (network start) vs ws (start .pre .0) (start .args .r) (start .args .x) (start .pre .1 .0) (places .before .place-of .result) (places .before .place-of .ensures),
+      place-lengths (network start) vs ws (start .pre .0) (start .args .s) (start .args .y) (start .pre .1 .1) (places .place-of2 .result) (places .place-of2 .ensures),
+    )
 
 returns : tie.Need-returns
-returns c = 
+returns c =
     let start = c .before .before .before .before .before .before .before .before .before in
     let places = c .before .before .before .before .before in
     let vs = start .args .variable-starts .now in

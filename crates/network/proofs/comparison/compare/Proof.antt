@@ -3,8 +3,8 @@
 use mathlib.Core.Path.{_≡_, refl, sym, ap, ap₂, subst, _∙_}
 use mathlib.Core.Bool.{Bool, true, false, not, _&&_, and-false}
 use mathlib.Core.Option.{Option, none, some}
-use mathlib.Core.List.{List, [], _∷_}
-use Prim.Native.Nat.{ℕ, _+_, _-_, _≤_, _<_}
+use mathlib.Core.List.{[], _∷_}
+use Prim.Native.Nat.{ℕ, _<_}
 use native.Mathlib.Omega.{arith}
 use borrow.Author.Needs.{needs}
 use borrow.Author.Tests.{lt-ltb, le-ltb}
@@ -14,7 +14,7 @@ use Rattle.model.specs.Network.{Network, total, tuplesIn}
 use Rattle.model.specs.Agreement.{agree}
 use Rattle.model.specs.Fault.{firstFault, networkFaults, idsFault, compareFaults}
 use Rattle.model.specs.Reply.{comparisonNumbers, comparisonFor, compareReply}
-use Rattle.model.proofs.Fault.{Faultless, faultless, fault-here, fault-next, firstFault-append-none, firstFault-append-some, refusal-some, refusal-none}
+use Rattle.model.proofs.Fault.{faultless, fault-here, fault-next, firstFault-append-none, firstFault-append-some, refusal-some, refusal-none}
 use Rattle.network.specs.Shape.{networkOf}
 use Rattle.network.specs.Layout.{starts, Laid, tabled}
 use Rattle.network.proofs.Starts.{faultless-bounded, last-start}
@@ -96,7 +96,7 @@ fault-requires : tie.Need-fault-requires
 fault-requires c κs = search needs
 
 returns : tie.Need-returns
-returns c = 
+returns c =
     let start = c .before .before .before .before in
     refused (network start) (start .args .g) (start .args .h) (c .before .fault .result) (refusal-some (firstFault (networkFaults (network start))) (c .before .fault .result) (sym (c .before .fault .ensures)) (c .if1 .taken))
 
@@ -107,7 +107,7 @@ array-read-total : tie.Need-array-read-total
 array-read-total c = search needs
 
 returns-2 : tie.Need-returns-2
-returns-2 c = 
+returns-2 c =
     let start = entry (accepted (c .before)) in
     let N = network start in
     let t = count (c .before) in
@@ -115,7 +115,7 @@ returns-2 c =
     refused-id N (start .args .g) (start .args .h) (sound (accepted (c .before))) (ap (λ (b : Bool). b && (ltb (start .args .h) (total N) && true)) low)
 
 returns-3 : tie.Need-returns-3
-returns-3 c = 
+returns-3 c =
     let start = entry (accepted (c .before .before)) in
     let N = network start in
     let t = count (c .before .before) in
@@ -125,18 +125,18 @@ returns-3 c =
 
 ids-agree-requires : tie.Need-ids-agree-requires
 unfolding Asked
-ids-agree-requires c κs = 
+ids-agree-requires c κs =
     let chosen = c .before .before .before in
     subst (Asked chosen) (sym (described (chosen .before .before .before .before .before))) (asked chosen)
 
 returns-4 : tie.Need-returns-4
-returns-4 c = 
+returns-4 c =
     let chosen = c .before .before .before .before .before in
     let start = entry (accepted (chosen .before .before)) in
     answered (network start) (start .args .g) (start .args .h) (sound (accepted (chosen .before .before))) true (low chosen .0) (low chosen .1) (agreed (c .before) ∙ c .if4 .taken)
 
 returns-5 : tie.Need-returns-5
-returns-5 c = 
+returns-5 c =
     let chosen = c .before .before .before .before .before in
     let start = entry (accepted (chosen .before .before)) in
     answered (network start) (start .args .g) (start .args .h) (sound (accepted (chosen .before .before))) false (low chosen .0) (low chosen .1) (agreed (c .before) ∙ c .if4 .left)

@@ -2,11 +2,11 @@
 -- From the laws of the relation and the index of an id, by the table of tuple starts.
 use mathlib.Core.Path.{_≡_, ap₂, _∙_}
 use mathlib.Core.List.{List}
-use Prim.Native.Nat.{ℕ, _+_, _-_, _<_}
+use Prim.Native.Nat.{ℕ, _+_, _-_}
 use native.Mathlib.Omega.{arith}
 use borrow.Author.Needs.{needs}
 use lib.ListN.{getD}
-use Rattle.model.specs.Network.{Network, size, firstId, relationOf}
+use Rattle.model.specs.Network.{Network, firstId, relationOf}
 use Rattle.model.specs.Agreement.{agree}
 use Rattle.model.proofs.Fault.{Faultless, faultless}
 use Rattle.network.specs.Layout.{tabled}
@@ -37,7 +37,7 @@ relation-of-requires : tie.Need-relation-of-requires
 relation-of-requires c κs = rw (last-start (network (c .before .before)) (sound (c .before .before)) (table (c .before .before)) (c .before .before .pre .1 .0)) (c .before .before .pre .1 .1 .0)
 
 relation-of-requires-2 : tie.Need-relation-of-requires-2
-relation-of-requires-2 c κs = 
+relation-of-requires-2 c κs =
     let start = c .before .before .before in
     rw (last-start (network start) (sound start) (table start) (start .pre .1 .0)) (start .pre .1 .1 .1)
 
@@ -48,14 +48,14 @@ mul-x : tie.Need-mul-x
 mul-x c = search needs
 
 element-copy-out-x : tie.Need-element-copy-out-x
-element-copy-out-x c = 
+element-copy-out-x c =
     let start = c .before .before .before .before .before in
     let e = first c in
     let l = id-relation (network start) (sound start) (table start) (start .pre .1 .0) (start .args .g) (start .pre .1 .1 .0) in
     omega arith
 
 sub-x : tie.Need-sub-x
-sub-x c = 
+sub-x c =
     let start = c .before .before .before .before .before .before in
     rw (first (c .before)) (id-begun (network start) (sound start) (table start) (start .pre .1 .0) (start .args .g) (start .pre .1 .1 .0))
 
@@ -66,27 +66,30 @@ mul-y : tie.Need-mul-y
 mul-y c = search needs
 
 element-copy-out-y : tie.Need-element-copy-out-y
-element-copy-out-y c = 
+element-copy-out-y c =
     let start = c .before .before .before .before .before .before .before in
     let e = second c in
     let l = id-relation (network start) (sound start) (table start) (start .pre .1 .0) (start .args .h) (start .pre .1 .1 .1) in
     omega arith
 
 sub-y : tie.Need-sub-y
-sub-y c = 
+sub-y c =
     let start = c .before .before .before .before .before .before .before .before in
     rw (second (c .before)) (id-begun (network start) (sound start) (table start) (start .pre .1 .0) (start .args .h) (start .pre .1 .1 .1))
 
 tuples-agree-requires : tie.Need-tuples-agree-requires
-tuples-agree-requires c κs = 
+tuples-agree-requires c κs =
     let start = c .before .before .before .before .before .before .before .before in
-    let relations = c .before .before .before .before in
-    (start .pre .0,
-    (rw (first (c .before .before .before), relations .before .relation-of .ensures (network start) (start .pre .1 .0)) (id-index (network start) (sound start) (table start) (start .pre .1 .0) (start .args .g) (start .pre .1 .1 .0)),
-    rw (second (c .before), relations .relation-of2 .ensures (network start) (start .pre .1 .0)) (id-index (network start) (sound start) (table start) (start .pre .1 .0) (start .args .h) (start .pre .1 .1 .1))))
+    let relations = c .before .before .before .before in (
+      start .pre .0,
+      (
+        rw (first (c .before .before .before), relations .before .relation-of .ensures (network start) (start .pre .1 .0)) (id-index (network start) (sound start) (table start) (start .pre .1 .0) (start .args .g) (start .pre .1 .1 .0)),
+        rw (second (c .before), relations .relation-of2 .ensures (network start) (start .pre .1 .0)) (id-index (network start) (sound start) (table start) (start .pre .1 .0) (start .args .h) (start .pre .1 .1 .1)),
+      ),
+    )
 
 returns : tie.Need-returns
-returns c = 
+returns c =
     let start = c .before .before .before .before .before .before .before .before .before in
     let relations = c .before .before .before .before .before in
     let N = network start in

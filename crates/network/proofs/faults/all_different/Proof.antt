@@ -1,7 +1,6 @@
 -- `all_different` tests every column against those after it: the columns from i on decide.
 -- From the laws of walks.
 use mathlib.Core.Path.{_≡_, refl, sym, _∙_}
-use mathlib.Core.Bool.{true, false}
 use Prim.Native.Nat.{_≤_, _-_}
 use borrow.Author.Needs.{needs}
 use borrow.Author.Tests.{not-true, not-false}

@@ -1,20 +1,20 @@
 -- `fault` reads the table of network faults in checking order: each test it passes is absent, and the first it meets is the answer.
 -- From what its tests ensure.
 use mathlib.Core.Path.{_≡_, refl, sym, ap, ap₂, _∙_}
-use mathlib.Core.Bool.{Bool, true, false, not, _&&_, and-false}
-use mathlib.Core.List.{List, map}
+use mathlib.Core.Bool.{Bool, false, not, _&&_}
+use mathlib.Core.List.{map}
 use Prim.Native.Nat.{ℕ, _≤_}
 use native.Mathlib.Omega.{arith}
 use borrow.Author.Needs.{needs}
 use borrow.Author.Tests.{not-true, not-false, leb-true, lt-ltb, le-ltb, eq-eqb, ne-eqb}
-use lib.Dec.{leb, ltb, eqb}
+use lib.Dec.{leb, ltb}
 use lib.ListN.{length}
 use Rattle.model.specs.Limits.{maxRelations, maxTuples}
 use Rattle.model.specs.Lists.{all, from, sum}
 use Rattle.model.specs.Network.{Network, total, variablesIn, valuesIn, scopeOf}
 use Rattle.model.specs.Fault.{within, properLengths, properScope}
 use Rattle.model.proofs.Bools.{and-right}
-use Rattle.network.specs.Shape.{relationsOf, networkOf, properWidth}
+use Rattle.network.specs.Shape.{networkOf, properWidth}
 use Rattle.network.proofs.Relations.{relation-count}
 use Rattle.network.proofs.faults.fault.Statement.{statement}
 use Rattle.network.proofs.faults.fault.Tie as tie
@@ -95,18 +95,18 @@ returns-2 : tie.Need-returns-2
 returns-2 c = rw (absent2 (c .before .before .before), ap not (sym (c .before .before .proper-widths .ensures) ∙ not-true _ (c .if2 .taken))) refl
 
 returns-3 : tie.Need-returns-3
-returns-3 c = 
+returns-3 c =
     let passed = c .before in
     rw (absent2 (passed2 passed), absent3 passed, lt-ltb maxTuples (total (network (entry3 passed))) (omega arith)) refl
 
 returns-4 : tie.Need-returns-4
-returns-4 c = 
+returns-4 c =
     let passed = c .before .before in
     let e = ne-eqb (length (network (entry4 passed) .variables)) (sum (map variablesIn (network (entry4 passed) .relations))) (λ h. c .if4 .taken (omega arith)) in
     rw (absent2 (passed2 (passed3 passed)), absent3 (passed3 passed), absent4 passed, e) refl
 
 returns-5 : tie.Need-returns-5
-returns-5 c = 
+returns-5 c =
     let passed = c .before .before in
     let N = network (entry4 (passed4 passed)) in
     let e = eq-eqb (length (N .variables)) (sum (map variablesIn (N .relations))) (called passed) in
@@ -117,25 +117,25 @@ proper-scopes-requires : tie.Need-proper-scopes-requires
 proper-scopes-requires c κs = (few (passed2 (passed3 (passed4 (passed-variables c)))), called (passed-variables c))
 
 returns-6 : tie.Need-returns-6
-returns-6 c = 
+returns-6 c =
     let passed = passed4 (passed-variables (c .before .before)) in
     rw (
-    absent2 (passed2 (passed3 passed)),
-    absent3 (passed3 passed),
-    absent4 passed,
-    absent5 (c .before .before),
-    sym (scoped (c .before)) ∙ not-true _ (c .if6 .taken),
+      absent2 (passed2 (passed3 passed)),
+      absent3 (passed3 passed),
+      absent4 passed,
+      absent5 (c .before .before),
+      sym (scoped (c .before)) ∙ not-true _ (c .if6 .taken),
     ) refl
 
 returns-7 : tie.Need-returns-7
-returns-7 c = 
+returns-7 c =
     let passed = passed4 (passed-variables (c .before .before)) in
     rw (
-    absent2 (passed2 (passed3 passed)),
-    absent3 (passed3 passed),
-    absent4 passed,
-    absent5 (c .before .before),
-    sym (scoped (c .before)) ∙ not-false _ (c .if6 .left),
+      absent2 (passed2 (passed3 passed)),
+      absent3 (passed3 passed),
+      absent4 passed,
+      absent5 (c .before .before),
+      sym (scoped (c .before)) ∙ not-false _ (c .if6 .left),
     ) refl
 
 pub fault-spec : {M : Type 1} → statement M

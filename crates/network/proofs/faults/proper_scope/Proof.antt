@@ -1,6 +1,6 @@
 -- `proper_scope` is the model's test of a scope, its two halves in turn.
 -- From what the two tests ensure.
-use mathlib.Core.Path.{_≡_, sym, ap, _∙_}
+use mathlib.Core.Path.{sym, ap, _∙_}
 use mathlib.Core.Bool.{Bool, _&&_}
 use borrow.Author.Needs.{needs}
 use borrow.Author.Tests.{not-true, not-false}

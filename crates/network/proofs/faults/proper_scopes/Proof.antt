@@ -1,7 +1,7 @@
 -- `proper_scopes` tests every relation's scope: the scopes from relation r on decide, and relation r's begins at `start`.
 -- From the laws of walks and of where relations begin.
 use mathlib.Core.Path.{_≡_, refl, sym, ap, ap₂, _∙_}
-use mathlib.Core.Bool.{Bool, true, false}
+use mathlib.Core.Bool.{Bool}
 use mathlib.Core.List.{List, []}
 use Prim.Native.Nat.{ℕ, _≤_, _<_, _-_, _+_}
 use native.Mathlib.Nat.{add-sub-cancel-left}
@@ -11,13 +11,13 @@ use borrow.Author.Tests.{not-true, not-false}
 use lib.ListN.{length, drop, getD, take}
 use Rattle.model.specs.declared.Relation.{Relation}
 use Rattle.model.specs.Lists.{all, from}
-use Rattle.model.specs.Network.{noRelation, variablesIn, before, scopeOf}
+use Rattle.model.specs.Network.{variablesIn, before, scopeOf}
 use Rattle.model.specs.Fault.{properScope}
 use Rattle.model.proofs.Network.{before-le}
 use Rattle.network.specs.declared.Shape.{Shape}
 use Rattle.network.specs.Shape.{relationsOf, networkOf}
 use Rattle.network.proofs.Walk.{all-passes, all-fails, all-ends}
-use Rattle.network.proofs.Relations.{relation-count, relation-at, below-count, before-next, number-at, number-count}
+use Rattle.network.proofs.Relations.{relation-at, before-next, number-at, number-count}
 use Rattle.network.proofs.faults.proper_scopes.Statement.{statement}
 use Rattle.network.proofs.faults.proper_scopes.Tie as tie
 

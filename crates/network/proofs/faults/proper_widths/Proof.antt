@@ -1,9 +1,7 @@
 -- `proper_widths` tests every width: the widths from relation r on decide.
 -- From the laws of walks and of the shape's relations.
 use mathlib.Core.Path.{_≡_, refl, sym, ap, _∙_}
-use mathlib.Core.Bool.{true, false}
 use Prim.Native.Nat.{_≤_, _-_}
-use native.Mathlib.Omega.{arith}
 use borrow.Author.Needs.{needs}
 use borrow.Author.Tests.{not-true, not-false}
 use lib.ListN.{drop, getD}

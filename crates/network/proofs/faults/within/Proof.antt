@@ -1,8 +1,6 @@
 -- `within` is the model's test of the same name.
 -- From what the two comparisons say.
-use mathlib.Core.Path.{_≡_}
 use borrow.Author.Tests.{lt-leb, le-leb}
-use borrow.Author.Needs.{needs}
 use Rattle.network.proofs.faults.within.Statement.{statement}
 use Rattle.network.proofs.faults.within.Tie as tie
 

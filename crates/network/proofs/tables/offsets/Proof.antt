@@ -1,6 +1,6 @@
 -- `offsets` writes where each relation begins: up to place r the tables hold the sums passed so far.
 -- From the laws of the tables of starts and of where relations begin; bounded records keep every sum within 16 bits.
-use mathlib.Core.Path.{_≡_, refl, sym, ap, ap₂, _∙_}
+use mathlib.Core.Path.{_≡_, refl, sym, _∙_}
 use mathlib.Core.Logic.{⊎-elim}
 use Prim.Native.Nat.{ℕ, _≤_, _<_, _-_, _*_, _+_}
 use native.Mathlib.Omega.{arith}
@@ -61,13 +61,15 @@ summed c =
     {C = Summed c}
     (λ w. let turn : tie.Then1 Inv-loop μ-loop = record { before = c .before; if1 = w .0 } in
     (w .3 ∙ next-variable turn, w .4 ∙ next-tuple turn, w .5 ∙ next-value turn))
-    (λ w. (w .1 ∙ inv .1 .0 ∙ stays (c .before) variablesIn (w .0 .left),
-    w .2 ∙ inv .1 .1 .0 ∙ stays (c .before) tuplesIn (w .0 .left),
-    w .3 ∙ inv .1 .1 .1 .0 ∙ stays (c .before) valuesIn (w .0 .left)))
+    (λ w. (
+      w .1 ∙ inv .1 .0 ∙ stays (c .before) variablesIn (w .0 .left),
+      w .2 ∙ inv .1 .1 .0 ∙ stays (c .before) tuplesIn (w .0 .left),
+      w .3 ∙ inv .1 .1 .1 .0 ∙ stays (c .before) valuesIn (w .0 .left),
+    ))
     (c .if1 .came)
 
 loop-holds : tie.Need-loop-holds Inv-loop μ-loop
-loop-holds c = 
+loop-holds c =
     (search needs, (refl, (refl, (refl, ((refl, λ k h. absurd (omega arith)), ((refl, λ k h. absurd (omega arith)), (refl, λ k h. absurd (omega arith))))))))
 
 mul-variables : tie.Need-mul-variables Inv-loop μ-loop
@@ -101,25 +103,25 @@ element-copy-out-size : tie.Need-element-copy-out-size Inv-loop μ-loop
 element-copy-out-size c = below-limit (c .before)
 
 add-variable : tie.Need-add-variable Inv-loop μ-loop
-add-variable c = 
+add-variable c =
     let turn = c .before .before in
     let e = next-variable turn in
     omega (arith, variables-fit (relationsOf (turn .before .before .before .args .t1)) (turn .before .before .before .pre) (turn .before .before .loop .r + 1))
 
 add-tuple : tie.Need-add-tuple Inv-loop μ-loop
-add-tuple c = 
+add-tuple c =
     let turn = c .before .before in
     let e = next-tuple turn in
     omega (arith, tuples-fit (relationsOf (turn .before .before .before .args .t1)) (turn .before .before .before .pre) (turn .before .before .loop .r + 1))
 
 mul-value : tie.Need-mul-value Inv-loop μ-loop
-mul-value c = 
+mul-value c =
     let turn = c .before .before in
     let e = next-value turn in
     omega (arith, values-fit (relationsOf (turn .before .before .before .args .t1)) (turn .before .before .before .pre) (turn .before .before .loop .r + 1))
 
 add-value : tie.Need-add-value Inv-loop μ-loop
-add-value c = 
+add-value c =
     let turn = c .before .before in
     let e = next-value turn in
     omega (arith, values-fit (relationsOf (turn .before .before .before .args .t1)) (turn .before .before .before .pre) (turn .before .before .loop .r + 1))
@@ -131,24 +133,41 @@ loop-less : tie.Need-loop-less Inv-loop μ-loop
 loop-less c = search needs
 
 loop-again : tie.Need-loop-again Inv-loop μ-loop
-loop-again c = 
+loop-again c =
     let head = c .before .before .loop in
     let Rs = relationsOf (c .before .before .before .args .t1) in
     let inv = head .inv in
-    let sums = summed c in
-    (search needs, (sums .0, (sums .1, (sums .2,
-    (filled-more (before variablesIn Rs) (head .r) (head .variables) (head .variable) (omega arith) (inv .1 .0) (inv .1 .1 .1 .1 .0),
-    (filled-more (before tuplesIn Rs) (head .r) (head .tuples) (head .tuple) (omega arith) (inv .1 .1 .0) (inv .1 .1 .1 .1 .1 .0),
-    filled-more (before valuesIn Rs) (head .r) (head .values) (head .value) (omega arith) (inv .1 .1 .1 .0) (inv .1 .1 .1 .1 .1 .1)))))))
+    let sums = summed c in (
+      search needs,
+      (
+        sums .0,
+        (
+          sums .1,
+          (
+            sums .2,
+            (
+              filled-more (before variablesIn Rs) (head .r) (head .variables) (head .variable) (omega arith) (inv .1 .0) (inv .1 .1 .1 .1 .0),
+              (
+                filled-more (before tuplesIn Rs) (head .r) (head .tuples) (head .tuple) (omega arith) (inv .1 .1 .0) (inv .1 .1 .1 .1 .1 .0),
+                filled-more (before valuesIn Rs) (head .r) (head .values) (head .value) (omega arith) (inv .1 .1 .1 .0) (inv .1 .1 .1 .1 .1 .1),
+              ),
+            ),
+          ),
+        ),
+      ),
+    )
 
 returns : tie.Need-returns Inv-loop μ-loop
-returns c = 
+returns c =
     let head = c .before .loop in
     let Rs = relationsOf (c .before .before .args .t1) in
-    let inv = head .inv in
-    (filled-starts variablesIn Rs (head .r) (head .variables) (omega arith) (inv .1 .1 .1 .1 .0),
-    (filled-starts tuplesIn Rs (head .r) (head .tuples) (omega arith) (inv .1 .1 .1 .1 .1 .0),
-    filled-starts valuesIn Rs (head .r) (head .values) (omega arith) (inv .1 .1 .1 .1 .1 .1)))
+    let inv = head .inv in (
+      filled-starts variablesIn Rs (head .r) (head .variables) (omega arith) (inv .1 .1 .1 .1 .0),
+      (
+        filled-starts tuplesIn Rs (head .r) (head .tuples) (omega arith) (inv .1 .1 .1 .1 .1 .0),
+        filled-starts valuesIn Rs (head .r) (head .values) (omega arith) (inv .1 .1 .1 .1 .1 .1),
+      ),
+    )
 
 pub offsets-spec : {M : Type 1} → statement M
 offsets-spec =

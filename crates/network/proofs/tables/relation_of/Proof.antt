@@ -1,6 +1,6 @@
 -- `relation_of` finds the relation of a tuple: every relation passed ends at or before the id.
 -- From the law of the relation between whose starts an id lies.
-use mathlib.Core.Path.{_≡_, sym}
+use mathlib.Core.Path.{sym}
 use Prim.Native.Nat.{ℕ, _+_, _-_, _≤_, _<_}
 use native.Mathlib.Omega.{arith}
 use borrow.Author.Needs.{needs}
@@ -36,17 +36,18 @@ loop-less : tie.Need-loop-less Inv-loop μ-loop
 loop-less c = search needs
 
 loop-again : tie.Need-loop-again Inv-loop μ-loop
-loop-again c = 
+loop-again c =
     let head = c .before .before in
-    let ts = head .before .args .tuple-starts .now in
-    (before-last ts (head .loop .r) (head .before .args .g) (head .loop .inv .0) (head .before .pre) (c .if1 .taken),
-    below-more _ (head .loop .r) (head .loop .inv .1) (c .if1 .taken))
+    let ts = head .before .args .tuple-starts .now in (
+      before-last ts (head .loop .r) (head .before .args .g) (head .loop .inv .0) (head .before .pre) (c .if1 .taken),
+      below-more _ (head .loop .r) (head .loop .inv .1) (c .if1 .taken),
+    )
 
 cast-result : tie.Need-cast-result Inv-loop μ-loop
 cast-result c = search needs
 
 returns : tie.Need-returns Inv-loop μ-loop
-returns c = 
+returns c =
     let head = c .before .before in
     λ N e. sym (relation-between N (head .before .args .tuple-starts .now) e (head .loop .r) (head .before .args .g) (head .loop .inv .0) (head .loop .inv .1) (c .if1 .left))
 

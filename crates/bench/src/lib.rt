@@ -1,0 +1,25 @@
+// The functions that the benchmark times, exported as they are.
+ghost use mathlib.Core.Path.{_≡_};
+ghost use Prim.Native.Nat.{_*_, _≤_};
+ghost use lib.ListN.{length};
+
+#[no_mangle]
+pub extern "C" fn bench_agree(scope_a: &[u16], a: &[u16], scope_b: &[u16], b: &[u16]) -> bool
+    requires { ⌜ (length (now «scope_a») ≡ length (now a)) × (length (now «scope_b») ≡ length (now b)) ⌝ }
+{
+    network::agreement::agree(scope_a, a, scope_b, b)
+}
+
+#[no_mangle]
+pub extern "C" fn bench_next(words: &[u64], start: u16, end: u16) -> u16
+    requires { ⌜ (start ≤ end) × (end ≤ 64 * length (now words)) × (end ≤ 4096) ⌝ }
+{
+    live::next(words, start, end)
+}
+
+#[no_mangle]
+pub extern "C" fn bench_count(words: &[u64], start: u16, end: u16) -> u16
+    requires { ⌜ (start ≤ end) × (end ≤ 64 * length (now words)) × (end ≤ 4096) ⌝ }
+{
+    live::count(words, start, end)
+}

@@ -1,0 +1,65 @@
+-- `list::fill` meets its contract. The loop's invariant: the first `i` numbers are filled, and all others are as at entry.
+-- From the logic's laws of filling.
+use mathlib.Core.Path.{_≡_, ap, _∙_}
+use mathlib.Core.List.{List, _++_}
+use Prim.Native.Nat.{ℕ, _-_, _≤_}
+use native.Mathlib.Omega.{arith}
+use lib.ListN.{length, set, drop, replicate, length-set}
+use borrow.Author.Needs.{needs}
+use borrow.Author.Fill.{fill-none, fill-more}
+use Rattle.model.specs.Limits.{noSupport}
+use Rattle.engine.proofs.list.fill.Statement.{statement}
+use Rattle.engine.proofs.list.fill.Tie as tie
+
+abbrev Inv-loop : tie.InvT-loop
+Inv-loop numbers₀ n i₀ numbers i = (numbers ≡ replicate i noSupport ++ drop i numbers₀) × ((length numbers ≡ length numbers₀) × (i ≤ n))
+
+abbrev μ-loop : tie.MeasureT-loop
+μ-loop numbers₀ n i₀ numbers i = n - i
+
+loop-holds : tie.Need-loop-holds Inv-loop μ-loop
+loop-holds c = (fill-none (c .args .numbers .now) noSupport, (search needs, search needs))
+
+mul-numbers : tie.Need-mul-numbers Inv-loop μ-loop
+mul-numbers c = search needs
+
+slice-write-numbers : tie.Need-slice-write-numbers Inv-loop μ-loop
+slice-write-numbers c = search needs
+
+add-i : tie.Need-add-i Inv-loop μ-loop
+add-i c = search needs
+
+loop-less : tie.Need-loop-less Inv-loop μ-loop
+loop-less c = search needs
+
+loop-again : tie.Need-loop-again Inv-loop μ-loop
+loop-again c =
+    let l = c .before .loop in
+    let entry = c .before .before .args .numbers .now in (
+      ap (λ (xs : List ℕ). set xs (l .i) noSupport) (l .inv .0) ∙ fill-more (l .i) noSupport entry (omega arith),
+      (length-set (l .numbers) (l .i) noSupport ∙ l .inv .1 .0, search needs),
+    )
+
+same-length : tie.Need-same-length Inv-loop μ-loop
+same-length c = c .before .loop .inv .1 .0
+
+returns : tie.Need-returns Inv-loop μ-loop
+returns c =
+    let l = c .before .loop in
+    let e : l .i ≡ c .before .before .args .n = omega arith in
+    rw e at (l .inv .0)
+
+pub fill-spec : {M : Type 1} → statement M
+fill-spec =
+    tie.close
+    (tie.spec
+    Inv-loop
+    μ-loop
+    loop-holds
+    mul-numbers
+    slice-write-numbers
+    add-i
+    loop-less
+    loop-again
+    same-length
+    returns)

@@ -1,0 +1,90 @@
+-- `list::load` meets its contract. The loop's invariant: the first `j` numbers are copied, and behind them stand noughts.
+-- From the logic's laws of copying.
+use mathlib.Core.Path.{_≡_, refl, sym, ap, _∙_}
+use mathlib.Core.List.{List, _++_}
+use Prim.Native.Nat.{ℕ, _+_, _-_, _≤_, _<_}
+use native.Mathlib.Nat.{zero-add}
+use native.Mathlib.Numerals.{add-one}
+use native.Mathlib.Omega.{arith}
+use lib.ListN.{length, getD, set, take, drop, replicate, length-set, length-drop}
+use lib.Seq.{paste, paste-zero, paste-suc, getD-drop}
+use borrow.Author.Needs.{needs}
+use Rattle.engine.proofs.Stretch.{drop-replicate}
+use Rattle.engine.proofs.list.load.Statement.{statement}
+use Rattle.engine.proofs.list.load.Tie as tie
+
+abbrev Inv-loop : tie.InvT-loop
+Inv-loop numbers at m tuples₀ j₀ tuples j = (j ≤ m) × ((length tuples ≡ 4) × (tuples ≡ paste (replicate 4 0) 0 (drop at numbers) j))
+
+abbrev μ-loop : tie.MeasureT-loop
+μ-loop numbers at m tuples₀ j₀ tuples j = m - j
+
+loop-holds : tie.Need-loop-holds Inv-loop μ-loop
+loop-holds c = (search needs, (refl, paste-zero (replicate 4 0) 0 (drop (c .args .at) (c .args .numbers .now))))
+
+add-tuples : tie.Need-add-tuples Inv-loop μ-loop
+add-tuples c = search needs
+
+mul-tuples : tie.Need-mul-tuples Inv-loop μ-loop
+mul-tuples c = search needs
+
+shared-slice-read-tuples : tie.Need-shared-slice-read-tuples Inv-loop μ-loop
+shared-slice-read-tuples c = search needs
+
+mul-tuples-2 : tie.Need-mul-tuples-2 Inv-loop μ-loop
+mul-tuples-2 c = search needs
+
+array-write-tuples : tie.Need-array-write-tuples Inv-loop μ-loop
+array-write-tuples c = search needs
+
+add-j : tie.Need-add-j Inv-loop μ-loop
+add-j c = search needs
+
+loop-less : tie.Need-loop-less Inv-loop μ-loop
+loop-less c = search needs
+
+loop-again : tie.Need-loop-again Inv-loop μ-loop
+loop-again c =
+    let a = c .before .before .before .args in
+    let l = c .before .before .loop in
+    let rest = drop (a .at) (a .numbers .now) in
+    let h : l .j < length rest = omega (arith, length-drop (a .at) (a .numbers .now)) in
+    let d : 0 + l .j < 4 = omega arith in (
+      search needs,
+      (
+        length-set (l .tuples) (l .j) (getD (a .numbers .now) (a .at + l .j) 0) ∙ l .inv .1 .0,
+        ap (λ (xs : List ℕ). set xs (l .j) (getD (a .numbers .now) (a .at + l .j) 0)) (l .inv .1 .1)
+            ∙ ap (λ (v : ℕ). set (paste (replicate 4 0) 0 rest (l .j)) (l .j) v) (sym (getD-drop (a .at) (a .numbers .now) (l .j) 0))
+            ∙ ap (λ (k : ℕ). set (paste (replicate 4 0) 0 rest (l .j)) k (getD rest (l .j) 0)) (sym (zero-add (l .j)))
+            ∙ paste-suc (replicate 4 0) 0 rest (l .j) 0 d h
+            ∙ ap (paste (replicate 4 0) 0 rest) (sym (add-one (l .j))),
+      ),
+    )
+
+returns : tie.Need-returns Inv-loop μ-loop
+returns c =
+    let a = c .before .before .args in
+    let l = c .before .loop in
+    let e : l .j ≡ a .m = omega arith in
+    let rest = drop (a .at) (a .numbers .now) in
+    l .inv .1 .1
+    ∙ ap (paste (replicate 4 0) 0 rest) e
+    ∙ ap (λ (k : ℕ). take (a .m) rest ++ drop k (replicate 4 0)) (zero-add (a .m))
+    ∙ ap (λ (xs : List ℕ). take (a .m) rest ++ xs) (drop-replicate (a .m) 4 0)
+
+pub load-spec : {M : Type 1} → statement M
+load-spec =
+    tie.close
+    (tie.spec
+    Inv-loop
+    μ-loop
+    loop-holds
+    add-tuples
+    mul-tuples
+    shared-slice-read-tuples
+    mul-tuples-2
+    array-write-tuples
+    add-j
+    loop-less
+    loop-again
+    returns)
