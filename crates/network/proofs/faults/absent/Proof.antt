@@ -29,7 +29,7 @@ shared-slice-read-if1 : tie.Need-shared-slice-read-if1 Inv-loop μ-loop
 shared-slice-read-if1 c = search needs
 
 returns : tie.Need-returns Inv-loop μ-loop
-returns c = 
+returns c =
     let turn = c .before .before in
     let args = turn .before .before .args in
     sym (all-fails (different (args .x)) (args .scope .now) (turn .before .loop .j) 0 (turn .loop-test .taken) (ap not (eq-eqb (args .x) (getD (args .scope .now) (turn .before .loop .j) 0) (sym (c .if1 .taken)))))
@@ -42,14 +42,16 @@ loop-less : tie.Need-loop-less Inv-loop μ-loop
 loop-less c = search needs
 
 loop-again : tie.Need-loop-again Inv-loop μ-loop
-loop-again c = 
+loop-again c =
     let turn = c .before .before in
-    let args = turn .before .before .args in
-    (search needs, sym (all-passes (different (args .x)) (args .scope .now) (turn .before .loop .j) 0 (turn .loop-test .taken) (ap not (ne-eqb (args .x) (getD (args .scope .now) (turn .before .loop .j) 0) (λ e. c .if1 .left (sym e)))))
-    ∙ turn .before .loop .inv .1)
+    let args = turn .before .before .args in (
+      search needs,
+      sym (all-passes (different (args .x)) (args .scope .now) (turn .before .loop .j) 0 (turn .loop-test .taken) (ap not (ne-eqb (args .x) (getD (args .scope .now) (turn .before .loop .j) 0) (λ e. c .if1 .left (sym e)))))
+          ∙ turn .before .loop .inv .1,
+    )
 
 returns-2 : tie.Need-returns-2 Inv-loop μ-loop
-returns-2 c = 
+returns-2 c =
     let args = c .before .before .args in
     sym (all-ends (different (args .x)) (args .scope .now) (c .before .loop .j) (c .loop-test .left)) ∙ c .before .loop .inv .1
 

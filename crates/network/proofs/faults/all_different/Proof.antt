@@ -34,7 +34,7 @@ absent-requires : tie.Need-absent-requires Inv-loop μ-loop
 absent-requires c κs = search needs
 
 returns : tie.Need-returns Inv-loop μ-loop
-returns c = 
+returns c =
     let turn = c .before .before .before in
     sym (pairwise-fails different (turn .before .before .before .args .scope .now) (turn .before .loop .i) 0 (turn .loop-test .taken) (sym (c .before .absent .ensures) ∙ not-true _ (c .if1 .taken)))
     ∙ turn .before .loop .inv .1
@@ -46,10 +46,12 @@ loop-less : tie.Need-loop-less Inv-loop μ-loop
 loop-less c = search needs
 
 loop-again : tie.Need-loop-again Inv-loop μ-loop
-loop-again c = 
-    let turn = c .before .before .before in
-    (search needs, sym (pairwise-passes different (turn .before .before .before .args .scope .now) (turn .before .loop .i) 0 (turn .loop-test .taken) (sym (c .before .absent .ensures) ∙ not-false _ (c .if1 .left)))
-    ∙ turn .before .loop .inv .1)
+loop-again c =
+    let turn = c .before .before .before in (
+      search needs,
+      sym (pairwise-passes different (turn .before .before .before .args .scope .now) (turn .before .loop .i) 0 (turn .loop-test .taken) (sym (c .before .absent .ensures) ∙ not-false _ (c .if1 .left)))
+          ∙ turn .before .loop .inv .1,
+    )
 
 returns-2 : tie.Need-returns-2 Inv-loop μ-loop
 returns-2 c = sym (pairwise-ends different (c .before .before .before .args .scope .now) (c .before .loop .i) (c .loop-test .left)) ∙ c .before .loop .inv .1

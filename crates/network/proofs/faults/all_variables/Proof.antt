@@ -33,7 +33,7 @@ wide-requires : tie.Need-wide-requires Inv-loop μ-loop
 wide-requires c κs = search needs
 
 returns : tie.Need-returns Inv-loop μ-loop
-returns c = 
+returns c =
     let turn = c .before .before .before in
     let scope = turn .before .before .before .args .scope .now in
     sym (all-fails (λ (x : ℕ). ltb x variableCount) scope (turn .before .loop .i) 0 (turn .loop-test .taken) (le-ltb (getD scope (turn .before .loop .i) 0) variableCount (omega arith)))
@@ -46,14 +46,16 @@ loop-less : tie.Need-loop-less Inv-loop μ-loop
 loop-less c = search needs
 
 loop-again : tie.Need-loop-again Inv-loop μ-loop
-loop-again c = 
+loop-again c =
     let turn = c .before .before .before in
-    let scope = turn .before .before .before .args .scope .now in
-    (search needs, sym (all-passes (λ (x : ℕ). ltb x variableCount) scope (turn .before .loop .i) 0 (turn .loop-test .taken) (lt-ltb (getD scope (turn .before .loop .i) 0) variableCount (omega arith)))
-    ∙ turn .before .loop .inv .1)
+    let scope = turn .before .before .before .args .scope .now in (
+      search needs,
+      sym (all-passes (λ (x : ℕ). ltb x variableCount) scope (turn .before .loop .i) 0 (turn .loop-test .taken) (lt-ltb (getD scope (turn .before .loop .i) 0) variableCount (omega arith)))
+          ∙ turn .before .loop .inv .1,
+    )
 
 returns-2 : tie.Need-returns-2 Inv-loop μ-loop
-returns-2 c = 
+returns-2 c =
     let scope = c .before .before .before .args .scope .now in
     sym (all-ends (λ (x : ℕ). ltb x variableCount) scope (c .before .loop .i) (c .loop-test .left)) ∙ c .before .loop .inv .1
 

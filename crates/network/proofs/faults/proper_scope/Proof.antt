@@ -13,7 +13,7 @@ all-variables-requires : tie.Need-all-variables-requires
 all-variables-requires c κs = search needs
 
 returns : tie.Need-returns
-returns c = 
+returns c =
     let scope = c .before .before .before .args .scope .now in
     sym (ap (λ (b : Bool). b && pairwise different scope) (sym (c .before .all-variables .ensures) ∙ not-true _ (c .if1 .taken)))
 
@@ -21,7 +21,7 @@ all-different-requires : tie.Need-all-different-requires
 all-different-requires c κs = search needs
 
 returns-2 : tie.Need-returns-2
-returns-2 c = 
+returns-2 c =
     let scope = c .before .before .before .before .args .scope .now in
     c .all-different .ensures
     ∙ sym (ap (λ (b : Bool). b && pairwise different scope) (sym (c .before .before .all-variables .ensures) ∙ not-false _ (c .before .if1 .left)))

@@ -94,7 +94,7 @@ proper-scope-requires : tie.Need-proper-scope-requires Inv-loop μ-loop
 proper-scope-requires c κs = search needs
 
 returns : tie.Need-returns Inv-loop μ-loop
-returns c = 
+returns c =
     let turn = c .before .before .before .before .before in
     let shape = turn .before .before .before .args .t1 in
     let variables = turn .before .before .before .args .variables .now in
@@ -110,19 +110,22 @@ loop-less : tie.Need-loop-less Inv-loop μ-loop
 loop-less c = search needs
 
 loop-again : tie.Need-loop-again Inv-loop μ-loop
-loop-again c = 
+loop-again c =
     let turn = c .before .before .before .before .before in
     let shape = turn .before .before .before .args .t1 in
     let variables = turn .before .before .before .args .variables .now in
     let r = turn .before .loop .r in
-    let below : r < length (numbers shape) = rw (number-count shape) (turn .loop-test .taken) in
-    (search needs,
-    (next-start (c .before .before .before),
-    sym (all-passes (proper shape variables) (numbers shape) r 0 below (sym (tested (c .before)) ∙ not-false _ (c .if1 .left)))
-    ∙ turn .before .loop .inv .1 .1))
+    let below : r < length (numbers shape) = rw (number-count shape) (turn .loop-test .taken) in (
+      search needs,
+      (
+        next-start (c .before .before .before),
+        sym (all-passes (proper shape variables) (numbers shape) r 0 below (sym (tested (c .before)) ∙ not-false _ (c .if1 .left)))
+            ∙ turn .before .loop .inv .1 .1,
+      ),
+    )
 
 returns-2 : tie.Need-returns-2 Inv-loop μ-loop
-returns-2 c = 
+returns-2 c =
     let shape = c .before .before .before .args .t1 in
     let variables = c .before .before .before .args .variables .now in
     sym (all-ends (proper shape variables) (numbers shape) (c .before .loop .r) (rw (number-count shape) (c .loop-test .left))) ∙ c .before .loop .inv .1 .1

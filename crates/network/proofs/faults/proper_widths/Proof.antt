@@ -46,7 +46,7 @@ within-requires : tie.Need-within-requires Inv-loop μ-loop
 within-requires c κs = search needs
 
 returns : tie.Need-returns Inv-loop μ-loop
-returns c = 
+returns c =
     let turn = c .before .before .before .before in
     let shape = turn .before .before .args .t1 in
     sym (all-fails properWidth (relationsOf shape) (turn .before .loop .r) noRelation (below-count shape (turn .before .loop .r) (turn .loop-test .taken)) (sym (tested (c .before)) ∙ not-true _ (c .if1 .taken)))
@@ -59,14 +59,16 @@ loop-less : tie.Need-loop-less Inv-loop μ-loop
 loop-less c = search needs
 
 loop-again : tie.Need-loop-again Inv-loop μ-loop
-loop-again c = 
+loop-again c =
     let turn = c .before .before .before .before in
-    let shape = turn .before .before .args .t1 in
-    (search needs, sym (all-passes properWidth (relationsOf shape) (turn .before .loop .r) noRelation (below-count shape (turn .before .loop .r) (turn .loop-test .taken)) (sym (tested (c .before)) ∙ not-false _ (c .if1 .left)))
-    ∙ turn .before .loop .inv .1)
+    let shape = turn .before .before .args .t1 in (
+      search needs,
+      sym (all-passes properWidth (relationsOf shape) (turn .before .loop .r) noRelation (below-count shape (turn .before .loop .r) (turn .loop-test .taken)) (sym (tested (c .before)) ∙ not-false _ (c .if1 .left)))
+          ∙ turn .before .loop .inv .1,
+    )
 
 returns-2 : tie.Need-returns-2 Inv-loop μ-loop
-returns-2 c = 
+returns-2 c =
     let shape = c .before .before .args .t1 in
     sym (all-ends properWidth (relationsOf shape) (c .before .loop .r) (rw (relation-count shape) (c .loop-test .left))) ∙ c .before .loop .inv .1
 

@@ -66,27 +66,37 @@ loop-less : tie.Need-loop-less Inv-loop μ-loop
 loop-less c = search needs
 
 loop-again : tie.Need-loop-again Inv-loop μ-loop
-loop-again c = 
+loop-again c =
     let turn = c .before .before .before .before in
     let shape = turn .before .before .args .t1 in
     let r = turn .before .loop .r in
     let inv = turn .before .loop .inv in
     let width = c .before .before .wide .ensures .0 in
-    let size = c .wide2 .ensures .0 in
-    (search needs,
-    (ap₂ (λ (a b : ℕ). a + b) (inv .1 .0) width ∙ sym (before-next shape variablesIn r (turn .loop-test .taken)),
-    (ap₂ (λ (a b : ℕ). a + b) (inv .1 .1 .0) size ∙ sym (before-next shape tuplesIn r (turn .loop-test .taken)),
-    (ap₂ (λ (a b : ℕ). a + b) (inv .1 .1 .1 .0) (ap₂ (λ (a b : ℕ). a * b) width size) ∙ sym (before-next shape valuesIn r (turn .loop-test .taken)),
-    (search needs, (search needs, omega (arith, few c)))))))
+    let size = c .wide2 .ensures .0 in (
+      search needs,
+      (
+        ap₂ (λ (a b : ℕ). a + b) (inv .1 .0) width ∙ sym (before-next shape variablesIn r (turn .loop-test .taken)),
+        (
+          ap₂ (λ (a b : ℕ). a + b) (inv .1 .1 .0) size ∙ sym (before-next shape tuplesIn r (turn .loop-test .taken)),
+          (
+            ap₂ (λ (a b : ℕ). a + b) (inv .1 .1 .1 .0) (ap₂ (λ (a b : ℕ). a * b) width size) ∙ sym (before-next shape valuesIn r (turn .loop-test .taken)),
+            (search needs, (search needs, omega (arith, few c))),
+          ),
+        ),
+      ),
+    )
 
 returns : tie.Need-returns Inv-loop μ-loop
-returns c = 
+returns c =
     let shape = c .before .before .args .t1 in
     let r = c .before .loop .r in
-    let inv = c .before .loop .inv in
-    (inv .1 .0 ∙ before-end shape variablesIn r (c .loop-test .left),
-    (inv .1 .1 .0 ∙ before-end shape tuplesIn r (c .loop-test .left),
-    inv .1 .1 .1 .0 ∙ before-end shape valuesIn r (c .loop-test .left)))
+    let inv = c .before .loop .inv in (
+      inv .1 .0 ∙ before-end shape variablesIn r (c .loop-test .left),
+      (
+        inv .1 .1 .0 ∙ before-end shape tuplesIn r (c .loop-test .left),
+        inv .1 .1 .1 .0 ∙ before-end shape valuesIn r (c .loop-test .left),
+      ),
+    )
 
 pub totals-of-spec : {M : Type 1} → statement M
 totals-of-spec =
