@@ -1,6 +1,6 @@
 -- Tests over lists against membership, the choices of one element from each list, and sums over parts of a list.
 use mathlib.Core.Path.{_≡_, refl, sym, _∙_, ap, subst}
-use mathlib.Core.Bool.{Bool, true, false, _&&_, _||_, false≢true}
+use mathlib.Core.Bool.{Bool, true, false, _&&_, _||_, false≢true, and-false}
 use mathlib.Core.Option.{orElse, Option·getD}
 use mathlib.Core.List.{List, [], _∷_, _++_, map, map-append, head?, List·Memᴰ, List·Memᴰ·head, List·Memᴰ·tail, List·Memᴰ·eq-of-singleton, List·Memᴰ·cases-cons, List·Memᴰ·append-cases, Memᴰ·append-left, Memᴰ·append-right, Memᴰ·map, Memᴰ·of-map, Memᴰ·cast, List·Memᴰ·not-nil}
 use mathlib.Core.Logic.{⊎-elim}
@@ -128,6 +128,16 @@ module _ {ℓ} {A : Type ℓ} where
   pub picks-choices : {xss : List (List A)} {t : List A} → Picks xss t → List·Memᴰ t (choices xss)
   picks-choices done = List·Memᴰ·head refl
   picks-choices (pick {xs} {xss} m p) = in-prefixed xs (choices xss) m (picks-choices p)
+
+  pub picks-length : {xss : List (List A)} {t : List A} → Picks xss t → length t ≡ length xss
+  picks-length done = refl
+  picks-length (pick m p) = ap suc (picks-length p)
+
+  -- the element at a place
+  pub picks-at : {xss : List (List A)} {t : List A} → Picks xss t → (j : ℕ) (d : A) → j < length xss → List·Memᴰ (getD t j d) t × List·Memᴰ (getD t j d) (getD xss j [])
+  picks-at done j d h = absurd (omega arith)
+  picks-at (pick m p) zero d h = (here, m)
+  picks-at (pick m p) (suc j) d h = let k = picks-at p j d (le-of-suc-le-suc h) in (List·Memᴰ·tail (k .0), k .1)
 
   pub picks-append : {xss yss : List (List A)} {t u : List A} → Picks xss t → Picks yss u → Picks (xss ++ yss) (t ++ u)
   picks-append done q = q
@@ -338,6 +348,11 @@ any-first p q i n end x e same f =
 
 -- ---- Maps, and the order of choices
 
+pub getD-map-in {ℓ κ} : {A : Type ℓ} {B : Type κ} (f : A → B) (xs : List A) (j : ℕ) (d : A) (e : B) → j < length xs → getD (map f xs) j e ≡ f (getD xs j d)
+getD-map-in f [] j d e h = absurd (omega arith)
+getD-map-in f (x ∷ xs) zero d e h = refl
+getD-map-in f (x ∷ xs) (suc j) d e h = getD-map-in f xs j d e (le-of-suc-le-suc h)
+
 module _ {ℓ κ} {A : Type ℓ} {B : Type κ} (f : A → B) where
   pub all-map : (p : B → Bool) (xs : List A) → all p (map f xs) ≡ all (λ (x : A). p (f x)) xs
   all-map p [] = refl
@@ -394,6 +409,22 @@ pub earlier-above : (k x : ℕ) (ys : List ℕ) → k < length ys → getD ys k 
 earlier-above k x [] h l = absurd (omega arith)
 earlier-above zero x (y ∷ ys) h l = or-left (eqb y x && earlier ys []) (lt-ltb y x l)
 earlier-above (suc k) x (y ∷ ys) h l = earlier-cons y y ys (take k ys ++ (x ∷ [])) refl ∙ earlier-above k x ys (le-of-suc-le-suc h) l
+
+-- the order looks no further than the first list's length
+pub earlier-within : (xs ys : List ℕ) → earlier xs ys ≡ earlier xs (take (length xs) ys)
+earlier-within [] ys = refl
+earlier-within (x ∷ xs) [] = refl
+earlier-within (x ∷ xs) (y ∷ ys) = ap (λ (b : Bool). ltb x y || (eqb x y && b)) (earlier-within xs ys)
+
+-- what is nowhere less is not earlier
+pub earlier-least : (xs ys : List ℕ) → ((j : ℕ) → j < length xs → getD ys j 0 ≤ getD xs j 0) → earlier xs ys ≡ false
+earlier-least [] ys h = refl
+earlier-least (x ∷ xs) [] h = refl
+earlier-least (x ∷ xs) (y ∷ ys) h =
+    let l = h 0 (omega arith) in
+    ap (λ (b : Bool). b || (eqb x y && earlier xs ys)) (le-ltb x y l)
+    ∙ ap (λ (b : Bool). eqb x y && b) (earlier-least xs ys (λ j k. h (suc j) (omega arith)))
+    ∙ and-false (eqb x y)
 
 -- what is later by its first elements is later, however it goes on
 pub later-append : (xs t ys : List ℕ) → earlier ys xs ≡ true → earlier ys (xs ++ t) ≡ true
