@@ -38,7 +38,7 @@ ids-below N ids e =
 pub tables-given : (S : Shape) (variables values vs ts ws : List ℕ) (words : ℕ) → (let N = networkOf S variables values in firstFault (networkFaults N) ≡ none → total N ≤ wordBits * words → vs ≡ starts variablesIn (relationsOf S) → ts ≡ starts tuplesIn (relationsOf S) → ws ≡ starts valuesIn (relationsOf S) → Tables N vs ts ws (S .count) words)
 tables-given S variables values vs ts ws words sound enough ev et ew =
     record {
-      numbered = record { faultless = sound; relations = relation-count S; tuples = et; enough = enough };
+      table = record { faultless = sound; relations = relation-count S; tuples = et; enough = enough };
       laid = record { faultless = sound; variables = ev; values = ew };
     }
 

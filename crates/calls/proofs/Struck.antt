@@ -15,7 +15,7 @@ use Rattle.model.specs.TupleSet.{TupleSet, without}
 use Rattle.model.specs.LiveWords.{isLive, living, nextLive, cleared, written}
 use Rattle.model.proofs.Bools.{and-left, and-right, and-intro, or-left, or-right, or-cases, iff-eq, not-both}
 use Rattle.model.proofs.TupleSet.{has-below, without-length, without-cong, without-none, without-without}
-use Rattle.model.proofs.LiveWords.{living-length, living-has, written-length, written-below, written-living, living-written, written-written, cleared-written, nextLive-first}
+use Rattle.model.proofs.LiveWords.{living-length, living-has, written-length, written-living, living-written, written-written, cleared-written, nextLive-first}
 use Rattle.calls.specs.Struck.{between, struck}
 
 -- the entries are 64-bit words
@@ -25,9 +25,6 @@ Small ws = (i : ℕ) → i < length ws → getD ws i 0 < 2 ^ 64
 module _ (n : ℕ) (ws : List ℕ) where
   pub struck-length : (p : ℕ → Bool) → length (struck n p ws) ≡ length ws
   struck-length p = written-length n (without p (living n ws)) ws
-
-  pub struck-small : (p : ℕ → Bool) → Small (struck n p ws)
-  struck-small p i h = written-below n (without p (living n ws)) ws i (omega (arith, struck-length p))
 
   -- what then lives
   pub struck-living : (p : ℕ → Bool) → n ≤ wordBits * length ws → living n (struck n p ws) ≡ without p (living n ws)

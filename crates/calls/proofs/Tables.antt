@@ -27,13 +27,13 @@ use Rattle.network.proofs.Starts.{start-at, last-start}
 use Rattle.network.proofs.Tabled.{variable-start, value-start, width-at}
 use Rattle.network.proofs.Places.{length-part, tuple-fits}
 use Rattle.calls.specs.Struck.{between, struck}
-use Rattle.calls.specs.Tables.{Numbered, Tables, columnOf}
+use Rattle.calls.specs.Tables.{TupleTable, Tables, columnOf}
 use Rattle.calls.proofs.Struck.{Small, upwards, upwards-cong, struck-cong, struck-none}
 use Rattle.calls.proofs.Columns.{column-found, column-none}
 
 -- ---- Where tuples lie
 
-module _ (N : Network) (ts : List ℕ) (count words : ℕ) (t : Numbered N ts count words) where
+module _ (N : Network) (ts : List ℕ) (count words : ℕ) (t : TupleTable N ts count words) where
   sound : Faultless N
   sound = faultless N (t .faultless)
 
@@ -84,10 +84,10 @@ module _ (N : Network) (ts : List ℕ) (count words : ℕ) (t : Numbered N ts co
 
 module _ (N : Network) (vs ts ws : List ℕ) (count words : ℕ) (t : Tables N vs ts ws count words) (r : ℕ) (h : r < count) where
   number : r < 64
-  number = omega (arith, count-few N ts count words (t .numbered))
+  number = omega (arith, count-few N ts count words (t .table))
 
   present : r < length (N .relations)
-  present = exists N ts count words (t .numbered) r h
+  present = exists N ts count words (t .table) r h
 
   scope-start : getD vs r 0 ≡ before variablesIn (N .relations) r
   scope-start = variable-start N vs ws (t .laid) r (omega (arith, number))
@@ -102,7 +102,7 @@ module _ (N : Network) (vs ts ws : List ℕ) (count words : ℕ) (t : Tables N v
   scope-rises = omega (arith, scope-start, scope-next, scope-suc)
 
   pub scope-fits : getD vs (r + 1) 0 ≤ length (N .variables)
-  scope-fits = omega (arith, scope-next, before-le variablesIn (N .relations) (r + 1), sound N ts count words (t .numbered) .variables)
+  scope-fits = omega (arith, scope-next, before-le variablesIn (N .relations) (r + 1), sound N ts count words (t .table) .variables)
 
   pub scope-width : getD vs (r + 1) 0 - getD vs r 0 ≡ width N r
   scope-width = width-at N vs ws (t .laid) r present
@@ -120,7 +120,7 @@ module _ (N : Network) (vs ts ws : List ℕ) (count words : ℕ) (t : Tables N v
   different-variables : pairwise different (scopeOf N r) ≡ true
   different-variables =
       and-right (all (λ (x : ℕ). ltb x variableCount) (scopeOf N r)) (pairwise different (scopeOf N r))
-      (all-at (λ (s : ℕ). properScope (scopeOf N s)) _ (sound N ts count words (t .numbered) .scopes) (mem-from 0 (length (N .relations)) r (omega arith) (omega (arith, present))))
+      (all-at (λ (s : ℕ). properScope (scopeOf N s)) _ (sound N ts count words (t .table) .scopes) (mem-from 0 (length (N .relations)) r (omega arith) (omega (arith, present))))
 
   -- ---- The values in a column
 
@@ -130,7 +130,7 @@ module _ (N : Network) (vs ts ws : List ℕ) (count words : ℕ) (t : Tables N v
 
   module _ (g : ℕ) (low : firstId N r ≤ g) (high : g < firstId N (r + 1)) where
     index : g - firstId N r < size N r
-    index = omega (arith, next-id N ts count words (t .numbered) r h)
+    index = omega (arith, next-id N ts count words (t .table) r h)
 
     value-begin : getD ws r 0 ≡ before valuesIn (N .relations) r
     value-begin = value-start N vs ws (t .laid) r (omega (arith, number))
@@ -193,19 +193,19 @@ module _ (N : Network) (vs ts ws : List ℕ) (count words : ℕ) (t : Tables N v
 
     module _ (start end first step : ℕ) (c : Column start end first step) where
       from-start : start ≡ firstId N r
-      from-start = starts-at N ts count words (t .numbered) r h start end (c .starts) (c .ends)
+      from-start = starts-at N ts count words (t .table) r h start end (c .starts) (c .ends)
 
       to-end : end ≡ firstId N (r + 1)
-      to-end = ends-at N ts count words (t .numbered) r h start end (c .starts) (c .ends)
+      to-end = ends-at N ts count words (t .table) r h start end (c .starts) (c .ends)
 
       at : (g : ℕ) → first + (g - start) * step ≡ place k g
       at g = ap₂ (λ (a b : ℕ). a + b) (c .value) (ap₂ (λ (a b : ℕ). (g - a) * b) from-start (c .steps))
 
       pub column-within : end ≤ total N
-      column-within = omega (arith, to-end, next-within N ts count words (t .numbered) r h)
+      column-within = omega (arith, to-end, next-within N ts count words (t .table) r h)
 
       pub column-bounds : (start ≤ end) × (end ≤ 64 * words) × (end ≤ 4096)
-      column-bounds = ids-bounds N ts count words (t .numbered) r h start end (c .starts) (c .ends)
+      column-bounds = ids-bounds N ts count words (t .table) r h start end (c .starts) (c .ends)
 
       pub column-values : (g : ℕ) → start ≤ g → g < end → first + (g - start) * step < length (N .values)
       column-values g low high =

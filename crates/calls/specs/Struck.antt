@@ -6,7 +6,7 @@ use lib.Dec.{leb, ltb}
 use Rattle.model.specs.TupleSet.{without}
 use Rattle.model.specs.LiveWords.{living, written}
 
--- the words once the ids below n that pass the test are dead, every other bit as it was
+-- the words once the ids below n that pass the test are dead (document 01: struck), every other bit as it was
 abbrev pub struck : ℕ → (ℕ → Bool) → List ℕ → List ℕ
 struck n p ws = written n (without p (living n ws)) ws
 

@@ -12,7 +12,7 @@ use Rattle.model.specs.Fault.{networkFaults, firstFault}
 use Rattle.network.specs.Layout.{starts, Laid}
 
 -- The network N has no network fault, count relations, and its tuples begin as in the table; so many live words are enough.
-pub record Numbered (N : Network) (tupleStarts : List ℕ) (count words : ℕ) : Type 0 where
+pub record TupleTable (N : Network) (tupleStarts : List ℕ) (count words : ℕ) : Type 0 where
   pub faultless : firstFault (networkFaults N) ≡ none
   pub relations : length (N .relations) ≡ count
   pub tuples : tupleStarts ≡ starts tuplesIn (N .relations)
@@ -20,7 +20,7 @@ pub record Numbered (N : Network) (tupleStarts : List ℕ) (count words : ℕ) :
 
 -- .. and its variables and values begin as in the tables.
 pub record Tables (N : Network) (variableStarts tupleStarts valueStarts : List ℕ) (count words : ℕ) : Type 0 where
-  pub numbered : Numbered N tupleStarts count words
+  pub table : TupleTable N tupleStarts count words
   pub laid : Laid N variableStarts valueStarts
 
 -- the column of variable x in a scope; the width where it has none

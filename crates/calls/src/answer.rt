@@ -6,7 +6,7 @@ ghost use Rattle.model.specs.TupleSet.{count};
 ghost use Rattle.model.specs.Network.{Network, total};
 ghost use Rattle.model.specs.LiveWords.{living};
 ghost use Rattle.model.specs.Reply.{lowestEmpty, answerFor};
-ghost use Rattle.calls.specs.Tables.{Numbered};
+ghost use Rattle.calls.specs.Tables.{TupleTable};
 use live::count;
 use live::next;
 use model::Answer;
@@ -16,8 +16,8 @@ use network::wide;
 
 // The lowest relation that has no live tuple; the number of relations if there is none.
 pub fn lowest_empty(tuple_starts: &[u16; 65], relations: u16, words: &[u64]) -> u16
-    requires { ⌜ ((N : Network) × Numbered N (now «tuple_starts») relations (length (now words))) ⌝ }
-    ensures { λ r. ⌜ ((N : Network) → Numbered N (now («tuple_starts» .entry)) relations (length (now (words .entry))) → r ≡ lowestEmpty N (living (total N) (now (words .entry)))) ⌝ }
+    requires { ⌜ ((N : Network) × TupleTable N (now «tuple_starts») relations (length (now words))) ⌝ }
+    ensures { λ r. ⌜ ((N : Network) → TupleTable N (now («tuple_starts» .entry)) relations (length (now (words .entry))) → r ≡ lowestEmpty N (living (total N) (now (words .entry)))) ⌝ }
 {
     let mut r = 0;
     while r < relations {
@@ -39,9 +39,9 @@ pub fn answer_for(
     before: u16,
     struck: u16,
 ) -> Answer
-    requires { ⌜ ((N : Network) × Numbered N (now «tuple_starts») relations (length (now words)) × (count (living (total N) (now words)) ≤ struck)) ⌝ }
+    requires { ⌜ ((N : Network) × TupleTable N (now «tuple_starts») relations (length (now words)) × (count (living (total N) (now words)) ≤ struck)) ⌝ }
     requires { ⌜ struck ≤ before ⌝ }
-    ensures { λ a. ⌜ ((N : Network) → Numbered N (now («tuple_starts» .entry)) relations (length (now (words .entry))) → (let L = living (total N) (now (words .entry)) in a ≡ answerFor N L (record { left = count L; withdrawn = before - struck; deleted = struck - count L }))) ⌝ }
+    ensures { λ a. ⌜ ((N : Network) → TupleTable N (now («tuple_starts» .entry)) relations (length (now (words .entry))) → (let L = living (total N) (now (words .entry)) in a ≡ answerFor N L (record { left = count L; withdrawn = before - struck; deleted = struck - count L }))) ⌝ }
 {
     let left = count(words, 0, tuple_starts[MAX_RELATIONS]);
     let withdrawn = before - struck;

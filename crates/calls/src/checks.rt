@@ -24,9 +24,9 @@ use network::wide;
 fn instance_fault(shape: Shape, variables: &[u16], values: &[u16], m: u16, members: &[u16]) -> u8
     ensures { λ f. ⌜ f ≡ refusal (firstFault (instanceFaults (instanceOf shape (now (variables .entry)) (now (values .entry)) m (now (members .entry))))) ⌝ }
 {
-    let f = network::faults::fault(shape, variables, values);
-    if f != 0 {
-        return f;
+    let of_network = network::faults::fault(shape, variables, values);
+    if of_network != 0 {
+        return of_network;
     }
     let sets = masks(shape, variables);
     combination::fault(shape, &sets, m, members)

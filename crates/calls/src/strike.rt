@@ -42,8 +42,8 @@ fn column_of(scope: &[u16], x: u16) -> usize
     k
 }
 
-// Of the tuples from id start on and below end, which have their values in the column at first, first + width and so on: each
-// with another value than v is dead.
+// Of the tuples with the ids from start on and below end, whose values in one column stand at first, first + width and so on,
+// each with another value than v is dead; every other bit stays.
 fn strike_column(
     values: &[u16],
     words: &mut [u64],
@@ -67,7 +67,7 @@ fn strike_column(
     }
 }
 
-// Each tuple of relation r with another value than v under variable x is dead.
+// Each tuple of relation r with another value than v under variable x is dead, and every other bit stays.
 fn choose_in(
     variables: &[u16],
     values: &[u16],
@@ -101,7 +101,7 @@ fn choose_in(
     }
 }
 
-// Each tuple with another value than v under variable x is dead.
+// Each tuple with another value than v under variable x is dead, and every other bit stays.
 pub fn choose_value(
     variables: &[u16],
     values: &[u16],

@@ -10,7 +10,7 @@ use Rattle.model.specs.TupleSet.{count}
 use Rattle.model.specs.Network.{Network, total}
 use Rattle.model.specs.LiveWords.{livingFrom, living}
 use Rattle.model.proofs.Reply.{answer-emptied, answer-settled}
-use Rattle.calls.specs.Tables.{Numbered}
+use Rattle.calls.specs.Tables.{TupleTable}
 use Rattle.calls.proofs.Tables.{total-at, total-few}
 use borrow.Author.Needs.{needs}
 use Rattle.calls.proofs.answer.answer_for.Statement.{statement}
@@ -21,7 +21,7 @@ abbrev counts : tie.Start → ℕ → Counts
 counts c n = record { left = n; withdrawn = c .args .before - c .args .struck; deleted = c .args .struck - n }
 
 abbrev Given : tie.Start → Network → Type 0
-Given c N = Numbered N (c .args .tuple-starts .now) (c .args .relations) (length (c .args .words .now))
+Given c N = TupleTable N (c .args .tuple-starts .now) (c .args .relations) (length (c .args .words .now))
 
 all-ids : (c : tie.Start) (N : Network) → Given c N → getD (c .args .tuple-starts .now) 64 0 ≡ total N
 all-ids c N t = total-at N (c .args .tuple-starts .now) (c .args .relations) (length (c .args .words .now)) t

@@ -16,7 +16,7 @@ use Rattle.model.specs.Reply.{isEmptied, lowestEmpty}
 use Rattle.model.proofs.Lists.{first-unique}
 use Rattle.model.proofs.LiveWords.{nextLive-first}
 use Rattle.model.proofs.Reply.{lowestEmpty-first}
-use Rattle.calls.specs.Tables.{Numbered}
+use Rattle.calls.specs.Tables.{TupleTable}
 use Rattle.calls.proofs.Tables.{count-few, ids-bounds, ids-emptied}
 use borrow.Author.Needs.{needs}
 use Rattle.calls.proofs.answer.lowest_empty.Statement.{statement}
@@ -24,7 +24,7 @@ use Rattle.calls.proofs.answer.lowest_empty.Tie as tie
 
 abbrev Inv-loop : tie.InvT-loop
 Inv-loop tuple-starts relations words r₀ r =
-    ((N : Network) → Numbered N tuple-starts relations (length words) → (s : ℕ) → s < r → isEmptied N (living (total N) words) s ≡ false)
+    ((N : Network) → TupleTable N tuple-starts relations (length words) → (s : ℕ) → s < r → isEmptied N (living (total N) words) s ≡ false)
     × (r ≤ relations)
 
 abbrev μ-loop : tie.MeasureT-loop
@@ -60,7 +60,7 @@ module _ (c : tie.After-wide Inv-loop μ-loop) where
       ids-bounds (entry .pre .0) table (entry .args .relations) (length (entry .args .words .now)) (entry .pre .1) (c .before .before .loop .r) (c .before .loop-test .taken) from-id to-id from-read to-read
 
   -- relation r is empty exactly if no live id lies in it
-  emptied : (N : Network) → Numbered N table (start (c .before) .args .relations) (length (start (c .before) .args .words .now)) → isEmptied N (living (total N) (start (c .before) .args .words .now)) (c .before .before .loop .r) ≡ not (ltb (nextLive (start (c .before) .args .words .now) from-id to-id) to-id)
+  emptied : (N : Network) → TupleTable N table (start (c .before) .args .relations) (length (start (c .before) .args .words .now)) → isEmptied N (living (total N) (start (c .before) .args .words .now)) (c .before .before .loop .r) ≡ not (ltb (nextLive (start (c .before) .args .words .now) from-id to-id) to-id)
   emptied N t =
       let entry = start (c .before) in
       ids-emptied N table (entry .args .relations) (length (entry .args .words .now)) t (c .before .before .loop .r) (c .before .loop-test .taken) from-id to-id from-read to-read (entry .args .words .now)

@@ -39,7 +39,7 @@ number : (c : tie.After-wide) → c .wide .result < 64
 number c =
     let entry = start c in
     let N = network entry (entry .pre .0) in
-    omega (arith, c .wide .ensures .0, entry .pre .3, count-few N (entry .args .tuple-starts .now) (entry .pre .1) (length (entry .args .words .now)) (entry .pre .2 .numbered))
+    omega (arith, c .wide .ensures .0, entry .pre .3, count-few N (entry .args .tuple-starts .now) (entry .pre .1) (length (entry .args .words .now)) (entry .pre .2 .table))
 
 rises : (c : tie.After-wide3) → c .before .before .wide2 .result ≤ c .wide3 .result
 rises c =
@@ -190,7 +190,7 @@ returns c =
     let numbers = column-numbers f S count t h in
     c .before .before .strike-column .ensures (total (network e S))
     (column-within (network e S) (a .variable-starts .now) (a .tuple-starts .now) (a .value-starts .now) count (length (a .words .now)) t (a .r) h (a .x) (a .v) _ _ _ _ numbers)
-    (t .numbered .enough)
+    (t .table .enough)
     ∙ column-struck (network e S) (a .variable-starts .now) (a .tuple-starts .now) (a .value-starts .now) count (length (a .words .now)) t (a .r) h (a .x) (a .v) _ _ _ _ numbers (total (network e S)) (a .words .now)
 
 returns-2 : tie.Need-returns-2

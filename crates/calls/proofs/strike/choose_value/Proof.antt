@@ -76,10 +76,10 @@ loop-again c =
           λ S t.
           let N = network entry S in
           let known = given turn S t in
-          let e = next-id N (a .tuple-starts .now) (a .relations) (length (l .words)) (known .numbered) (l .r) (turn .loop-test .taken) in
+          let e = next-id N (a .tuple-starts .now) (a .relations) (length (l .words)) (known .table) (l .r) (turn .loop-test .taken) in
           ap (from-relation N (a .x) (a .v) (l .r + 1)) (passed S (a .relations) known (turn .loop-test .taken))
-          ∙ upward-parts (total N) (firstId N (l .r + 1)) (removes N (choose (a .x) (a .v))) (l .words) (known .numbered .enough) (firstId N (l .r)) (total N) (omega arith)
-          (next-within N (a .tuple-starts .now) (a .relations) (length (l .words)) (known .numbered) (l .r) (turn .loop-test .taken))
+          ∙ upward-parts (total N) (firstId N (l .r + 1)) (removes N (choose (a .x) (a .v))) (l .words) (known .table .enough) (firstId N (l .r)) (total N) (omega arith)
+          (next-within N (a .tuple-starts .now) (a .relations) (length (l .words)) (known .table) (l .r) (turn .loop-test .taken))
           ∙ l .inv .0 S t
           ),
       (
@@ -101,7 +101,7 @@ returns c =
     let l = c .before .loop in
     λ S t.
     let N = network entry S in
-    let e = before-past tuplesIn (N .relations) (l .r) (omega (arith, t .numbered .relations, c .loop-test .left)) in
+    let e = before-past tuplesIn (N .relations) (l .r) (omega (arith, t .table .relations, c .loop-test .left)) in
     sym
     (ap (λ (k : ℕ). struck (total N) (upwards (total N) (removes N (choose (a .x) (a .v))) k) (l .words)) e
     ∙ upward-end (total N) (total N) (removes N (choose (a .x) (a .v))) (l .words) (l .inv .1 .1 .1))
