@@ -8,37 +8,12 @@ ghost use Rattle.model.specs.Network.{total};
 ghost use Rattle.model.specs.Consistency.{filtered, supportList, needed};
 ghost use Rattle.model.specs.LiveWords.{written};
 ghost use Rattle.engine.specs.Setting.{setting, network, listed, liveIn, Sound};
+use super::blank::blank_all;
 use super::visit::visit;
 use model::MAX_PAIRS;
-use network::wide;
-use worklist::list::blank;
 use worklist::list::fill;
 use worklist::list::pair_starts;
 use worklist::queue::Queue;
-
-// Every dead tuple of pair p's member has 65,535 in each of its numbers, and all other numbers stay.
-fn blank_dead(
-    tuple_starts: &[u16; 65],
-    members: &[u16],
-    m: u16,
-    words: &[u64],
-    numbers: &mut [u16],
-    p: u16,
-    start: usize,
-) {
-    let r = wide(members[wide(p)]);
-    let first = tuple_starts[r];
-    let end = tuple_starts[r + 1];
-    let mut g = first;
-    let mut at = start;
-    while g < end {
-        if !live::is_live(words, g) {
-            blank(numbers, at, wide(m));
-        }
-        at += wide(m);
-        g += 1;
-    }
-}
 
 // The live tuples are the largest consistent set of those that lived, and the support list holds their first supports; every
 // other bit and number stays.
@@ -50,20 +25,25 @@ pub fn filter(
     value_starts: &[u16; 65],
     members: &[u16],
     m: u16,
-    needed: usize,
+    wanted: usize,
     words: &mut [u64],
     numbers: &mut [u16],
 )
-    requires { ⌜ (let G = setting (now variables) (now values) (now «variable_starts») (now «tuple_starts») (now «value_starts») (now members) m in Sound G × ((total (network G) ≤ wordBits * length (now words)) × ((needed ≡ needed (network G) (listed G)) × (needed ≤ length (now numbers))))) ⌝ }
+    requires { ⌜ (let G = setting (now variables) (now values) (now «variable_starts») (now «tuple_starts») (now «value_starts») (now members) m in Sound G × ((total (network G) ≤ wordBits * length (now words)) × ((wanted ≡ needed (network G) (listed G)) × (wanted ≤ length (now numbers))))) ⌝ }
     ensures { λ _. ⌜ (let G = setting (now (variables .entry)) (now (values .entry)) (now («variable_starts» .entry)) (now («tuple_starts» .entry)) (now («value_starts» .entry)) (now (members .entry)) m in let L = filtered (network G) (listed G) (liveIn G (now (words .entry))) in (now (words .exit) ≡ written (total (network G)) L (now (words .entry))) × (now (numbers .exit) ≡ supportList (network G) (listed G) L ++ drop (needed (network G) (listed G)) (now (numbers .entry)))) ⌝ }
 {
     let starts = pair_starts(tuple_starts, members, m);
-    fill(numbers, needed);
+    fill(numbers, wanted);
     let mut waiting = Queue::full(members.len() as u16);
-    let mut taken = waiting.take();
-    while taken.pair < MAX_PAIRS {
+    loop {
+        let taken = waiting.take();
+        let pair = taken.pair;
+        if pair == MAX_PAIRS {
+            break;
+        }
+        let rest = taken.rest;
         waiting = visit(
-            taken.rest,
+            rest,
             variables,
             values,
             variable_starts,
@@ -74,21 +54,8 @@ pub fn filter(
             &starts,
             words,
             numbers,
-            taken.pair,
+            pair,
         );
-        taken = waiting.take();
     }
-    let mut p = 0;
-    while p < members.len() {
-        blank_dead(
-            tuple_starts,
-            members,
-            m,
-            words,
-            numbers,
-            p as u16,
-            wide(starts[p]),
-        );
-        p += 1;
-    }
+    blank_all(tuple_starts, members, m, &starts, words, numbers);
 }

@@ -1,0 +1,4 @@
+-- The laws of the filter's work.
+pub mod Blanks
+pub mod Start
+pub mod End
