@@ -7,9 +7,9 @@ use Prim.Native.Nat.{ℕ, zero, suc, _+_, _-_, _*_, _≤_, _<_}
 use native.Mathlib.Nat.{mul-le-mul-right, suc-mul}
 use native.Mathlib.Numerals.{add-one}
 use native.Mathlib.Omega.{arith}
-use borrow.Author.Count.{below-more}
 use lib.ListN.{length, take, drop, replicate, length-replicate}
 use lib.Seq.{take-take, drop-drop}
+use borrow.Author.Count.{below-more}
 use Rattle.model.specs.Limits.{noSupport}
 use Rattle.model.specs.Lists.{sum}
 use Rattle.model.specs.Network.{Network, size, firstId}

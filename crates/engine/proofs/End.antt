@@ -1,8 +1,8 @@
 -- Laws of the filter's end: where no pair waits, what lives is what filtering leaves, and with the dead tuples' numbers
 -- blanked the support list is that of the definition. From the model's laws of filtering and of the support list.
-use mathlib.Core.Path.{_≡_, refl, sym, _∙_, ap, subst}
+use mathlib.Core.Path.{_≡_, sym, _∙_, ap, subst}
 use mathlib.Core.Bool.{Bool, true, false, cond}
-use mathlib.Core.List.{List, [], _∷_, _++_, map, List·Memᴰ, List·Memᴰ·not-nil, List·Memᴰ·cases-cons, Memᴰ·cast, Memᴰ·of-map}
+use mathlib.Core.List.{List, [], _∷_, _++_, List·Memᴰ, List·Memᴰ·not-nil, List·Memᴰ·cases-cons, Memᴰ·of-map}
 use mathlib.Core.Logic.{⊎-elim}
 use Prim.Native.Nat.{ℕ, suc, _+_, _-_, _*_, _/_, _≤_, _<_}
 use native.Mathlib.Nat.{div-eq-of-lt-le}
@@ -22,10 +22,10 @@ use Rattle.model.proofs.TupleSet.{has-below}
 use Rattle.model.proofs.Network.{index-bounds, before-within}
 use Rattle.model.proofs.Combination.{combination-within}
 use Rattle.model.proofs.Support.{Supported, firstSupport-dead}
+use Rattle.model.proofs.LiveWords.{living-length, living-has, nextLive-first}
 use Rattle.model.proofs.Work.{filtered-done}
-use Rattle.model.proofs.LiveWords.{living-length, living-has, nextLive-first, written-written}
 use Rattle.model.proofs.SupportList.{pairCombination-length, needed-pairs, supportList-ext}
-use Rattle.engine.specs.Setting.{Setting, network, listed, Sound, liveIn, combinationOf, sizeOf, tupleId, placeOf, held}
+use Rattle.engine.specs.Setting.{Setting, network, listed, Sound, liveIn, combinationOf, sizeOf, tupleId, held}
 use Rattle.engine.specs.Work.{Done, Rest, Shrunk}
 use Rattle.engine.specs.Blank.{Blanked}
 
@@ -71,10 +71,10 @@ module _ (G : Setting) (sound : Sound G) (words numbers : List ℕ) where
   S = liveIn G words
 
   -- .. all pairs are done
-  pub all-done : (queue : List ℕ) (pair : ℕ) → pair ≡ nextLive queue 0 maxPairs → (pair < maxPairs → ⊥) → Rest G queue words numbers (λ q. ⊥) → (q : ℕ) → q < length (G .members) → Done G words numbers q (sizeOf G q)
-  all-done queue pair e none rest q h =
+  pub all-done : (queue : List ℕ) (pair : ℕ) → pair ≡ nextLive queue 0 maxPairs → length (G .members) ≤ pair → Rest G queue words numbers (λ q. ⊥) → (q : ℕ) → q < length (G .members) → Done G words numbers q (sizeOf G q)
+  all-done queue pair e past rest q h =
       let f = nextLive-first queue 0 maxPairs (omega arith) in
-      rest q h (f .none-before q (omega arith) (omega (arith, sound .tables .pairs .few))) (λ x. x)
+      rest q h (f .none-before q (omega arith) (omega arith)) (λ x. x)
 
   module _ (done : (q : ℕ) → q < length (G .members) → Done G words numbers q (sizeOf G q)) where
     supported-all : (c : Combination) → List·Memᴰ c (listed G) → (h : ℕ) → has S h ≡ true → List·Memᴰ (relationOf N h) c → Supported N S c h

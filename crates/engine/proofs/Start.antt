@@ -1,7 +1,7 @@
 -- Laws of the filter's start: with 65,535 in every number of the support list the work may begin, and every pair waits.
 -- From the definitions of the filter's work, and the model's laws of where pairs' numbers begin.
 use mathlib.Core.Path.{_≡_, refl, sym, _∙_, ap}
-use mathlib.Core.Bool.{false, false≢true}
+use mathlib.Core.Bool.{false≢true}
 use mathlib.Core.List.{List, _++_}
 use mathlib.Core.Logic.{inl}
 use Prim.Native.Nat.{ℕ, suc, _+_, _-_, _*_, _^_, _≤_, _<_}

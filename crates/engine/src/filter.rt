@@ -10,7 +10,7 @@ ghost use Rattle.model.specs.LiveWords.{written};
 ghost use Rattle.engine.specs.Setting.{setting, network, listed, liveIn, Sound};
 use super::blank::blank_all;
 use super::visit::visit;
-use model::MAX_PAIRS;
+use network::wide;
 use worklist::list::fill;
 use worklist::list::pair_starts;
 use worklist::queue::Queue;
@@ -38,7 +38,7 @@ pub fn filter(
     loop {
         let taken = waiting.take();
         let pair = taken.pair;
-        if pair == MAX_PAIRS {
+        if wide(pair) >= members.len() {
             break;
         }
         let rest = taken.rest;

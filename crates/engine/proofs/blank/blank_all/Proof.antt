@@ -11,14 +11,10 @@ use Rattle.model.proofs.Network.{before-within}
 use Rattle.model.proofs.SupportList.{supportStart-within}
 use Rattle.worklist.specs.Tables.{Tabled}
 use Rattle.worklist.proofs.Starts.{start-at, relation-below, relation-ends, relation-size}
-use Rattle.engine.specs.Blank.{Blank, Blanked}
+use Rattle.engine.specs.Blank.{Blanked}
 use Rattle.engine.proofs.Blanks.{blank-as, blanked-none, blanked-more}
 use Rattle.engine.proofs.blank.blank_all.Statement.{statement}
 use Rattle.engine.proofs.blank.blank_all.Tie as tie
-use Rattle.engine.proofs.blank.blank_all.Reads as reads
-use Rattle.engine.proofs.blank.blank_all.Lts as lts
-use Rattle.engine.proofs.blank.blank_dead.Reads as blank-dead-reads
-use Rattle.network.proofs.wide.Reads as wide-reads
 
 abbrev Inv-loop : tie.InvT-loop
 Inv-loop tuple-starts members m pair-starts words numbers₀ p₀ numbers p =
@@ -34,57 +30,44 @@ relation c =
     let a = start .args in
     relation-below (start .pre .0 .0) (a .m) (a .tuple-starts .now) (a .members .now) (start .pre .0 .1) (c .before .before .before .loop .p) (c .wide .result) (c .before .before .loop-test .taken) (c .wide .ensures .0)
 
--- src/blank.rt:53:5
 loop-holds : tie.Need-loop-holds Inv-loop μ-loop
 loop-holds c =
     let a = c .before .before .before .args in
     (search needs, λ N t. blanked-none N (a .m) (a .members .now) (a .words .now) (a .numbers .now))
 
--- src/blank.rt:54:22
 mul-wide : tie.Need-mul-wide Inv-loop μ-loop
 mul-wide c = search needs
 
--- src/blank.rt:54:22
 shared-slice-read-wide : tie.Need-shared-slice-read-wide Inv-loop μ-loop
 shared-slice-read-wide c = search needs
 
--- src/blank.rt:54:13
 wide-requires : tie.Need-wide-requires Inv-loop μ-loop
 wide-requires c κs = search needs
 
--- src/blank.rt:55:21
 mul-first : tie.Need-mul-first Inv-loop μ-loop
 mul-first c = search needs
 
--- src/blank.rt:55:21
 element-copy-out-first : tie.Need-element-copy-out-first Inv-loop μ-loop
 element-copy-out-first c = omega (arith, relation c)
 
--- src/blank.rt:56:32
 add-end : tie.Need-add-end Inv-loop μ-loop
 add-end c = search needs
 
--- src/blank.rt:56:19
 mul-end : tie.Need-mul-end Inv-loop μ-loop
 mul-end c = search needs
 
--- src/blank.rt:56:19
 element-copy-out-end : tie.Need-element-copy-out-end Inv-loop μ-loop
 element-copy-out-end c = omega (arith, relation (c .before))
 
--- src/blank.rt:57:26
 mul-wide-2 : tie.Need-mul-wide-2 Inv-loop μ-loop
 mul-wide-2 c = search needs
 
--- src/blank.rt:57:26
 element-copy-out-wide : tie.Need-element-copy-out-wide Inv-loop μ-loop
 element-copy-out-wide c = let start = c .before .before .before .before .before .before .before .before .before in omega (arith, start .pre .0 .1 .pairs .few)
 
--- src/blank.rt:57:13
 wide-requires-2 : tie.Need-wide-requires-2 Inv-loop μ-loop
 wide-requires-2 c κs = search needs
 
--- src/blank.rt:58:9
 blank-dead-requires : tie.Need-blank-dead-requires Inv-loop μ-loop
 blank-dead-requires c κs =
     let turn = c .before .before .before .before .before in
@@ -107,15 +90,12 @@ blank-dead-requires c κs =
       (omega arith, (omega (arith, ap (λ (n : ℕ). n * a .m) size, (l .inv .1 N t) .long), start .pre .1 .1)),
     )
 
--- src/blank.rt:59:9
 add-p : tie.Need-add-p Inv-loop μ-loop
 add-p c = search needs
 
--- src/blank.rt:53:5
 loop-less : tie.Need-loop-less Inv-loop μ-loop
 loop-less c = search needs
 
--- src/blank.rt:53:5
 loop-again : tie.Need-loop-again Inv-loop μ-loop
 loop-again c =
     let after = c .before .before in
@@ -138,13 +118,11 @@ loop-again c =
           (after .blank-dead .ensures)),
     )
 
--- src/blank.rt:40:1
 same-length : tie.Need-same-length Inv-loop μ-loop
 same-length c =
     let start = c .before .before .before .before .before in
     (c .before .loop .inv .1 (start .pre .0 .0) (start .pre .0 .1)) .long
 
--- src/blank.rt:40:1
 returns : tie.Need-returns Inv-loop μ-loop
 returns c =
     let a = c .before .before .before .before .before .args in

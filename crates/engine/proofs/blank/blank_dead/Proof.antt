@@ -1,23 +1,20 @@
+-- `blank::blank_dead` meets its contract. The loop's invariant: the dead tuples before `g` have their numbers, and `at` is g's place.
+-- From the laws of such a support list.
 use mathlib.Core.Path.{_≡_, sym, ap, ap₂, subst, _∙_}
-use borrow.Author.Tests.{not-true, not-false}
-use Rattle.model.specs.Limits.{noSupport}
-use Rattle.worklist.proofs.Stretch.{replaced}
 use mathlib.Core.Logic.{⊎-elim}
+use Prim.Native.Nat.{ℕ, _+_, _-_, _*_, _≤_}
 use native.Mathlib.Nat.{zero-mul}
-use Rattle.model.specs.LiveWords.{isLive}
-use Prim.Native.Nat.{ℕ, _+_, _-_, _*_, _≤_, _<_}
 use native.Mathlib.Omega.{arith}
 use lib.ListN.{length, replicate}
+use borrow.Author.Tests.{not-true, not-false}
 use borrow.Author.Needs.{needs}
+use Rattle.model.specs.Limits.{noSupport}
+use Rattle.model.specs.LiveWords.{isLive}
+use Rattle.worklist.proofs.Stretch.{replaced}
 use Rattle.engine.specs.Blank.{Blank}
 use Rattle.engine.proofs.Blanks.{blank-none, blank-live, blank-dead, next-place, next-inside}
 use Rattle.engine.proofs.blank.blank_dead.Statement.{statement}
 use Rattle.engine.proofs.blank.blank_dead.Tie as tie
-use Rattle.engine.proofs.blank.blank_dead.Reads as reads
-use Rattle.engine.proofs.blank.blank_dead.Lts as lts
-use Rattle.live.proofs.is_live.Reads as is-live-reads
-use Rattle.network.proofs.wide.Reads as wide-reads
-use Rattle.worklist.proofs.list.blank.Reads as blank-reads
 
 abbrev Inv-loop : tie.InvT-loop
 Inv-loop words numbers₀ m first end start each g₀ at₀ numbers g at =
@@ -63,11 +60,9 @@ turned c =
     (blank-live (a .m) (a .start) (a .first) (a .words .now) (a .numbers .now) n (l .g + 1 - a .first) (l .numbers) next (l .inv .0) fits (sym lives ∙ not-false (c .before .is-live .result) (w .0 .left))))
     (c .if1 .came)
 
--- src/blank.rt:27:9
 wide-requires : tie.Need-wide-requires Inv-loop μ-loop
 wide-requires c κs = search needs
 
--- src/blank.rt:30:5
 loop-holds : tie.Need-loop-holds Inv-loop μ-loop
 loop-holds c =
     let a = c .before .before .before .args in
@@ -77,35 +72,27 @@ loop-holds c =
       (search needs, (search needs, omega (arith, zero-mul (a .m), ap (λ (n : ℕ). n * a .m) e))),
     )
 
--- src/blank.rt:31:13
 is-live-requires : tie.Need-is-live-requires Inv-loop μ-loop
 is-live-requires c κs = search needs
 
--- src/blank.rt:32:13
 blank-requires : tie.Need-blank-requires Inv-loop μ-loop
 blank-requires c κs = let i = inside (c .before .before .before) in (omega arith, omega arith)
 
--- src/blank.rt:34:9
 add-at : tie.Need-add-at Inv-loop μ-loop
 add-at c = let i = inside (c .before .before) in omega arith
 
--- src/blank.rt:35:9
 add-g : tie.Need-add-g Inv-loop μ-loop
 add-g c = search needs
 
--- src/blank.rt:30:5
 loop-less : tie.Need-loop-less Inv-loop μ-loop
 loop-less c = search needs
 
--- src/blank.rt:30:5
 loop-again : tie.Need-loop-again Inv-loop μ-loop
 loop-again c = let i = inside (c .before .before) in (turned c, (omega arith, (omega arith, omega arith)))
 
--- src/blank.rt:16:1
 same-length : tie.Need-same-length Inv-loop μ-loop
 same-length c = c .before .loop .inv .0 .long
 
--- src/blank.rt:16:1
 returns : tie.Need-returns Inv-loop μ-loop
 returns c =
     let a = c .before .before .before .before .before .args in
