@@ -2,7 +2,7 @@
 -- From the laws of a list with a stretch replaced, and of where the pairs' numbers begin.
 use mathlib.Core.Path.{_≡_, refl, sym, _∙_, ap, subst}
 use mathlib.Core.Bool.{Bool, true, false, cond}
-use mathlib.Core.List.{List, [], _∷_, map}
+use mathlib.Core.List.{List, [], _∷_}
 use Prim.Native.Nat.{ℕ, zero, suc, _+_, _-_, _*_, _≤_, _<_}
 use native.Mathlib.Nat.{mul-le-mul-right, suc-mul}
 use native.Mathlib.Numerals.{add-one}
@@ -11,13 +11,11 @@ use lib.ListN.{length, take, drop, replicate, length-replicate}
 use lib.Seq.{take-take, drop-drop}
 use borrow.Author.Count.{below-more}
 use Rattle.model.specs.Limits.{noSupport}
-use Rattle.model.specs.Lists.{sum}
 use Rattle.model.specs.Network.{Network, size, firstId}
 use Rattle.model.specs.Combination.{pairMember}
 use Rattle.model.specs.Consistency.{supportStart}
 use Rattle.model.specs.LiveWords.{isLive}
-use Rattle.model.proofs.Lists.{sum-take-le}
-use Rattle.model.proofs.SupportList.{supportStart-suc}
+use Rattle.model.proofs.SupportList.{supportStart-suc, supportStart-mono}
 use Rattle.worklist.proofs.Stretch.{replaced, replaced-length, replaced-before, replaced-here, replaced-after}
 use Rattle.engine.specs.Blank.{BlankAt, Blank, Blanked}
 
@@ -95,12 +93,6 @@ module _ (m at g : ℕ) (words numbers : List ℕ) where
 
 -- ---- One pair after the other
 
--- pairs' numbers begin one behind the other
-start-mono : (N : Network) (m : ℕ) (list : List ℕ) (q p : ℕ) → q ≤ p → supportStart N m list q ≤ supportStart N m list p
-unfolding supportStart
-start-mono N m list q p h =
-    mul-le-mul-right m (subst (λ (xs : List ℕ). sum (map (size N) xs) ≤ sum (map (size N) (take p list))) (take-take q p list h) (sum-take-le (size N) (take p list) q))
-
 -- a stretch of the first a elements
 part-before : (a b k : ℕ) (xs : List ℕ) → b + k ≤ a → take k (drop b xs) ≡ take k (drop b (take a xs))
 part-before a zero k xs h = sym (take-take k a xs (omega arith))
@@ -124,7 +116,7 @@ module _ (N : Network) (m : ℕ) (members words numbers : List ℕ) where
     earlier q l x k =
         let b = start q + x * m in
         let e : b + m ≤ start p =
-        omega (arith, mul-le-mul-right {m = suc x} m k, suc-mul x m, supportStart-suc N m members q (omega arith), start-mono N m members (suc q) p l)
+        omega (arith, mul-le-mul-right {m = suc x} m k, suc-mul x m, supportStart-suc N m members q (omega arith), supportStart-mono N m members (suc q) p l)
         in
         part-before (start p) b m next e
         ∙ ap (λ (xs : List ℕ). take m (drop b xs)) (done .before)

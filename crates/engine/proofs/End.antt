@@ -2,25 +2,20 @@
 -- blanked the support list is that of the definition. From the model's laws of filtering and of the support list.
 use mathlib.Core.Path.{_≡_, sym, _∙_, ap, subst}
 use mathlib.Core.Bool.{Bool, true, false, cond}
-use mathlib.Core.List.{List, [], _∷_, _++_, List·Memᴰ, List·Memᴰ·not-nil, List·Memᴰ·cases-cons, Memᴰ·of-map}
-use mathlib.Core.Logic.{⊎-elim}
-use Prim.Native.Nat.{ℕ, suc, _+_, _-_, _*_, _/_, _≤_, _<_}
-use native.Mathlib.Nat.{div-eq-of-lt-le}
+use mathlib.Core.List.{List, _++_, List·Memᴰ}
+use Prim.Native.Nat.{ℕ, _+_, _-_, _≤_, _<_}
 use native.Mathlib.Omega.{arith}
-use lib.ListN.{length, getD, take, drop, replicate, length-drop, take-append-drop}
-use lib.Seq.{length-take-le, getD-take, getD-drop}
+use lib.ListN.{length, drop, replicate, take-append-drop}
 use Rattle.model.specs.Limits.{maxPairs, noSupport}
-use Rattle.model.specs.Lists.{from}
 use Rattle.model.specs.TupleSet.{TupleSet, has}
 use Rattle.model.specs.Network.{Network, size, tuplesIn, total, firstId, relationOf}
-use Rattle.model.specs.Combination.{Combination, combinations, pairCombination, pairMember}
+use Rattle.model.specs.Combination.{Combination, pairMember}
 use Rattle.model.specs.Support.{firstSupport}
 use Rattle.model.specs.Consistency.{filtered, supportList, needed, supportStart}
 use Rattle.model.specs.LiveWords.{isLive, nextLive, written}
-use Rattle.model.proofs.Lists.{from-mem}
 use Rattle.model.proofs.TupleSet.{has-below}
 use Rattle.model.proofs.Network.{index-bounds, before-within}
-use Rattle.model.proofs.Combination.{combination-within}
+use Rattle.model.proofs.Combination.{pair-of}
 use Rattle.model.proofs.Support.{Supported, firstSupport-dead}
 use Rattle.model.proofs.LiveWords.{living-length, living-has, nextLive-first}
 use Rattle.model.proofs.Work.{filtered-done}
@@ -28,38 +23,6 @@ use Rattle.model.proofs.SupportList.{pairCombination-length, needed-pairs, supp
 use Rattle.engine.specs.Setting.{Setting, network, listed, Sound, liveIn, combinationOf, sizeOf, tupleId, held}
 use Rattle.engine.specs.Work.{Done, Rest, Shrunk}
 use Rattle.engine.specs.Blank.{Blanked}
-
--- ---- The pair of a combination and a member
-
--- what is in a list stands at some place
-mem-getD : (xs : List ℕ) {x : ℕ} → List·Memᴰ x xs → (j : ℕ) × (j < length xs) × (getD xs j 0 ≡ x)
-mem-getD [] m = absurd (List·Memᴰ·not-nil m)
-mem-getD (y ∷ xs) {x} m =
-    ⊎-elim
-    {C = (j : ℕ) × (j < length (y ∷ xs)) × (getD (y ∷ xs) j 0 ≡ x)}
-    (λ e. (0, omega arith, sym e))
-    (λ k. let r = mem-getD xs k in (suc (r .0), omega (arith, r .1), r .2))
-    (List·Memᴰ·cases-cons m)
-
--- each member of each combination is some pair's
-pair-of : (m : ℕ) (list : List ℕ) {c : Combination} {r : ℕ} → 0 < m → List·Memᴰ c (combinations m list) → List·Memᴰ r c → (p : ℕ) × (p < length list) × (pairCombination m list p ≡ c) × (pairMember list p ≡ r)
-unfolding combinations
-pair-of m list {c} {r} pos n k =
-    let a = Memᴰ·of-map (λ (k : ℕ). take m (drop (k * m) list)) (from 0 (length list / m)) n in
-    let i = a .0 in
-    let b : i < length list / m = omega (arith, from-mem 0 (length list / m) i (a .1)) in
-    let w = combination-within m list i b in
-    let part = take m (drop (i * m) list) in
-    let l : length part ≡ m = length-take-le m (drop (i * m) list) (omega (arith, length-drop (i * m) list)) in
-    let f = mem-getD part (subst (List·Memᴰ r) (sym (a .2)) k) in
-    let j = f .0 in
-    let p = i * m + j in
-    let q : p / m ≡ i = div-eq-of-lt-le m (omega arith) (omega (arith, f .1)) in (
-      p,
-      omega (arith, f .1),
-      ap (λ (x : ℕ). take m (drop (x * m) list)) q ∙ a .2,
-      sym (getD-take m (drop (i * m) list) j 0 (omega (arith, f .1)) ∙ getD-drop (i * m) list j 0) ∙ f .2,
-    )
 
 -- ---- Where no pair waits
 

@@ -82,8 +82,8 @@ module _ (G : Setting) (sound : Sound G) (queue : List ℕ) (sixteen : Words que
     weight-less =
         ⊎-elim
         (λ e.
-        let a = ap (λ (ws : List ℕ). count (liveIn G ws)) (e .0) in
-        let b = ap (λ (ws : List ℕ). count (living maxPairs ws)) (e .1) in
+        let a = ap (λ (ws : List ℕ). count (liveIn G ws)) (e .1) in
+        let b = ap (λ (ws : List ℕ). count (living maxPairs ws)) (e .0) in
         omega (arith, a, b, fewer))
         (λ l. omega (arith, l, living-count maxPairs queue′))
         (seen .progress)

@@ -74,4 +74,4 @@ pub record Visited (G : Setting) (p : ℕ) (queue words numbers queue′ words�
   pub beyond : drop (needed (network G) (listed G)) numbers′ ≡ drop (needed (network G) (listed G)) numbers
   pub long : length numbers′ ≡ length numbers
   pub done : Rest G queue words numbers (λ q. q ≡ p) → Rest G queue′ words′ numbers′ (λ q. ⊥)
-  pub progress : ((words′ ≡ words) × (queue′ ≡ queue)) ⊎ (count (liveIn G words′) < count (liveIn G words))
+  pub progress : ((queue′ ≡ queue) × (words′ ≡ words)) ⊎ (count (liveIn G words′) < count (liveIn G words))
