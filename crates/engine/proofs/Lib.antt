@@ -1,0 +1,4 @@
+-- The laws of the filter's work.
+pub mod Pairing
+pub mod Laws
+pub mod Bounds
