@@ -2,3 +2,6 @@
 pub mod Pairing
 pub mod Laws
 pub mod Bounds
+pub mod Steps
+pub mod Visiting
+pub mod Walking

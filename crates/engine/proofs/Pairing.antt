@@ -1,19 +1,19 @@
 -- Laws of pairs of combination and member: their combination is listed and rises, their numbers lie within the list and apart.
 -- From what the filter asks of its lists, and the model's laws of combinations and of where pairs' numbers begin.
 use mathlib.Core.Path.{_≡_, refl, sym, _∙_, ap, subst}
-use mathlib.Core.Bool.{Bool, true}
+use mathlib.Core.Bool.{true}
 use mathlib.Core.Logic.{_⊎_, inl, inr}
-use mathlib.Core.List.{List, [], _∷_, map, List·Memᴰ, List·Memᴰ·head, List·Memᴰ·tail, Memᴰ·cast}
-use Prim.Native.Nat.{ℕ, zero, suc, _+_, _-_, _*_, _/_, _%_, _≤_, _<_}
+use mathlib.Core.List.{List, [], _∷_, List·Memᴰ, List·Memᴰ·head, List·Memᴰ·tail, Memᴰ·cast}
+use Prim.Native.Nat.{ℕ, zero, suc, _+_, _*_, _/_, _%_, _≤_, _<_}
 use native.Mathlib.Nat.{div-lt-iff-lt-mul, div-add-mod', mod-lt, mul-le-mul-right, le-of-suc-le-suc}
 use native.Mathlib.Decide.{decLt, ℕ-discrete}
 use native.Mathlib.Omega.{arith}
 use lib.Dec.{ltb}
-use lib.ListN.{length, getD, take, drop, length-drop}
-use lib.Seq.{length-take-le, getD-take, getD-drop}
-use Rattle.model.specs.Lists.{all, pairwise, sum}
-use Rattle.model.specs.Network.{size, relationOf, firstId}
-use Rattle.model.specs.Combination.{Combination, combinations, pairMember}
+use lib.ListN.{length, getD, drop}
+use lib.Seq.{getD-take, getD-drop}
+use Rattle.model.specs.Lists.{all, pairwise}
+use Rattle.model.specs.Network.{relationOf}
+use Rattle.model.specs.Combination.{pairMember}
 use Rattle.model.specs.Consistency.{needed, supportStart}
 use Rattle.model.specs.Fault.{properMembers}
 use Rattle.model.proofs.Bools.{and-right}
