@@ -8,21 +8,23 @@ use native.Mathlib.Omega.{arith}
 use lib.ListN.{length, drop, replicate, take-append-drop}
 use Rattle.model.specs.Limits.{maxPairs, noSupport}
 use Rattle.model.specs.TupleSet.{TupleSet, has}
-use Rattle.model.specs.Network.{Network, size, tuplesIn, total, firstId, relationOf}
-use Rattle.model.specs.Combination.{Combination, pairMember}
+use Rattle.model.specs.Network.{Network, size, total, firstId, relationOf}
+use Rattle.model.specs.Combination.{Combination}
 use Rattle.model.specs.Support.{firstSupport}
 use Rattle.model.specs.Consistency.{filtered, supportList, needed, supportStart}
 use Rattle.model.specs.LiveWords.{isLive, nextLive, written}
 use Rattle.model.proofs.TupleSet.{has-below}
-use Rattle.model.proofs.Network.{index-bounds, before-within}
+use Rattle.model.proofs.Network.{index-bounds}
 use Rattle.model.proofs.Combination.{pair-of}
 use Rattle.model.proofs.Support.{Supported, firstSupport-dead}
 use Rattle.model.proofs.LiveWords.{living-length, living-has, nextLive-first}
 use Rattle.model.proofs.Work.{filtered-done}
-use Rattle.model.proofs.SupportList.{pairCombination-length, needed-pairs, supportList-ext}
+use Rattle.model.proofs.SupportList.{needed-pairs, supportList-ext}
 use Rattle.engine.specs.Setting.{Setting, network, listed, Sound, liveIn, combinationOf, sizeOf, tupleId, held}
 use Rattle.engine.specs.Work.{Done, Rest, Shrunk}
 use Rattle.engine.specs.Blank.{Blanked}
+use Rattle.engine.proofs.Pairing.{m-positive, whole, combination-length}
+use Rattle.engine.proofs.Bounds.{tuple-below}
 
 -- ---- Where no pair waits
 
@@ -42,7 +44,7 @@ module _ (G : Setting) (sound : Sound G) (words numbers : List ℕ) where
   module _ (done : (q : ℕ) → q < length (G .members) → Done G words numbers q (sizeOf G q)) where
     supported-all : (c : Combination) → List·Memᴰ c (listed G) → (h : ℕ) → has S h ≡ true → List·Memᴰ (relationOf N h) c → Supported N S c h
     supported-all c n h e k =
-        let f = pair-of (G .m) (G .members) (sound .tables .pairs .positive) n k in
+        let f = pair-of (G .m) (G .members) (m-positive G sound) n k in
         let p = f .0 in
         let r = relationOf N h in
         let b = index-bounds N h (omega (arith, has-below S h e, living-length (total N) words)) in
@@ -69,20 +71,18 @@ module _ (G : Setting) (sound : Sound G) (words numbers : List ℕ) where
       held-first : (p x : ℕ) → p < length (G .members) → x < sizeOf G p → (b : Bool) → has S (tupleId G p x) ≡ b → cond b (held G numbers p x) (replicate (G .m) noSupport) ≡ firstSupport N S (combinationOf G p) (tupleId G p x)
       held-first p x h k true e = done p h x k e .1
       held-first p x h k false e =
-          let l = pairCombination-length N S (G .m) (G .members) p (sound .tables .pairs .positive) (sound .tables .pairs .whole) h in
-          sym (firstSupport-dead N S (combinationOf G p) (tupleId G p x) e ∙ ap (λ (n : ℕ). replicate n noSupport) l)
+          sym (firstSupport-dead N S (combinationOf G p) (tupleId G p x) e ∙ ap (λ (n : ℕ). replicate n noSupport) (combination-length G sound p h))
 
       final-held : (p x : ℕ) → p < length (G .members) → x < sizeOf G p → held G final p x ≡ firstSupport N S (combinationOf G p) (tupleId G p x)
       final-held p x h k =
           let g = tupleId G p x in
-          let below : g < total N = omega (arith, before-within tuplesIn (N .relations) (pairMember (G .members) p) (sound .tables .exist p h)) in
-          blanked .at-each p x h k ∙ held-first p x h k (isLive words g) (living-has (total N) words g below)
+          blanked .at-each p x h k ∙ held-first p x h k (isLive words g) (living-has (total N) words g (tuple-below G sound p x h k))
 
       pub numbers-end : (numbers₀ : List ℕ) → drop (needed N (listed G)) numbers ≡ drop (needed N (listed G)) numbers₀ → final ≡ supportList N (listed G) S ++ drop (needed N (listed G)) numbers₀
       numbers-end numbers₀ beyond =
           let n = needed N (listed G) in
-          let e : n ≡ supportStart N (G .m) (G .members) (length (G .members)) = needed-pairs N S (G .m) (G .members) (sound .tables .pairs .positive) (sound .tables .pairs .whole) in
+          let e : n ≡ supportStart N (G .m) (G .members) (length (G .members)) = needed-pairs N S (G .m) (G .members) (m-positive G sound) (whole G sound) in
           sym (take-append-drop n final)
-          ∙ ap (λ (xs : List ℕ). xs ++ drop n final) (supportList-ext N S (G .m) (G .members) final (sound .tables .pairs .positive) (sound .tables .pairs .whole) final-held)
+          ∙ ap (λ (xs : List ℕ). xs ++ drop n final) (supportList-ext N S (G .m) (G .members) final (m-positive G sound) (whole G sound) final-held)
           ∙ ap (λ (xs : List ℕ). supportList N (listed G) S ++ xs)
           (ap (λ (k : ℕ). drop k final) e ∙ blanked .after ∙ ap (λ (k : ℕ). drop k numbers) (sym e) ∙ beyond)

@@ -1,25 +1,23 @@
 -- Laws of the filter's start: with 65,535 in every number of the support list the work may begin, and every pair waits.
 -- From the definitions of the filter's work, and the model's laws of where pairs' numbers begin.
-use mathlib.Core.Path.{_≡_, refl, sym, _∙_, ap}
+use mathlib.Core.Path.{_≡_, sym, _∙_, ap}
 use mathlib.Core.Bool.{false≢true}
 use mathlib.Core.List.{List, _++_}
 use mathlib.Core.Logic.{inl}
-use Prim.Native.Nat.{ℕ, suc, _+_, _-_, _*_, _^_, _≤_, _<_}
-use native.Mathlib.Nat.{mul-le-mul-right, suc-mul}
+use Prim.Native.Nat.{ℕ, _+_, _-_, _*_, _≤_, _<_}
 use native.Mathlib.Omega.{arith}
 use lib.Dec.{ltb}
-use lib.ListN.{length, getD, take, drop, replicate, length-append, length-drop, length-replicate}
+use lib.ListN.{length, take, drop, replicate, length-append, length-drop, length-replicate}
 use lib.Seq.{take-append-le, drop-append-le, drop-at}
 use borrow.Author.Tests.{lt-ltb}
 use Rattle.model.specs.Limits.{maxPairs, noSupport, wordBits}
 use Rattle.model.specs.Network.{total}
 use Rattle.model.specs.Consistency.{needed}
 use Rattle.model.specs.LiveWords.{isLive}
-use Rattle.model.proofs.LiveWords.{written-living}
-use Rattle.model.proofs.SupportList.{supportStart-within}
 use Rattle.worklist.proofs.Stretch.{take-replicate, drop-replicate}
 use Rattle.engine.specs.Setting.{Setting, network, listed, Sound, sizeOf, placeOf, held}
-use Rattle.engine.specs.Work.{Working, Rest, Shrunk}
+use Rattle.engine.specs.Work.{Working, Rest}
+use Rattle.engine.proofs.Pairing.{place-within}
 
 -- a stretch of a list that begins with one element n times
 part-replicate : (n at m x : ℕ) (rest : List ℕ) → at + m ≤ n → take m (drop at (replicate n x ++ rest)) ≡ replicate m x
@@ -32,16 +30,6 @@ part-replicate n at m x rest h =
     ∙ take-replicate m (n - at) x (omega arith)
 
 module _ (G : Setting) (sound : Sound G) where
-  -- a tuple's numbers lie within the needed length
-  pub place-needed : (p x : ℕ) → p < length (G .members) → x < sizeOf G p → placeOf G p x + G .m ≤ needed (network G) (listed G)
-  place-needed p x h k =
-      omega (
-        arith,
-        supportStart-within (network G) (G .m) (G .members) (sound .tables .pairs .positive) (sound .tables .pairs .whole) p h,
-        mul-le-mul-right {m = suc x} (G .m) k,
-        suc-mul x (G .m),
-      )
-
   module _ (words numbers filled : List ℕ) (enough : total (network G) ≤ wordBits * length words) (room : needed (network G) (listed G) ≤ length numbers) (fills : filled ≡ replicate (needed (network G) (listed G)) noSupport ++ drop (needed (network G) (listed G)) numbers) where
     abbrev n : ℕ
     n = needed (network G) (listed G)
@@ -58,7 +46,7 @@ module _ (G : Setting) (sound : Sound G) where
     filled-held : (p x : ℕ) → p < length (G .members) → x < sizeOf G p → held G filled p x ≡ replicate (G .m) noSupport
     filled-held p x h k =
         ap (λ (xs : List ℕ). held G xs p x) fills
-        ∙ part-replicate n (placeOf G p x) (G .m) noSupport (drop n numbers) (place-needed p x h k)
+        ∙ part-replicate n (placeOf G p x) (G .m) noSupport (drop n numbers) (place-within G sound p x h k)
 
     pub filled-working : Working G words filled
     filled-working =
@@ -68,7 +56,3 @@ module _ (G : Setting) (sound : Sound G) where
   pub full-rest : (queue words numbers : List ℕ) (pairs : ℕ) → pairs ≡ length (G .members) → ((q : ℕ) → q < maxPairs → isLive queue q ≡ ltb q pairs) → Rest G queue words numbers (λ q. ⊥)
   full-rest queue words numbers pairs e full q h idle _ =
       absurd (false≢true (sym idle ∙ full q (omega (arith, sound .tables .pairs .few)) ∙ lt-ltb q pairs (omega arith)))
-
--- nothing is removed yet
-pub shrunk-none : (G : Setting) (words : List ℕ) → ((i : ℕ) → i < length words → getD words i 0 < 2 ^ 64) → Shrunk G words words
-shrunk-none G words small = record { bits = sym (written-living (total (network G)) words small); same = refl }

@@ -13,11 +13,12 @@ use Rattle.model.specs.Limits.{maxPairs}
 use Rattle.model.specs.TupleSet.{count}
 use Rattle.model.specs.Network.{total}
 use Rattle.model.specs.Consistency.{needed}
-use Rattle.model.specs.LiveWords.{isLive, living, nextLive, cleared, written}
-use Rattle.model.proofs.LiveWords.{nextLive-first, written-length, written-written, cleared-count, living-count}
+use Rattle.model.specs.LiveWords.{isLive, living, nextLive, cleared}
+use Rattle.model.proofs.LiveWords.{nextLive-first, written-length, cleared-count, living-count}
 use Rattle.worklist.proofs.Waiting.{Words, take-waits}
 use Rattle.engine.specs.Setting.{Setting, network, listed, Sound, liveIn}
 use Rattle.engine.specs.Work.{Working, Rest, Shrunk, Visited}
+use Rattle.engine.proofs.Steps.{shrunk-trans}
 
 -- What holds whenever a pair is taken, of the queue, the words and the numbers; words₀ and numbers₀ are those of the start.
 pub record Underway (G : Setting) (words₀ numbers₀ queue words numbers : List ℕ) : Type 0 where
@@ -31,16 +32,6 @@ pub record Underway (G : Setting) (words₀ numbers₀ queue words numbers : Lis
 -- what is left to do: live tuples first, then pairs that wait
 pub weight : Setting → List ℕ → List ℕ → ℕ
 weight G queue words = count (liveIn G words) * 1025 + count (living maxPairs queue)
-
--- what shrinks twice shrinks
-pub shrunk-more : (G : Setting) (words next after : List ℕ) → Shrunk G words next → Shrunk G next after → Shrunk G words after
-shrunk-more G words next after s t =
-    let n = total (network G) in
-    let S = liveIn G after in
-    record {
-      bits = t .bits ∙ ap (written n S) (s .bits) ∙ written-written n S (liveIn G next) words;
-      same = t .same ∙ s .same;
-    }
 
 pub shrunk-length : (G : Setting) (words after : List ℕ) → Shrunk G words after → length after ≡ length words
 shrunk-length G words after s = ap length (s .bits) ∙ written-length (total (network G)) (liveIn G after) words
@@ -93,7 +84,7 @@ module _ (G : Setting) (sound : Sound G) (queue : List ℕ) (sixteen : Words que
         record {
           sixteen = next;
           working = seen .working;
-          shrunk = shrunk-more G words₀ words words′ (u .shrunk) (seen .shrunk);
+          shrunk = shrunk-trans G sound words₀ words words′ (u .shrunk) (seen .shrunk);
           beyond = seen .beyond ∙ u .beyond;
           long = seen .long ∙ u .long;
           rest = seen .done (taken-rest words numbers (u .rest));

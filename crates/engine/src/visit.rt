@@ -1,8 +1,10 @@
 // A visit of one pair of combination and member: each live tuple of the member gets its first support, or is removed.
 ghost use mathlib.Core.Path.{_≡_};
-ghost use mathlib.Core.Bool.{true};
+ghost use mathlib.Core.Bool.{true, cond};
 ghost use Prim.Native.Nat.{ℕ, _<_};
-ghost use lib.ListN.{length, getD};
+ghost use lib.Dec.{eqb};
+ghost use lib.ListN.{length, getD, set, replicate};
+ghost use Rattle.model.specs.Limits.{maxMembers, noSupport};
 ghost use Rattle.model.specs.TupleSet.{has};
 ghost use Rattle.engine.specs.Setting.{setting, Sound, liveIn, sizeOf, tupleId, placeOf};
 ghost use Rattle.engine.specs.Work.{Working, Renewed, Visited};
@@ -19,7 +21,8 @@ use worklist::queue::requeue;
 
 // The bound from which the search for tuple x of the member at `place` starts: what was held, or the first candidate.
 fn bound_of(held: [u16; 4], place: usize, x: u16) -> [u16; 4]
-    requires { ⌜ place < 4 ⌝ }
+    requires { ⌜ place < maxMembers ⌝ }
+    ensures { λ r. ⌜ r ≡ cond (eqb (getD held 0 0) noSupport) (set (replicate maxMembers 0) place x) held ⌝ }
 {
     if held[0] != NO_SUPPORT {
         return held;

@@ -17,7 +17,8 @@ use Rattle.worklist.specs.Tables.{Tabled}
 use Rattle.worklist.proofs.Waiting.{Words, words-of}
 use Rattle.engine.specs.Setting.{Setting, setting, network, listed, sizeOf}
 use Rattle.engine.specs.Work.{Done}
-use Rattle.engine.proofs.Start.{filled-long, filled-beyond, filled-working, full-rest, shrunk-none}
+use Rattle.engine.proofs.Start.{filled-long, filled-beyond, filled-working, full-rest}
+use Rattle.engine.proofs.Steps.{shrunk-refl}
 use Rattle.engine.proofs.Turn.{Underway, weight, shrunk-length, weight-less, underway}
 use Rattle.engine.proofs.End.{all-done, left, words-end, numbers-end}
 use Rattle.engine.proofs.filter.filter.Statement.{statement}
@@ -85,7 +86,7 @@ loop-holds c =
     record {
       sixteen = words-of (c .full .result .words) (search needs) f;
       working = filled-working G (start .pre .0) (a .words .now) (a .numbers .now) (fill .last .0) (start .pre .1 .0) (room start) (fills (c .before .before .before));
-      shrunk = shrunk-none G (a .words .now) (λ i h. (c .before .before .before .before .before .before .before .slice-known .given i) .fits);
+      shrunk = shrunk-refl G (start .pre .0) (a .words .now) (λ i h. (c .before .before .before .before .before .before .before .slice-known .given i) .fits);
       beyond = refl;
       long = refl;
       rest = full-rest G (start .pre .0) (c .full .result .words) (a .words .now) (fill .last .0) (length (a .members .now)) refl (c .full .ensures);
