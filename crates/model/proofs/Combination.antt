@@ -2,10 +2,10 @@
 -- From the definitions, and what a network without faults has; for combinations of any number of members.
 use mathlib.Core.Path.{_≡_, refl, sym, _∙_, ap, ap₂, subst}
 use mathlib.Core.Bool.{Bool, true, false, not, _||_, true≢false}
-use mathlib.Core.List.{List, [], _∷_, _++_, map, List·Memᴰ, List·Memᴰ·head, List·Memᴰ·tail, List·Memᴰ·cases-cons, List·Memᴰ·eq-of-singleton, List·Memᴰ·not-nil}
+use mathlib.Core.List.{List, [], _∷_, _++_, map, List·Memᴰ, List·Memᴰ·head, List·Memᴰ·tail, List·Memᴰ·cases-cons, List·Memᴰ·eq-of-singleton, List·Memᴰ·not-nil, Memᴰ·of-map}
 use mathlib.Core.Logic.{_⊎_, inl, inr, ⊎-elim}
 use Prim.Native.Nat.{ℕ, zero, suc, _+_, _*_, _/_, _%_, _≤_, _<_}
-use native.Mathlib.Nat.{zero-mul, suc-mul, add-mul, zero-add, add-comm, div-mul-le-self, div-add-mod', mul-le-mul-right, mod-lt, div-lt-iff-lt-mul}
+use native.Mathlib.Nat.{zero-mul, suc-mul, add-mul, zero-add, add-comm, div-mul-le-self, div-add-mod', mul-le-mul-right, mod-lt, div-lt-iff-lt-mul, div-eq-of-lt-le}
 use native.Mathlib.Omega.{arith}
 use lib.Dec.{leb}
 use lib.ListN.{length, getD, take, drop, length-map, length-drop}
@@ -16,11 +16,11 @@ use Rattle.model.specs.declared.Relation.{Relation}
 use Rattle.model.specs.Lists.{from, sum, all, any, select, keepIf, empty, elem}
 use Rattle.model.specs.Network.{Network, noRelation, width, size, variablesIn, before, scopeOf}
 use Rattle.model.specs.Agreement.{share}
-use Rattle.model.specs.Combination.{Combination, combinations, Division, addToEither, divisions, connected}
+use Rattle.model.specs.Combination.{Combination, combinations, pairCombination, pairMember, Division, addToEither, divisions, connected}
 use Rattle.model.specs.Consistency.{needed}
 use Rattle.model.specs.Fault.{within}
 use Rattle.model.proofs.Bools.{and-left, or-cases, not-both}
-use Rattle.model.proofs.Lists.{here, all-at, all-intro, all-getD, any-at, any-intro, select-mem, mem-select, elem-mem, mem-elem, length-from, getD-map-from}
+use Rattle.model.proofs.Lists.{here, all-at, all-intro, all-getD, mem-getD, any-at, any-intro, select-mem, mem-select, elem-mem, mem-elem, from-mem, length-from, getD-map-from}
 use Rattle.model.proofs.Network.{before-within}
 use Rattle.model.proofs.Fault.{Faultless}
 
@@ -40,6 +40,25 @@ module _ (m : ℕ) (list : List ℕ) where
   -- the next one begins within the list
   pub combination-within : (k : ℕ) → k < length list / m → k * m + m ≤ length list
   combination-within k h = omega (arith, suc-mul k m, mul-le-mul-right {m = suc k} m h, div-mul-le-self (length list) m)
+
+  -- each member of each combination is some pair's
+  pub pair-of : {c : Combination} {r : ℕ} → 0 < m → List·Memᴰ c (combinations m list) → List·Memᴰ r c → (p : ℕ) × (p < length list) × (pairCombination m list p ≡ c) × (pairMember list p ≡ r)
+  unfolding combinations
+  pair-of {c} {r} pos n k =
+      let a = Memᴰ·of-map (λ (k : ℕ). take m (drop (k * m) list)) (from 0 (length list / m)) n in
+      let i = a .0 in
+      let b = combination-within i (omega (arith, from-mem 0 (length list / m) i (a .1))) in
+      let part = take m (drop (i * m) list) in
+      let l : length part ≡ m = length-take-le m (drop (i * m) list) (omega (arith, length-drop (i * m) list)) in
+      let f = mem-getD part 0 (subst (List·Memᴰ r) (sym (a .2)) k) in
+      let j = f .0 in
+      let p = i * m + j in
+      let q : p / m ≡ i = div-eq-of-lt-le m (omega arith) (omega (arith, f .1)) in (
+        p,
+        omega (arith, f .1),
+        ap (λ (x : ℕ). take m (drop (x * m) list)) q ∙ a .2,
+        sym (getD-take m (drop (i * m) list) j 0 (omega (arith, f .1)) ∙ getD-drop (i * m) list j 0) ∙ f .2,
+      )
 
   -- a list of whole combinations
   module _ (whole : length list % m ≡ 0) where

@@ -42,6 +42,16 @@ module _ {ℓ} {A : Type ℓ} where
   all-getD p (x ∷ xs) zero d e h = and-left (p x) (all p xs) e
   all-getD p (x ∷ xs) (suc k) d e h = all-getD p xs k d (and-right (p x) (all p xs) e) (le-of-suc-le-suc h)
 
+  -- what is in a list stands at some place
+  pub mem-getD : (xs : List A) {x : A} (d : A) → List·Memᴰ x xs → (k : ℕ) × (k < length xs) × (getD xs k d ≡ x)
+  mem-getD [] d m = absurd (List·Memᴰ·not-nil m)
+  mem-getD (y ∷ xs) {x} d m =
+      ⊎-elim
+      {C = (k : ℕ) × (k < length (y ∷ xs)) × (getD (y ∷ xs) k d ≡ x)}
+      (λ e. (0, omega arith, sym e))
+      (λ h. let r = mem-getD xs d h in (suc (r .0), omega (arith, r .1), r .2))
+      (List·Memᴰ·cases-cons m)
+
   pub all-append : (p : A → Bool) (xs ys : List A) → all p xs ≡ true → all p ys ≡ true → all p (xs ++ ys) ≡ true
   all-append p [] ys e f = f
   all-append p (x ∷ xs) ys e f = and-intro (and-left (p x) (all p xs) e) (all-append p xs ys (and-right (p x) (all p xs) e) f)

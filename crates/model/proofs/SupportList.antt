@@ -6,7 +6,7 @@ use Prim.Native.Nat.{ℕ, zero, suc, _+_, _*_, _/_, _≤_, _<_}
 use native.Mathlib.Nat.{add-zero, zero-add, add-suc, suc-add, zero-mul, add-mul, mul-le-mul-right, div-eq-of-lt-le, div-lt-iff-lt-mul}
 use native.Mathlib.Omega.{arith}
 use lib.ListN.{length, getD, take, drop, length-drop}
-use lib.Seq.{take-add, take-length, drop-drop, drop-cons, length-take-le}
+use lib.Seq.{take-take, take-add, take-length, drop-drop, drop-cons, length-take-le}
 use Rattle.model.specs.Lists.{from, sum, each}
 use Rattle.model.specs.TupleSet.{TupleSet}
 use Rattle.model.specs.Network.{Network, size, firstId, idsOf}
@@ -173,6 +173,13 @@ module _ (N : Network) (m : ℕ) (list : List ℕ) where
   supportStart-suc p h =
       ap (λ (n : ℕ). n * m) (sum-take-suc (size N) 0 list p h)
       ∙ add-mul (sum (map (size N) (take p list))) (size N (getD list p 0)) m
+
+  -- a later pair's numbers begin no earlier
+  pub supportStart-mono : (q p : ℕ) → q ≤ p → supportStart N m list q ≤ supportStart N m list p
+  unfolding supportStart
+  supportStart-mono q p h =
+      let e = take-take q p list h in
+      mul-le-mul-right m (subst (λ (xs : List ℕ). sum (map (size N) xs) ≤ sum (map (size N) (take p list))) e (sum-take-le (size N) (take p list) q))
 
   -- a pair's numbers lie within the needed length
   pub supportStart-within : 0 < m → length list / m * m ≡ length list → (p : ℕ) → p < length list → supportStart N m list p + size N (getD list p 0) * m ≤ needed N (combinations m list)

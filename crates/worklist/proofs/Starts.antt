@@ -21,7 +21,7 @@ unfolding supportStart
 starts-none N m members = sym (zero-mul m)
 
 module _ (N : Network) (m : ℕ) (starts members : List ℕ) (tabled : Tabled N m starts members) where
-  start-at : (r : ℕ) → r < 65 → getD starts r 0 ≡ firstId N r
+  pub start-at : (r : ℕ) → r < 65 → getD starts r 0 ≡ firstId N r
   start-at r h = ap (λ (xs : List ℕ). getD xs r 0) (tabled .starts) ∙ getD-map-from (firstId N) 0 65 r 0 h ∙ ap (firstId N) (zero-add r)
 
   -- pair p's relation r
@@ -39,7 +39,7 @@ module _ (N : Network) (m : ℕ) (starts members : List ℕ) (tabled : Tabled N 
         let f : firstId N (r + 1) ≡ firstId N r + size N r = rw add-one (before-suc tuplesIn (N .relations) r below) in
         omega (arith, start-at r (omega arith), start-at (r + 1) (omega arith))
 
-    relation-size : getD starts (r + 1) 0 - getD starts r 0 ≡ size N (getD members p 0)
+    pub relation-size : getD starts (r + 1) 0 - getD starts r 0 ≡ size N (getD members p 0)
     relation-size = let f = relation-ends in let s : getD starts (r + 1) 0 - getD starts r 0 ≡ size N r = omega arith in s ∙ ap (size N) e
 
     -- where the next pair's numbers begin

@@ -1,0 +1,11 @@
+-- The laws of the filter's work.
+pub mod Pairing
+pub mod Laws
+pub mod Bounds
+pub mod Steps
+pub mod Visiting
+pub mod Walking
+pub mod Blanks
+pub mod Start
+pub mod Turn
+pub mod End

@@ -1,0 +1,153 @@
+-- Laws of a visit under way: what holds once its walk has come to a tuple, and what each turn of the walk makes of it.
+-- From the laws of one step of a visit, and of live words.
+use mathlib.Core.Path.{_≡_, refl, sym, _∙_, ap, subst}
+use mathlib.Core.Bool.{Bool, true, false, _||_, true≢false}
+use mathlib.Core.Logic.{_⊎_, inl, inr}
+use mathlib.Core.List.{List}
+use Prim.Native.Nat.{ℕ, suc, _≤_, _<_}
+use native.Mathlib.Decide.{ℕ-discrete}
+use native.Mathlib.Omega.{arith}
+use lib.ListN.{length, drop}
+use Rattle.model.specs.Limits.{maxPairs}
+use Rattle.model.specs.TupleSet.{has, count}
+use Rattle.model.specs.Consistency.{needed}
+use Rattle.model.specs.LiveWords.{isLive, cleared}
+use Rattle.model.proofs.Bools.{not-both}
+use Rattle.model.proofs.LiveWords.{cleared-below, cleared-length}
+use Rattle.worklist.specs.Pairs.{queues}
+use Rattle.engine.specs.Setting.{Setting, network, listed, Sound, liveIn, sizeOf, tupleId}
+use Rattle.engine.specs.Work.{Working, Done, Rest, Shrunk, Renewed, Visited}
+use Rattle.engine.proofs.Steps.{Small, kept-length, kept-beyond, kept-rest, kept-working, kept-done, shrunk-refl, shrunk-trans, done-skip, removed-count, removed-working, removed-shrunk, removed-rest, removed-done}
+
+-- The visit of pair p has done the first k tuples of its member: what it has kept, and what it has made of the queue, words
+-- and numbers that it began with.
+pub record Going (G : Setting) (p : ℕ) (queue words numbers queue′ words′ numbers′ : List ℕ) (shrunk : Bool) (k : ℕ) : Type 0 where
+  pub small : Small words′
+  pub working : Working G words′ numbers′
+  pub shrinks : Shrunk G words words′
+  pub beyond : drop (needed (network G) (listed G)) numbers′ ≡ drop (needed (network G) (listed G)) numbers
+  pub long : length numbers′ ≡ length numbers
+  pub wide : length words′ ≡ length words
+  pub done : Rest G queue words numbers (λ q. q ≡ p) → Rest G queue′ words′ numbers′ (λ q. q ≡ p) × Done G words′ numbers′ p k
+  pub same : shrunk ≡ false → (queue′ ≡ queue) × (words′ ≡ words)
+  pub less : shrunk ≡ true → (count (liveIn G words′) < count (liveIn G words)) × ((q : ℕ) → q < length (G .members) → queues (G .m) (G .members) p q ≡ true → isLive queue′ q ≡ true)
+
+module _ (G : Setting) (sound : Sound G) (p : ℕ) (hp : p < length (G .members)) (queue words numbers : List ℕ) where
+  -- nothing is done yet
+  pub going-start : Small words → Working G words numbers → Going G p queue words numbers queue words numbers false 0
+  going-start small work =
+      record {
+        small = small;
+        working = work;
+        shrinks = shrunk-refl G sound words small;
+        beyond = refl;
+        long = refl;
+        wide = refl;
+        done = λ rest. (rest, λ x l e. absurd (omega arith));
+        same = λ _. (refl, refl);
+        less = λ e. absurd (true≢false (sym e));
+      }
+
+  module _ (queue′ words′ numbers′ : List ℕ) (shrunk : Bool) (k : ℕ) (I : Going G p queue words numbers queue′ words′ numbers′ shrunk k) where
+    -- dead tuples are passed over
+    pub going-skip : (j : ℕ) → ((x : ℕ) → k ≤ x → x < j → has (liveIn G words′) (tupleId G p x) ≡ false) → Going G p queue words numbers queue′ words′ numbers′ shrunk j
+    going-skip j dead =
+        record {
+          small = I .small;
+          working = I .working;
+          shrinks = I .shrinks;
+          beyond = I .beyond;
+          long = I .long;
+          wide = I .wide;
+          done = λ rest. let d = I .done rest in (d .0, done-skip G sound words′ numbers′ p k j (d .1) dead);
+          same = I .same;
+          less = I .less;
+        }
+
+    module _ (hk : k < sizeOf G p) (found : Bool) (words″ numbers″ : List ℕ) (R : Renewed G p k words′ numbers′ found words″ numbers″) where
+      -- the tuple has its first support
+      pub going-kept : found ≡ true → Going G p queue words numbers queue′ words″ numbers″ shrunk (suc k)
+      going-kept e =
+          let r = R .kept e in
+          subst (λ (ws : List ℕ). Going G p queue words numbers queue′ ws numbers″ shrunk (suc k)) (sym (r .0))
+          (subst (λ (ns : List ℕ). Going G p queue words numbers queue′ words′ ns shrunk (suc k)) (sym (r .1))
+          (record {
+            small = I .small;
+            working = kept-working G sound words′ numbers′ p k (I .working) hp hk (r .2);
+            shrinks = I .shrinks;
+            beyond = kept-beyond G sound words′ numbers′ p k (I .working) hp hk ∙ I .beyond;
+            long = kept-length G sound words′ numbers′ p k (I .working) hp hk ∙ I .long;
+            wide = I .wide;
+            done = λ rest. let d = I .done rest in (kept-rest G sound words′ numbers′ p k (I .working) hp hk queue′ (d .0), kept-done G sound words′ numbers′ p k (I .working) hp hk (r .2) (d .1));
+            same = I .same;
+            less = I .less;
+          }))
+
+      -- the tuple is dead: pairs that are queued wait
+      module _ (lives : has (liveIn G words′) (tupleId G p k) ≡ true) (queue″ : List ℕ) (waits : (q : ℕ) → q < length (G .members) → isLive queue″ q ≡ false → (isLive queue′ q ≡ false) × (queues (G .m) (G .members) p q ≡ false)) where
+        fewer-count : (shrunk′ : Bool) → shrunk ≡ shrunk′ → count (liveIn G words′) ≤ count (liveIn G words)
+        fewer-count true e = omega (arith, I .less e .0)
+        fewer-count false e = omega (arith, ap (λ (ws : List ℕ). count (liveIn G ws)) (I .same e .1))
+
+        queued : (q : ℕ) → q < length (G .members) → queues (G .m) (G .members) p q ≡ true → (b : Bool) → isLive queue″ q ≡ b → isLive queue″ q ≡ true
+        queued q l e true w = w
+        queued q l e false w = absurd (not-both e (waits q l w .1))
+
+        pub going-removed : found ≡ false → Going G p queue words numbers queue″ words″ numbers″ true (suc k)
+        going-removed e =
+            let r = R .removed e in
+            let none = r .2 in
+            subst (λ (ws : List ℕ). Going G p queue words numbers queue″ ws numbers″ true (suc k)) (sym (r .0))
+            (subst (λ (ns : List ℕ). Going G p queue words numbers queue″ (cleared (tupleId G p k) words′) ns true (suc k)) (sym (r .1))
+            (record {
+              small = λ i h. cleared-below (tupleId G p k) words′ (I .small) i (omega (arith, cleared-length (tupleId G p k) words′));
+              working = removed-working G sound words′ numbers′ (I .small) p k (I .working) hp hk lives none;
+              shrinks = shrunk-trans G sound words words′ (cleared (tupleId G p k) words′) (I .shrinks) (removed-shrunk G sound words′ numbers′ (I .small) p k (I .working) hp hk lives none);
+              beyond = I .beyond;
+              long = I .long;
+              wide = cleared-length (tupleId G p k) words′ ∙ I .wide;
+              done = λ rest. let d = I .done rest in (removed-rest G sound words′ numbers′ (I .small) p k (I .working) hp hk lives none queue′ queue″ waits (d .0), removed-done G sound words′ numbers′ (I .small) p k (I .working) hp hk lives none (d .1));
+              same = λ q. absurd (true≢false q);
+              less = λ _. (
+                omega (arith, removed-count G sound words′ numbers′ (I .small) p k (I .working) hp hk lives none, fewer-count shrunk refl),
+                λ q l f. queued q l f (isLive queue″ q) refl,
+              );
+            }))
+
+    -- every pair that a removal queues waits already
+    pub still-waits : shrunk ≡ true → (q : ℕ) → q < length (G .members) → isLive queue′ q ≡ false → (isLive queue′ q ≡ false) × (queues (G .m) (G .members) p q ≡ false)
+    still-waits e q l w = (w, go (queues (G .m) (G .members) p q) refl)
+      where
+        go : (b : Bool) → queues (G .m) (G .members) p q ≡ b → queues (G .m) (G .members) p q ≡ false
+        go true f = absurd (not-both (I .less e .1 q l f) w)
+        go false f = f
+
+    -- the last tuple is done
+    pub going-end : sizeOf G p ≤ k → Visited G p queue words numbers queue′ words′ numbers′
+    going-end h =
+        record {
+          working = I .working;
+          shrunk = I .shrinks;
+          beyond = I .beyond;
+          long = I .long;
+          done = λ rest q hq w _. let d = I .done rest in at d q hq w (ℕ-discrete q p);
+          progress = go shrunk refl;
+        }
+      where
+        at : Rest G queue′ words′ numbers′ (λ q. q ≡ p) × Done G words′ numbers′ p k → (q : ℕ) → q < length (G .members) → isLive queue′ q ≡ false → Dec (q ≡ p) → Done G words′ numbers′ q (sizeOf G q)
+        at d q hq w (yes e) = subst (λ (r : ℕ). Done G words′ numbers′ r (sizeOf G r)) (sym e) (λ x l f. d .1 x (omega arith) f)
+        at d q hq w (no n) = d .0 q hq w n
+
+        go : (b : Bool) → shrunk ≡ b → ((queue′ ≡ queue) × (words′ ≡ words)) ⊎ (count (liveIn G words′) < count (liveIn G words))
+        go true e = inr (I .less e .0)
+        go false e = inl (I .same e)
+
+-- the pairs that wait once those that a removal queues are put
+pub requeued-waits : (G : Setting) (sound : Sound G) (p : ℕ) (queue queue′ : List ℕ) → ((q : ℕ) → q < maxPairs → isLive queue′ q ≡ (isLive queue q || queues (G .m) (G .members) p q)) → (q : ℕ) → q < length (G .members) → isLive queue′ q ≡ false → (isLive queue q ≡ false) × (queues (G .m) (G .members) p q ≡ false)
+requeued-waits G sound p queue queue′ f q l w =
+    let e = sym (f q (omega (arith, sound .tables .pairs .few))) ∙ w in
+    neither (isLive queue q) (queues (G .m) (G .members) p q) e
+  where
+    neither : (a b : Bool) → (a || b) ≡ false → (a ≡ false) × (b ≡ false)
+    neither true b e = absurd (true≢false e)
+    neither false b e = (refl, e)

@@ -1,0 +1,342 @@
+-- `visit::renew` meets its contract: what is held lives and is the first support, or it is the bound from which the search starts.
+-- From the laws of the numbers held for a tuple, and the contracts of the functions called.
+use mathlib.Core.Path.{_≡_, sym, _∙_, ap, ap₂, subst}
+use mathlib.Core.Bool.{Bool, true, false, cond}
+use mathlib.Core.List.{List, _++_}
+use Prim.Native.Nat.{ℕ, _+_, _-_, _*_, _/_, _%_, _≤_, _<_}
+use native.Mathlib.Nat.{div-mul-le-self, mod-lt, add-sub-cancel-left}
+use native.Mathlib.Omega.{arith}
+use lib.Dec.{eqb}
+use lib.ListN.{length, getD, take, drop, set, replicate}
+use borrow.Author.Needs.{needs}
+use Rattle.model.specs.Limits.{maxMembers, noSupport}
+use Rattle.model.specs.TupleSet.{has}
+use Rattle.model.specs.Lists.{from, all}
+use Rattle.model.specs.LiveWords.{isLive, cleared}
+use Rattle.model.specs.Support.{supportFrom}
+use Rattle.worklist.specs.Tables.{chosenId, Chosen}
+use Rattle.support.specs.Search.{Search, searching, live, seeker, Ready, answer}
+use Rattle.support.specs.Search as support
+use Rattle.engine.specs.Setting.{Setting, setting, network, liveIn, Sound, combinationOf, sizeOf, tupleId, placeOf}
+use Rattle.engine.specs.Work.{Working, Renewed}
+use Rattle.engine.proofs.Bounds.{few-tuples, start-of, member-below, tuple-below, base-within, held-inside, loaded, chosen, renewed-held, lowOf, searched, ready, renewed-found, renewed-none}
+use Rattle.engine.proofs.visit.renew.Statement.{statement}
+use Rattle.engine.proofs.visit.renew.Tie as tie
+use Rattle.engine.proofs.visit.renew.Reads as reads
+use Rattle.engine.proofs.visit.renew.Lts as lts
+use Rattle.engine.proofs.visit.bound_of.Reads as bound-of-reads
+use Rattle.live.proofs.clear.Reads as clear-reads
+use Rattle.network.proofs.wide.Reads as wide-reads
+use Rattle.support.proofs.first_support.Reads as first-support-reads
+use Rattle.worklist.proofs.list.all_live.Reads as all-live-reads
+use Rattle.worklist.proofs.list.load.Reads as load-reads
+use Rattle.worklist.proofs.list.store.Reads as store-reads
+
+-- ---- What it is called on
+
+module _ (a : tie.Start) where
+  abbrev G : Setting
+  G = setting (a .args .variables .now) (a .args .values .now) (a .args .variable-starts .now) (a .args .tuple-starts .now) (a .args .value-starts .now) (a .args .members .now) (a .args .m)
+
+  abbrev sound : Sound G
+  sound = a .pre .0
+
+  abbrev work : Working G (a .args .words .now) (a .args .numbers .now)
+  work = a .pre .1 .0
+
+  abbrev in-members : a .args .p < length (a .args .members .now)
+  in-members = a .pre .1 .1 .0
+
+  abbrev in-size : a .args .x < sizeOf G (a .args .p)
+  in-size = a .pre .1 .1 .1 .0
+
+  abbrev lives : has (liveIn G (a .args .words .now)) (tupleId G (a .args .p) (a .args .x)) ≡ true
+  lives = a .pre .1 .1 .1 .1 .0
+
+  abbrev is-at : a .args .at ≡ placeOf G (a .args .p) (a .args .x)
+  is-at = a .pre .1 .1 .1 .1 .1
+
+  inside : a .args .at + a .args .m ≤ length (a .args .numbers .now)
+  inside = omega (arith, is-at, held-inside G sound (a .args .words .now) (a .args .numbers .now) work (a .args .p) (a .args .x) in-members in-size lives)
+
+  abbrev baseOf : ℕ
+  baseOf = a .args .p / a .args .m * a .args .m
+
+  abbrev loadedOf : List ℕ
+  loadedOf = loaded G sound (a .args .words .now) (a .args .numbers .now) work (a .args .p) (a .args .x) in-members in-size lives
+
+abbrev entry : tie.After-wide2 → tie.Start
+entry c = c .before .before .before .before .before .before .before
+
+-- ---- The numbers as they are read
+
+each-is : (c : tie.After-wide2) → c .before .wide .result ≡ entry c .args .m
+each-is c = c .before .wide .ensures .0
+
+pair-is : (c : tie.After-wide2) → c .wide2 .result ≡ entry c .args .p
+pair-is c = c .wide2 .ensures .0
+
+base-is : (c : tie.After-wide2) → c .wide2 .result / c .before .wide .result * c .before .wide .result ≡ baseOf (entry c)
+base-is c = ap₂ (λ (q n : ℕ). q / n * n) (pair-is c) (each-is c)
+
+place-is : (c : tie.After-wide2) → c .wide2 .result % c .before .wide .result ≡ entry c .args .p % entry c .args .m
+place-is c = ap₂ (λ (q n : ℕ). q % n) (pair-is c) (each-is c)
+
+place-small : (c : tie.After-wide2) → c .wide2 .result % c .before .wide .result < maxMembers
+place-small c =
+    let a = entry c in
+    omega (arith, place-is c, mod-lt (a .args .p) (sound a .tables .pairs .positive), sound a .few)
+
+end-is : (c : tie.After-wide2) → c .wide2 .result / c .before .wide .result * c .before .wide .result + c .before .wide .result ≤ length (entry c .args .members .now)
+end-is c = omega (arith, base-is c, each-is c, base-within (G (entry c)) (sound (entry c)) (entry c .args .p) (in-members (entry c)))
+
+loaded-is : (c : tie.After-load) → c .load .result ≡ loadedOf (entry (c .before .before))
+loaded-is c =
+    let a = entry (c .before .before) in
+    c .load .ensures
+    ∙ ap₂ (λ (e at : ℕ). take e (drop at (a .args .numbers .now)) ++ replicate (maxMembers - e) 0) (each-is (c .before .before)) (is-at a)
+
+-- the first number is an index
+is-index : (c : tie.Then1) → getD (loadedOf (entry (c .before .before .before))) 0 0 ≡ noSupport → ⊥
+is-index c e = c .if1 .taken (ap (λ (is : List ℕ). getD is 0 0) (loaded-is (c .before)) ∙ e)
+
+low-is : (c : tie.After-bound-of) → (let a = entry (c .before .before .before .before) in c .bound-of .result ≡ lowOf (G a) (sound a) (a .args .words .now) (a .args .numbers .now) (work a) (a .args .p) (a .args .x) (in-members a) (in-size a) (lives a))
+low-is c =
+    let a = entry (c .before .before .before .before) in
+    c .bound-of .ensures
+    ∙ ap₂ (λ (is : List ℕ) (q : ℕ). cond (eqb (getD is 0 0) noSupport) (set (replicate maxMembers 0) q (a .args .x)) is) (loaded-is (c .before .before)) (place-is (c .before .before .before .before))
+
+-- the combination
+part-is : (c : tie.After-wide2) → (let a = entry c in let n = c .before .wide .result in let b = c .wide2 .result / n * n in take (b + n - b) (drop b (a .args .members .now)) ≡ combinationOf (G a) (a .args .p))
+part-is c =
+    let a = entry c in
+    let n = c .before .wide .result in
+    let b = c .wide2 .result / n * n in
+    ap (λ (k : ℕ). take k (drop b (a .args .members .now))) (add-sub-cancel-left b n)
+    ∙ ap₂ (λ (k d : ℕ). take k (drop d (a .args .members .now))) (each-is c) (base-is c)
+
+-- the search
+abbrev searchOf : tie.Start → List ℕ → ℕ → List ℕ → Search
+searchOf a members place low =
+    searching (a .args .variables .now) (a .args .values .now) (a .args .variable-starts .now) (a .args .tuple-starts .now) (a .args .value-starts .now) (a .args .words .now) members place (a .args .x) low
+
+search-is : (c : tie.After-bound-of) → (let w = c .before .before .before .before in let a = entry w in let n = w .before .wide .result in let b = w .wide2 .result / n * n in searchOf a (take (b + n - b) (drop b (a .args .members .now))) (w .wide2 .result % n) (c .bound-of .result) ≡ searched (G a) (sound a) (a .args .words .now) (a .args .numbers .now) (work a) (a .args .p) (a .args .x) (in-members a) (in-size a) (lives a))
+search-is c =
+    let w = c .before .before .before .before in
+    let a = entry w in
+    ap₂ (λ (ms : List ℕ) (q : ℕ). searchOf a ms q (c .bound-of .result)) (part-is w) (place-is w)
+    ∙ ap (searchOf a (combinationOf (G a) (a .args .p)) (a .args .p % a .args .m)) (low-is c)
+
+-- what it answers
+answer-is : (c : tie.After-first-support) → (let a = entry (c .before .before .before .before .before .before .before) in let Q = searched (G a) (sound a) (a .args .words .now) (a .args .numbers .now) (work a) (a .args .p) (a .args .x) (in-members a) (in-size a) (lives a) in answer (c .first-support .result .ok) (take (length (Q .members)) (c .first-support .result .tuples)) ≡ supportFrom (support.network Q) (live Q) (Q .members) (seeker Q) (Q .low))
+answer-is c =
+    subst (λ (Q : Search). answer (c .first-support .result .ok) (take (length (Q .members)) (c .first-support .result .tuples)) ≡ supportFrom (support.network Q) (live Q) (Q .members) (seeker Q) (Q .low))
+    (search-is (c .before .before .before))
+    (c .first-support .ensures)
+
+-- ---- The tuple's id
+
+abbrev looked : tie.After-wide3 → tie.After-wide2
+looked c = c .before .before .before .before .before .before .before .before .before .before
+
+relation-is : (c : tie.After-wide3) → (let a = entry (looked c) in c .wide3 .result ≡ getD (a .args .members .now) (a .args .p) 0)
+relation-is c =
+    let a = entry (looked c) in
+    c .wide3 .ensures .0 ∙ ap (λ (q : ℕ). getD (a .args .members .now) q 0) (pair-is (looked c))
+
+id-is : (c : tie.After-wide3) → (let a = entry (looked c) in getD (a .args .tuple-starts .now) (c .wide3 .result) 0 + a .args .x ≡ tupleId (G a) (a .args .p) (a .args .x))
+id-is c =
+    let a = entry (looked c) in
+    let b = member-below (G a) (sound a) (a .args .p) (in-members a) in
+    ap (λ (r : ℕ). getD (a .args .tuple-starts .now) r 0 + a .args .x) (relation-is c)
+    ∙ ap (λ (g : ℕ). g + a .args .x) (start-of (G a) (sound a) (getD (a .args .members .now) (a .args .p) 0) (omega arith))
+
+-- ---- The needs
+
+wide-requires : tie.Need-wide-requires
+wide-requires c κs = search needs
+
+wide-requires-2 : tie.Need-wide-requires-2
+wide-requires-2 c κs = search needs
+
+div-base : tie.Need-div-base
+div-base c = search needs
+
+mul-base : tie.Need-mul-base
+mul-base c = omega (arith, div-mul-le-self (c .wide2 .result) (c .before .wide .result))
+
+add-end : tie.Need-add-end
+add-end c = omega (arith, div-mul-le-self (c .wide2 .result) (c .before .wide .result))
+
+load-requires : tie.Need-load-requires
+load-requires c κs =
+    let a = entry (c .before) in
+    (omega (arith, each-is (c .before), inside a), omega (arith, each-is (c .before), sound a .few))
+
+array-read-if1 : tie.Need-array-read-if1
+array-read-if1 c = search needs
+
+all-live-requires : tie.Need-all-live-requires
+all-live-requires c κs =
+    let w = c .before .before .before .before in
+    let a = entry w in
+    let ws = a .args .words .now in
+    let ts = a .args .tuple-starts .now in
+    let ms = a .args .members .now in
+    subst (λ (n : ℕ). Chosen ws ts ms (w .wide2 .result / w .before .wide .result * w .before .wide .result) n (c .before .before .load .result)) (sym (each-is w))
+    (subst (λ (b : ℕ). Chosen ws ts ms b (a .args .m) (c .before .before .load .result)) (sym (base-is w))
+    (subst (Chosen ws ts ms (baseOf a) (a .args .m)) (sym (loaded-is (c .before .before)))
+    (chosen (G a) (sound a) ws (a .args .numbers .now) (work a) (a .args .p) (a .args .x) (in-members a) (in-size a) (lives a) (is-index (c .before)))))
+
+same-length : tie.Need-same-length
+same-length c = search needs
+
+same-length-2 : tie.Need-same-length-2
+same-length-2 c = search needs
+
+returns : tie.Need-returns
+returns c =
+    let l = c .before .before .before .before in
+    let w = l .before .before in
+    let a = entry w in
+    let live : ℕ → ℕ → List ℕ → Bool = λ b n is. all (λ (j : ℕ). isLive (a .args .words .now) (chosenId (a .args .tuple-starts .now) (a .args .members .now) b is j)) (from 0 n) in
+    renewed-held (G a) (sound a) (a .args .words .now) (a .args .numbers .now) (work a) (a .args .p) (a .args .x) (in-members a) (in-size a) (lives a)
+    (is-index (c .before .before .before))
+    (sym
+    (c .before .all-live .ensures
+    ∙ ap₂ (λ (b n : ℕ). live b n (l .load .result)) (base-is w) (each-is w)
+    ∙ ap (live (baseOf a) (a .args .m)) (loaded-is l))
+    ∙ c .if2 .taken)
+
+rem-place : tie.Need-rem-place
+rem-place c = search needs
+
+bound-of-requires : tie.Need-bound-of-requires
+bound-of-requires c κs = place-small (c .before .before .before)
+
+mul-first-support : tie.Need-mul-first-support
+mul-first-support c =
+    let w = c .before .before .before .before .before in
+    omega (arith, div-mul-le-self (w .wide2 .result) (w .before .wide .result))
+
+sub-first-support : tie.Need-sub-first-support
+sub-first-support c = search needs
+
+part-first-support-start : tie.Need-part-first-support-start
+part-first-support-start c = search needs
+
+part-first-support-end : tie.Need-part-first-support-end
+part-first-support-end c = end-is (c .before .before .before .before .before)
+
+first-support-requires : tie.Need-first-support-requires
+first-support-requires c κs =
+    let b = c .before .before in
+    let w = b .before .before .before .before in
+    let a = entry w in
+    subst Ready (sym (search-is b))
+    (ready (G a) (sound a) (a .args .words .now) (a .args .numbers .now) (work a) (a .args .p) (a .args .x) (in-members a) (in-size a) (lives a))
+
+store-requires : tie.Need-store-requires
+store-requires c κs =
+    let w = c .before .before .before .before .before .before .before .before .before .before in
+    let a = entry w in
+    (omega (arith, each-is w, inside a), omega (arith, each-is w, sound a .few))
+
+same-length-3 : tie.Need-same-length-3
+same-length-3 c = search needs
+
+same-length-4 : tie.Need-same-length-4
+same-length-4 c = search needs
+
+returns-2 : tie.Need-returns-2
+returns-2 c =
+    let f = c .before .before .before .before .before .before in
+    let w = f .before .before .before .before .before .before .before in
+    let a = entry w in
+    subst (Renewed (G a) (a .args .p) (a .args .x) (a .args .words .now) (a .args .numbers .now) true (a .args .words .now))
+    (sym
+    (c .before .before .store .ensures
+    ∙ ap₂ (λ (at n : ℕ). take at (a .args .numbers .now) ++ take n (f .first-support .result .tuples) ++ drop (at + n) (a .args .numbers .now)) (is-at a) (each-is w)))
+    (renewed-found (G a) (sound a) (a .args .words .now) (a .args .numbers .now) (work a) (a .args .p) (a .args .x) (in-members a) (in-size a) (lives a)
+    (f .first-support .result .ok) (f .first-support .result .tuples) (answer-is f) (c .before .before .before .before .before .if3 .taken))
+
+mul-wide : tie.Need-mul-wide
+mul-wide c = search needs
+
+shared-slice-read-wide : tie.Need-shared-slice-read-wide
+shared-slice-read-wide c =
+    let w = c .before .before .before .before .before .before .before .before .before in
+    omega (arith, pair-is w, in-members (entry w))
+
+wide-requires-3 : tie.Need-wide-requires-3
+wide-requires-3 c κs = search needs
+
+mul-clear : tie.Need-mul-clear
+mul-clear c = search needs
+
+element-copy-out-clear : tie.Need-element-copy-out-clear
+element-copy-out-clear c = let a = entry (looked (c .before)) in omega (arith, relation-is (c .before), member-below (G a) (sound a) (a .args .p) (in-members a))
+
+add-clear : tie.Need-add-clear
+add-clear c =
+    let a = entry (looked (c .before .before)) in
+    omega (arith, id-is (c .before .before), tuple-below (G a) (sound a) (a .args .p) (a .args .x) (in-members a) (in-size a), few-tuples (G a) (sound a))
+
+clear-requires : tie.Need-clear-requires
+clear-requires c κs =
+    let a = entry (looked (c .before .before)) in
+    omega (arith, id-is (c .before .before), tuple-below (G a) (sound a) (a .args .p) (a .args .x) (in-members a) (in-size a), work a .enough)
+
+same-length-5 : tie.Need-same-length-5
+same-length-5 c = search needs
+
+same-length-6 : tie.Need-same-length-6
+same-length-6 c = search needs
+
+returns-3 : tie.Need-returns-3
+returns-3 c =
+    let l = c .before .before .before .before .before in
+    let f = l .before .before .before in
+    let w = f .before .before .before .before .before .before .before in
+    let a = entry w in
+    subst (λ (ws : List ℕ). Renewed (G a) (a .args .p) (a .args .x) (a .args .words .now) (a .args .numbers .now) false ws (a .args .numbers .now))
+    (sym (c .before .before .clear .ensures ∙ ap (λ (g : ℕ). cleared g (a .args .words .now)) (id-is l)))
+    (renewed-none (G a) (sound a) (a .args .words .now) (a .args .numbers .now) (work a) (a .args .p) (a .args .x) (in-members a) (in-size a) (lives a)
+    (f .first-support .result .ok) (f .first-support .result .tuples) (answer-is f) (l .before .before .if3 .left))
+
+pub renew-spec : {M : Type 1} → statement M
+renew-spec =
+    tie.close
+    (tie.spec
+    wide-requires
+    wide-requires-2
+    div-base
+    mul-base
+    add-end
+    load-requires
+    array-read-if1
+    all-live-requires
+    same-length
+    same-length-2
+    returns
+    rem-place
+    bound-of-requires
+    mul-first-support
+    sub-first-support
+    part-first-support-start
+    part-first-support-end
+    first-support-requires
+    store-requires
+    same-length-3
+    same-length-4
+    returns-2
+    mul-wide
+    shared-slice-read-wide
+    wide-requires-3
+    mul-clear
+    element-copy-out-clear
+    add-clear
+    clear-requires
+    same-length-5
+    same-length-6
+    returns-3)

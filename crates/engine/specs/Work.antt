@@ -1,0 +1,77 @@
+-- What the filter keeps true while it works, and what each of its steps does.
+use mathlib.Core.Path.{_≡_}
+use mathlib.Core.Bool.{Bool, true, false}
+use mathlib.Core.Logic.{_⊎_}
+use mathlib.Core.List.{List, _++_, map, List·Memᴰ}
+use Prim.Native.Nat.{ℕ, _+_, _*_, _≤_, _<_}
+use lib.ListN.{length, take, drop, replicate}
+use Rattle.model.specs.Limits.{wordBits, noSupport}
+use Rattle.model.specs.Lists.{pairwise, earlier}
+use Rattle.model.specs.TupleSet.{TupleSet, has, count}
+use Rattle.model.specs.Network.{total, indexOf}
+use Rattle.model.specs.Agreement.{agree}
+use Rattle.model.specs.Combination.{Combination}
+use Rattle.model.specs.Support.{candidates, isSupport, firstSupport}
+use Rattle.model.specs.Consistency.{filtered, needed}
+use Rattle.model.specs.LiveWords.{isLive, cleared, written}
+use Rattle.engine.specs.Setting.{Setting, network, listed, liveIn, combinationOf, sizeOf, tupleId, placeOf, held}
+
+-- tuple g has a support in combination c while S lives
+abbrev pub Supported : Setting → TupleSet → Combination → ℕ → Type 0
+Supported G S c g = (t : List ℕ) × List·Memᴰ t (candidates (network G) c) × (isSupport (network G) S g t ≡ true)
+
+-- The numbers held for tuple g are a bound from below: 65,535 each, or the indices of a candidate with g, every two of which
+-- agree, and no support of g is earlier.
+pub record Candidate (G : Setting) (S : TupleSet) (c : Combination) (g : ℕ) (numbers : List ℕ) : Type 0 where
+  pub tuples : List ℕ
+  pub candidate : List·Memᴰ tuples (candidates (network G) c)
+  pub own : List·Memᴰ g tuples
+  pub agreeing : pairwise (agree (network G)) tuples ≡ true
+  pub indices : numbers ≡ map (indexOf (network G)) tuples
+  pub lowest : (u : List ℕ) → List·Memᴰ u (candidates (network G) c) → isSupport (network G) S g u ≡ true → earlier (map (indexOf (network G)) u) numbers ≡ false
+
+abbrev pub Bound : Setting → TupleSet → Combination → ℕ → List ℕ → Type 0
+Bound G S c g numbers = (numbers ≡ replicate (G .m) noSupport) ⊎ Candidate G S c g numbers
+
+-- What holds all the while: words for every tuple, numbers for every pair, and a bound for every live tuple.
+pub record Working (G : Setting) (words numbers : List ℕ) : Type 0 where
+  pub enough : total (network G) ≤ wordBits * length words
+  pub room : needed (network G) (listed G) ≤ length numbers
+  pub bounds : (p x : ℕ) → p < length (G .members) → x < sizeOf G p → has (liveIn G words) (tupleId G p x) ≡ true → Bound G (liveIn G words) (combinationOf G p) (tupleId G p x) (held G numbers p x)
+
+-- The first k tuples of pair p's member are done: those that live have their first support in the list.
+abbrev pub Done : Setting → List ℕ → List ℕ → ℕ → ℕ → Type 0
+Done G words numbers p k =
+    (x : ℕ)
+    → x < k
+    → has (liveIn G words) (tupleId G p x) ≡ true
+    → Supported G (liveIn G words) (combinationOf G p) (tupleId G p x) × (held G numbers p x ≡ firstSupport (network G) (liveIn G words) (combinationOf G p) (tupleId G p x))
+
+-- Every pair that does not wait is done, but for those of which `but` holds.
+abbrev pub Rest : Setting → List ℕ → List ℕ → List ℕ → (ℕ → Type 0) → Type 0
+Rest G queue words numbers but =
+    (q : ℕ) → q < length (G .members) → isLive queue q ≡ false → (but q → ⊥) → Done G words numbers q (sizeOf G q)
+
+-- The words change only in tuples removed, and what filtering leaves of them does not change.
+pub record Shrunk (G : Setting) (words after : List ℕ) : Type 0 where
+  pub bits : after ≡ written (total (network G)) (liveIn G after) words
+  pub same : filtered (network G) (listed G) (liveIn G after) ≡ filtered (network G) (listed G) (liveIn G words)
+
+-- ---- One tuple
+
+-- The tuple with id g has its first support in the list, or has none and is dead; nothing else changes.
+pub record Renewed (G : Setting) (p x : ℕ) (words numbers : List ℕ) (found : Bool) (words′ numbers′ : List ℕ) : Type 0 where
+  pub kept : found ≡ true → (words′ ≡ words) × (numbers′ ≡ take (placeOf G p x) numbers ++ firstSupport (network G) (liveIn G words) (combinationOf G p) (tupleId G p x) ++ drop (placeOf G p x + G .m) numbers) × Supported G (liveIn G words) (combinationOf G p) (tupleId G p x)
+  pub removed : found ≡ false → (words′ ≡ cleared (tupleId G p x) words) × (numbers′ ≡ numbers) × (Supported G (liveIn G words) (combinationOf G p) (tupleId G p x) → ⊥)
+
+-- ---- One pair
+
+-- Pair p is visited: where every pair was done but p and those that wait, every pair is that does not wait now. Either nothing
+-- was removed, and the same pairs wait, or fewer tuples live.
+pub record Visited (G : Setting) (p : ℕ) (queue words numbers queue′ words′ numbers′ : List ℕ) : Type 0 where
+  pub working : Working G words′ numbers′
+  pub shrunk : Shrunk G words words′
+  pub beyond : drop (needed (network G) (listed G)) numbers′ ≡ drop (needed (network G) (listed G)) numbers
+  pub long : length numbers′ ≡ length numbers
+  pub done : Rest G queue words numbers (λ q. q ≡ p) → Rest G queue′ words′ numbers′ (λ q. ⊥)
+  pub progress : ((queue′ ≡ queue) × (words′ ≡ words)) ⊎ (count (liveIn G words′) < count (liveIn G words))

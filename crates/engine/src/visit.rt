@@ -1,0 +1,137 @@
+// A visit of one pair of combination and member: each live tuple of the member gets its first support, or is removed.
+ghost use mathlib.Core.Path.{_≡_};
+ghost use mathlib.Core.Bool.{true, cond};
+ghost use Prim.Native.Nat.{ℕ, _<_};
+ghost use lib.Dec.{eqb};
+ghost use lib.ListN.{length, getD, set, replicate};
+ghost use Rattle.model.specs.Limits.{maxMembers, noSupport};
+ghost use Rattle.model.specs.TupleSet.{has};
+ghost use Rattle.engine.specs.Setting.{setting, Sound, liveIn, sizeOf, tupleId, placeOf};
+ghost use Rattle.engine.specs.Work.{Working, Renewed, Visited};
+use live::clear;
+use live::next;
+use model::NO_SUPPORT;
+use network::wide;
+use support::first_support;
+use worklist::list::all_live;
+use worklist::list::load;
+use worklist::list::store;
+use worklist::queue::Queue;
+use worklist::queue::requeue;
+
+// The bound from which the search for tuple x of the member at `place` starts: what was held, or the first candidate.
+fn bound_of(held: [u16; 4], place: usize, x: u16) -> [u16; 4]
+    requires { ⌜ place < maxMembers ⌝ }
+    ensures { λ r. ⌜ r ≡ cond (eqb (getD held 0 0) noSupport) (set (replicate maxMembers 0) place x) held ⌝ }
+{
+    if held[0] != NO_SUPPORT {
+        return held;
+    }
+    let mut low = [0u16; 4];
+    low[place] = x;
+    low
+}
+
+// Whether tuple x of pair p's member has a support: its first one is in the list then, and otherwise the tuple is dead.
+pub fn renew(
+    variables: &[u16],
+    values: &[u16],
+    variable_starts: &[u16; 65],
+    tuple_starts: &[u16; 65],
+    value_starts: &[u16; 65],
+    members: &[u16],
+    m: u16,
+    words: &mut [u64],
+    numbers: &mut [u16],
+    p: u16,
+    x: u16,
+    at: usize,
+) -> bool
+    requires { ⌜ (let G = setting (now variables) (now values) (now «variable_starts») (now «tuple_starts») (now «value_starts») (now members) m in Sound G × (Working G (now words) (now numbers) × ((p < length (now members)) × ((x < sizeOf G p) × ((has (liveIn G (now words)) (tupleId G p x) ≡ true) × (at ≡ placeOf G p x)))))) ⌝ }
+    ensures { λ r. ⌜ Renewed (setting (now (variables .entry)) (now (values .entry)) (now («variable_starts» .entry)) (now («tuple_starts» .entry)) (now («value_starts» .entry)) (now (members .entry)) m) p x (now (words .entry)) (now (numbers .entry)) r (now (words .exit)) (now (numbers .exit)) ⌝ }
+{
+    let each = wide(m);
+    let pair = wide(p);
+    let base = pair / each * each;
+    let end = base + each;
+    let held = load(numbers, at, each);
+    if held[0] != NO_SUPPORT {
+        if all_live(words, tuple_starts, members, base, each, held) {
+            return true;
+        }
+    }
+    let place = pair % each;
+    let low = bound_of(held, place, x);
+    let found = first_support(
+        variables,
+        values,
+        variable_starts,
+        tuple_starts,
+        value_starts,
+        words,
+        &members[base..end],
+        place,
+        x,
+        low,
+    );
+    if found.ok {
+        let tuples = found.tuples;
+        store(numbers, at, each, tuples);
+        return true;
+    }
+    let r = wide(members[pair]);
+    clear(words, tuple_starts[r] + x);
+    false
+}
+
+// Each live tuple of pair p's member has its first support in the list, or is dead. The pairs that wait now are given back.
+pub fn visit(
+    queue: Queue,
+    variables: &[u16],
+    values: &[u16],
+    variable_starts: &[u16; 65],
+    tuple_starts: &[u16; 65],
+    value_starts: &[u16; 65],
+    members: &[u16],
+    m: u16,
+    pair_starts: &[u16; 1024],
+    words: &mut [u64],
+    numbers: &mut [u16],
+    p: u16,
+) -> Queue
+    requires { ⌜ (let G = setting (now variables) (now values) (now «variable_starts») (now «tuple_starts») (now «value_starts») (now members) m in Sound G × (Working G (now words) (now numbers) × ((p < length (now members)) × (getD (now «pair_starts») p 0 ≡ placeOf G p 0)))) ⌝ }
+    ensures { λ r. ⌜ Visited (setting (now (variables .entry)) (now (values .entry)) (now («variable_starts» .entry)) (now («tuple_starts» .entry)) (now («value_starts» .entry)) (now (members .entry)) m) p (queue .words) (now (words .entry)) (now (numbers .entry)) (r .words) (now (words .exit)) (now (numbers .exit)) ⌝ }
+{
+    let r = wide(members[wide(p)]);
+    let first = tuple_starts[r];
+    let end = tuple_starts[r + 1];
+    let start = wide(pair_starts[wide(p)]);
+    let mut waiting = queue;
+    let mut shrunk = false;
+    let mut g = next(words, first, end);
+    while g < end {
+        let x = g - first;
+        let at = start + wide(x) * wide(m);
+        if !renew(
+            variables,
+            values,
+            variable_starts,
+            tuple_starts,
+            value_starts,
+            members,
+            m,
+            words,
+            numbers,
+            p,
+            x,
+            at,
+        ) {
+            if !shrunk {
+                waiting = requeue(waiting, members, m, p);
+                shrunk = true;
+            }
+        }
+        g = next(words, g + 1, end);
+    }
+    waiting
+}
