@@ -1,34 +1,10 @@
-/* The plain C versions of the leaves, compiled on their own so that calls are not inlined. */
-#include "bench.h"
+/* The plain C leaves as functions, compiled on their own: the benchmark calls them as it calls the library's. */
+#include "leaves.h"
 
 bool c_agree(const uint16_t *scope_a, size_t wa, const uint16_t *a, size_t la, const uint16_t *scope_b, size_t wb, const uint16_t *b, size_t lb) {
-    (void)la, (void)lb;
-    for (size_t i = 0; i < wa; i++)
-        for (size_t j = 0; j < wb; j++)
-            if (scope_a[i] == scope_b[j] && a[i] != b[j]) return false;
-    return true;
+    return agree(scope_a, wa, a, la, scope_b, wb, b, lb);
 }
 
-uint16_t c_next(const uint64_t *words, size_t n, uint16_t start, uint16_t end) {
-    (void)n;
-    for (size_t at = start; at < end; at = (at / 64 + 1) * 64) {
-        uint64_t w = words[at / 64] >> (at % 64);
-        if (w) {
-            size_t g = at + (size_t)__builtin_ctzll(w);
-            return g < end ? (uint16_t)g : end;
-        }
-    }
-    return end;
-}
+uint16_t c_next(const uint64_t *words, size_t n, uint16_t start, uint16_t end) { return next(words, n, start, end); }
 
-/* The ones of end's own word below end. */
-static unsigned count_below(const uint64_t *words, size_t end) {
-    return end % 64 ? (unsigned)__builtin_popcountll(words[end / 64] & ((1ull << end % 64) - 1)) : 0;
-}
-
-uint16_t c_count(const uint64_t *words, size_t n, uint16_t start, uint16_t end) {
-    (void)n;
-    unsigned total = 0;
-    for (size_t i = start / 64; i < end / 64; i++) total += (unsigned)__builtin_popcountll(words[i]);
-    return (uint16_t)(total + count_below(words, end) - count_below(words, start));
-}
+uint16_t c_count(const uint64_t *words, size_t n, uint16_t start, uint16_t end) { return count(words, n, start, end); }

@@ -1,11 +1,11 @@
-/* Times the leaves of the proved library and the same functions in C, each in turn, and prints the ratios.
- * A ratio is of the least times over some rounds; both must give the same results. */
+/* Times the proved library's functions and the same in C, each in turn, and prints the ratios of the least times over some
+ * rounds. Both must give the same results. */
 #include "bench.h"
 #include <stdio.h>
-#include <stdlib.h>
+#include <string.h>
 #include <time.h>
 
-enum { ROUNDS = 15, TUPLES = 1000, WIDTH = 8, WORDS = 64, IDS = 4096 };
+enum { ROUNDS = 21, TUPLES = 1000, WIDTH = 8, WORDS = 64, IDS = 4096, NUMBERS = 32768 };
 
 static uint16_t scope_a[WIDTH], scope_b[WIDTH], a[TUPLES * WIDTH], b[TUPLES * WIDTH];
 static uint64_t words[3][WORDS]; /* dense, sparse, nearly empty */
@@ -50,28 +50,29 @@ static long count_all(range_fn f, const uint64_t *ws, uint16_t length) {
 
 static int failures = 0;
 
-static void report(const char *what, double rattle, double c, long r, long s) {
-    printf("%-28s %8.2f ms %8.2f ms   %.2f%s\n", what, rattle * 1e3, c * 1e3, rattle / c, r == s ? "" : "  RESULTS DIFFER");
-    failures += r != s;
+static void report(const char *what, double rattle, double c, bool same) {
+    printf("%-34s %9.3f ms %9.3f ms   %.2f%s\n", what, rattle * 1e3, c * 1e3, rattle / c, same ? "" : "  RESULTS DIFFER");
+    failures += !same;
 }
 
-#define COMPARE(what, rattle_call, c_call)                            \
-    do {                                                              \
-        double best_r = 1e9, best_c = 1e9;                            \
-        long r = 0, s = 0;                                            \
-        for (int k = 0; k < ROUNDS; k++) {                            \
-            double t = now();                                         \
-            r = rattle_call;                                          \
-            double u = now();                                         \
-            s = c_call;                                               \
-            double v = now();                                         \
-            if (u - t < best_r) best_r = u - t;                       \
-            if (v - u < best_c) best_c = v - u;                       \
-        }                                                             \
-        report(what, best_r, best_c, r, s);                           \
+static double least(double a, double b) { return a < b ? a : b; }
+
+#define COMPARE(what, rattle_call, c_call)              \
+    do {                                                \
+        double best_r = 1e9, best_c = 1e9;              \
+        long r = 0, s = 0;                              \
+        for (int k = 0; k < ROUNDS; k++) {              \
+            double t = now();                           \
+            r = rattle_call;                            \
+            double u = now();                           \
+            s = c_call;                                 \
+            best_r = least(best_r, u - t);              \
+            best_c = least(best_c, now() - u);          \
+        }                                               \
+        report(what, best_r, best_c, r == s);           \
     } while (0)
 
-int main(void) {
+static void leaves(void) {
     for (size_t i = 0; i < WIDTH; i++) scope_a[i] = (uint16_t)i, scope_b[i] = (uint16_t)((i + 2) % (WIDTH + 2));
     for (size_t i = 0; i < TUPLES * WIDTH; i++) a[i] = (uint16_t)(draw() % 2), b[i] = (uint16_t)(draw() % 2);
     for (size_t i = 0; i < WORDS; i++) {
@@ -79,7 +80,6 @@ int main(void) {
         words[1][i] = words[0][i] & draw() << 20 & draw() << 15;
         words[2][i] = i % 16 == 3;
     }
-    printf("%-28s %11s %11s   ratio\n", "", "Rattle", "C -O2");
     COMPARE("agree, 8 and 8 variables", agree_all(bench_agree, 8, 8), agree_all(c_agree, 8, 8));
     COMPARE("agree, 3 and 3 variables", agree_all(bench_agree, 3, 3), agree_all(c_agree, 3, 3));
     COMPARE("next, every other id live", next_all(bench_next, words[0]), next_all(c_next, words[0]));
@@ -88,5 +88,52 @@ int main(void) {
     COMPARE("count of 4,000 ids", count_all(bench_count, words[0], 4000), count_all(c_count, words[0], 4000));
     COMPARE("count of 100 ids", count_all(bench_count, words[0], 100), count_all(c_count, words[0], 100));
     COMPARE("count of 10 ids", count_all(bench_count, words[0], 10), count_all(c_count, words[0], 10));
+}
+
+static network n;
+static uint64_t live_r[WORDS], live_c[WORDS];
+static uint16_t numbers_r[NUMBERS], numbers_c[NUMBERS];
+
+static unsigned left(const uint64_t *ws) {
+    unsigned k = 0;
+    for (size_t i = 0; i < WORDS; i++) k += (unsigned)__builtin_popcountll(ws[i]);
+    return k;
+}
+
+/* Filters one network both ways, from all tuples live. */
+static void filters(size_t m, size_t relations, size_t tuples, unsigned values) {
+    double best_r = 1e9, best_c = 1e9;
+    draw_network(&n, m, relations, tuples, values);
+    for (int k = 0; k < 5; k++) {
+        memset(live_r, 0, sizeof live_r);
+        for (size_t g = 0; g < relations * tuples; g++) live_r[g / 64] |= 1ull << (g % 64);
+        memcpy(live_c, live_r, sizeof live_c);
+        double t = now();
+        bench_filter(n.variables, n.variable_count, n.values, n.value_count, n.variable_starts, n.tuple_starts, n.value_starts, n.members, n.pairs, (uint16_t)m, n.needed, live_r, WORDS, numbers_r, NUMBERS);
+        double u = now();
+        c_filter(&n, live_c, numbers_c);
+        best_r = least(best_r, u - t);
+        best_c = least(best_c, now() - u);
+    }
+    char what[64];
+    snprintf(what, sizeof what, "m = %zu, %4zu tuples, %4u left", m, relations * tuples, left(live_r));
+    report(what, best_r, best_c, !memcmp(live_r, live_c, sizeof live_r) && !memcmp(numbers_r, numbers_c, n.needed * sizeof *numbers_r));
+}
+
+int main(void) {
+    printf("%-34s %12s %12s   ratio\n", "", "Rattle", "C -O2");
+    leaves();
+    filters(2, 8, 75, 6);
+    filters(2, 16, 256, 9);
+    filters(2, 16, 256, 18);
+    filters(2, 16, 250, 60);
+    filters(3, 8, 150, 6);
+    filters(3, 12, 200, 12);
+    filters(3, 8, 200, 30);
+    filters(4, 6, 150, 5);
+    filters(4, 8, 200, 9);
+    filters(4, 8, 200, 25);
+    for (size_t tuples = 31; tuples <= 512; tuples *= 2) filters(2, 8, tuples, 8);
+    for (size_t tuples = 31; tuples <= 256; tuples *= 2) filters(3, 8, tuples, 8);
     return failures != 0;
 }
