@@ -133,7 +133,9 @@ int main(void) {
     filters(4, 6, 150, 5);
     filters(4, 8, 200, 9);
     filters(4, 8, 200, 25);
-    for (size_t tuples = 31; tuples <= 512; tuples *= 2) filters(2, 8, tuples, 8);
-    for (size_t tuples = 31; tuples <= 256; tuples *= 2) filters(3, 8, tuples, 8);
+    puts("growth:");
+    for (size_t tuples = 31; tuples <= 512; tuples *= 2) filters(2, 8, tuples, 4);
+    for (size_t tuples = 31; tuples <= 512; tuples *= 2) filters(3, 8, tuples, 4);
+    for (size_t tuples = 31; tuples <= 256; tuples *= 2) filters(4, 8, tuples, 4);
     return failures != 0;
 }

@@ -31,23 +31,33 @@ def counted(numbers: list[int]) -> list[int]:
     return [len(numbers), *numbers]
 
 
-def print_plain(request: Request, reply: Reply) -> None:
-    """One line of numbers, each list behind its length: the call, its lists and arguments, then its reply."""
+def plain(request: Request, reply: Reply) -> list[int]:
+    """Numbers, each list behind its length: the call, its lists and arguments, then its reply."""
     records = [number for sheet in request.sheets for number in sheet]
     before = [records, request.questions, request.codes, request.combinations, request.marks, request.supports, request.rows]
     numbers = [draw.CALLS.index(request.call), request.m, request.question, request.code]
     for entries in [*before, *map(list, reply)]:
         numbers += counted(entries)
-    print(*numbers)
+    return numbers
 
 
 def print_requests(arguments: argparse.Namespace) -> None:
     for request in draw.requests(arguments.seed, arguments.count, arguments.calls, arguments.size):
         reply = book.reply(request)
         if arguments.plain:
-            print_plain(request, reply)
+            print(*plain(request, reply))
         else:
             print_line(with_reply(request, reply))
+
+
+def plain_list(marks: list[int], lent: list[list[str]], replies: list, expected: book.Expectation) -> list[int]:
+    """The starting marks, the calls, each behind whether it lends marks of its own, and the strike rule's expectation."""
+    numbers = [*counted(marks), len(replies)]
+    for own, (request, reply) in zip(lent, replies):
+        numbers += [int("marks" in own), *plain(request, reply)]
+    accepted = expected.last_accepted is not None
+    last = [expected.last_accepted + 1, *expected.answer, expected.gone] if accepted else [0] * 5
+    return numbers + last + counted(expected.marks) + counted(expected.supports if accepted else [])
 
 
 def print_lists(arguments: argparse.Namespace) -> None:
@@ -55,12 +65,16 @@ def print_lists(arguments: argparse.Namespace) -> None:
         whole, combinations = book.read_book(shared), book.read_combinations(shared)
         replies = book.in_turn(shared.marks, calls)
         lent = [own_lists(shared, call) for call in calls]
+        expected = book.strike_rule(whole, combinations, shared.marks, calls)
+        if arguments.plain:
+            print(*plain_list(shared.marks, lent, replies, expected))
+            continue
         print_line(
             {
                 "shared": {name: getattr(shared, name) for name in SHARED},
                 "marks": shared.marks,
                 "calls": [{"own_lists": own, **with_reply(*done)} for own, done in zip(lent, replies)],
-                "expected": book.strike_rule(whole, combinations, shared.marks, calls)._asdict(),
+                "expected": expected._asdict(),
             }
         )
 
@@ -88,7 +102,8 @@ def read_arguments() -> argparse.Namespace:
         command.add_argument("--count", type=int, required=True)
     commands.choices["requests"].add_argument("--calls", type=call_names, default=draw.CALLS)
     commands.choices["requests"].add_argument("--size", choices=sorted(draw.SIZES), default="mixed")
-    commands.choices["requests"].add_argument("--plain", action="store_true", help="lines of numbers, not JSON")
+    for name in ("requests", "lists"):
+        commands.choices[name].add_argument("--plain", action="store_true", help="lines of numbers, not JSON")
     commands.choices["texts"].add_argument("--into", type=Path, required=True)
     commands.add_parser("check")
     return parser.parse_args()
