@@ -107,7 +107,7 @@ pub fn connected(masks: &[u64; 64], members: &[u16]) -> bool
 }
 
 // Whether every member is below count.
-fn all_below(count: usize, members: &[u16]) -> bool
+pub fn all_below(count: usize, members: &[u16]) -> bool
     ensures { λ b. ⌜ b ≡ below count (now (members .entry)) ⌝ }
 {
     let mut j = 0;

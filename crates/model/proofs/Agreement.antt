@@ -1,7 +1,7 @@
 -- Laws of agreement: two tuples agree exactly if no cell of the one, at whatever place, clashes with a cell of the other.
 -- From the definitions alone; the laws of `fit` and `clash` are all that code needs to know of when values fit.
 use mathlib.Core.Path.{_≡_, refl, sym, _∙_, ap, ap₂}
-use mathlib.Core.Bool.{Bool, true, false, not, _&&_, and-false}
+use mathlib.Core.Bool.{Bool, true, false, not, _&&_, _||_, and-false, or-false}
 use mathlib.Core.List.{List, [], _∷_, List·Memᴰ}
 use Prim.Native.Nat.{ℕ, zero, suc, _+_, _<_}
 use native.Mathlib.Nat.{le-of-suc-le-suc}
@@ -9,11 +9,11 @@ use native.Mathlib.Omega.{arith}
 use lib.Dec.{eqb}
 use lib.ListN.{length, getD}
 use borrow.Author.Tests.{eq-eqb, ne-eqb, eqb-true, not-true}
-use Rattle.model.specs.Lists.{all}
+use Rattle.model.specs.Lists.{all, any}
 use Rattle.model.specs.Network.{Network, size, firstId, scopeOf, valuesAt, tupleOf}
 use Rattle.model.specs.Agreement.{Cell, fit, cells, clash, agreeing, cellsOf, agree}
 use Rattle.model.proofs.Bools.{and-intro, iff-eq}
-use Rattle.model.proofs.Lists.{all-at, all-intro}
+use Rattle.model.proofs.Lists.{all-at, all-intro, eqb-sym}
 use Rattle.model.proofs.Network.{relationOf-at, indexOf-at}
 
 -- ---- When values fit
@@ -28,7 +28,7 @@ fit-different a b d = ne-eqb a b d
 
 pub fit-sym : (a b : ℕ) → fit a b ≡ fit b a
 unfolding fit
-fit-sym a b = iff-eq (eqb a b) (eqb b a) (λ h. eq-eqb b a (sym (eqb-true a b h))) (λ h. eq-eqb a b (sym (eqb-true b a h)))
+fit-sym a b = eqb-sym a b
 
 -- values that fit one value fit each other
 pub fit-common : (u v w : ℕ) → fit u w ≡ true → fit v w ≡ true → fit u v ≡ true
@@ -60,9 +60,6 @@ clash-different-value x y e d =
 pub clash-sym : (x y : Cell) → clash x y ≡ clash y x
 unfolding clash
 clash-sym x y = ap₂ (λ (a b : Bool). a && not b) (eqb-sym (x .0) (y .0)) (fit-sym (x .1) (y .1))
-  where
-    eqb-sym : (a b : ℕ) → eqb a b ≡ eqb b a
-    eqb-sym a b = iff-eq (eqb a b) (eqb b a) (λ h. eq-eqb b a (sym (eqb-true a b h))) (λ h. eq-eqb a b (sym (eqb-true b a h)))
 
 -- ---- Agreement by places
 
@@ -81,6 +78,23 @@ cells-false p (x ∷ xs) [] k l h e = absurd (omega arith)
 cells-false p (x ∷ xs) (v ∷ vs) zero l h e = ap (λ (b : Bool). b && all p (cells xs vs)) e
 cells-false p (x ∷ xs) (v ∷ vs) (suc k) l h e =
     ap (λ (b : Bool). p (x, v) && b) (cells-false p xs vs k (omega arith) (le-of-suc-le-suc h) e) ∙ and-false (p (x, v))
+
+-- a test that no place passes
+pub cells-none : (p : Cell → Bool) (xs vs : List ℕ) → ((k : ℕ) → k < length xs → p (cellAt xs vs k) ≡ false) → any p (cells xs vs) ≡ false
+cells-none p [] vs f = refl
+cells-none p (x ∷ xs) [] f = refl
+cells-none p (x ∷ xs) (v ∷ vs) f =
+    ap (λ (b : Bool). b || any p (cells xs vs)) (f 0 (omega arith)) ∙ cells-none p xs vs (λ k h. f (suc k) (omega arith))
+
+-- a test that no place but k passes
+pub cells-one : (p : Cell → Bool) (xs vs : List ℕ) (k : ℕ) → length xs ≡ length vs → k < length xs → ((j : ℕ) → j < length xs → (j ≡ k → ⊥) → p (cellAt xs vs j) ≡ false) → any p (cells xs vs) ≡ p (cellAt xs vs k)
+cells-one p [] vs k l h f = absurd (omega arith)
+cells-one p (x ∷ xs) [] k l h f = absurd (omega arith)
+cells-one p (x ∷ xs) (v ∷ vs) zero l h f =
+    ap (λ (b : Bool). p (x, v) || b) (cells-none p xs vs (λ j m. f (suc j) (omega arith) (λ e. omega arith))) ∙ or-false (p (x, v))
+cells-one p (x ∷ xs) (v ∷ vs) (suc k) l h f =
+    ap (λ (b : Bool). b || any p (cells xs vs)) (f 0 (omega arith) (λ e. omega arith))
+    ∙ cells-one p xs vs k (omega arith) (le-of-suc-le-suc h) (λ j m d. f (suc j) (omega arith) (λ e. d (omega arith)))
 
 module _ (xs vs ys ws : List ℕ) where
   -- no two places clash

@@ -15,7 +15,7 @@ use Rattle.model.specs.Lists.{from, sum, all, pairwise}
 use Rattle.model.specs.declared.Relation.{Relation}
 use Rattle.model.specs.Network.{Network, total, variablesIn, valuesIn, scopeOf}
 use Rattle.model.specs.Combination.{Combination}
-use Rattle.model.specs.Request.{Instance, combinationsOf, Request}
+use Rattle.model.specs.Request.{Change, filter, withdraw, choose, Instance, combinationsOf, Request}
 use Rattle.model.specs.Fault.{Fault, firstFault, refusal, within, properScope, properLengths, networkFaults, combinationFaults, wordsFault, supportsFault, changeFaults, properMembers, faultsOn, faults, isNone, accepts}
 use Rattle.model.proofs.Bools.{and-left, and-right}
 use Rattle.model.proofs.Lists.{here, all-at}
@@ -67,6 +67,15 @@ firstFault-append-some [] gs k e = absurd (some-none (sym e))
 firstFault-append-some (f ∷ fs) gs k e =
     append-some (f .1) k (f .0) (firstFault fs) (firstFault (fs ++ gs)) (firstFault-append-some fs gs k) e
 
+-- no fault in two tables: none in either
+pub firstFault-front : (fs gs : List Fault) → firstFault (fs ++ gs) ≡ none → firstFault fs ≡ none
+firstFault-front [] gs e = refl
+firstFault-front (f ∷ fs) gs e =
+    fault-next f fs (no-fault-here f (fs ++ gs) e) ∙ firstFault-front fs gs (no-fault-next f (fs ++ gs) e)
+
+pub firstFault-back : (fs gs : List Fault) → firstFault (fs ++ gs) ≡ none → firstFault gs ≡ none
+firstFault-back fs gs e = sym (firstFault-append-none fs gs (firstFault-front fs gs e)) ∙ e
+
 -- where every test is false, none is found
 pub none-firstFault : (fs : List Fault) → ((f : Fault) → List·Memᴰ f fs → f .1 ≡ false) → firstFault fs ≡ none
 none-firstFault [] h = refl
@@ -94,11 +103,59 @@ refusal-first : (b : Bool) (k : ℕ) (o : Option ℕ) → ltb 0 k ≡ true → (
 refusal-first true k o h f e = absurd (let l = ltb-true 0 k h in omega arith)
 refusal-first false k o h f e = f e
 
-pub refusal-none : (fs : List Fault) → all (λ (f : Fault). ltb 0 (f .0)) fs ≡ true → refusal (firstFault fs) ≡ 0 → firstFault fs ≡ none
+-- every refusal number is above 0
+abbrev pub numbered : List Fault → Bool
+numbered fs = all (λ (f : Fault). ltb 0 (f .0)) fs
+
+pub refusal-none : (fs : List Fault) → numbered fs ≡ true → refusal (firstFault fs) ≡ 0 → firstFault fs ≡ none
 refusal-none [] h e = refl
 refusal-none (f ∷ fs) h e =
-    refusal-first (f .1) (f .0) (firstFault fs) (and-left (ltb 0 (f .0)) (all (λ (g : Fault). ltb 0 (g .0)) fs) h)
-    (refusal-none fs (and-right (ltb 0 (f .0)) (all (λ (g : Fault). ltb 0 (g .0)) fs) h)) e
+    refusal-first (f .1) (f .0) (firstFault fs) (and-left (ltb 0 (f .0)) (numbered fs) h)
+    (refusal-none fs (and-right (ltb 0 (f .0)) (numbered fs) h)) e
+
+-- two tables, one after the other: the first table's number if it has one, or else the second's
+pub refusal-front : (fs gs : List Fault) (k : ℕ) → k ≡ refusal (firstFault fs) → (k ≡ 0 → ⊥) → k ≡ refusal (firstFault (fs ++ gs))
+refusal-front fs gs k e d = sym (ap refusal (firstFault-append-some fs gs k (refusal-some (firstFault fs) k (sym e) d)))
+
+pub refusal-back : (fs gs : List Fault) → numbered fs ≡ true → refusal (firstFault fs) ≡ 0 → refusal (firstFault gs) ≡ refusal (firstFault (fs ++ gs))
+refusal-back fs gs h e = sym (ap refusal (firstFault-append-none fs gs (refusal-none fs h e)))
+
+-- ---- The faults of a change call, from those that all change calls test and its own
+
+module _ (I : Instance) (words numbers : ℕ) where
+  pub faultsOn-change : (change : Change) → faultsOn I words numbers change ≡ faultsOn I words numbers filter ++ changeFaults (I .network) change
+  unfolding faultsOn
+  faultsOn-change change = refl
+
+  numbered-filter : numbered (faultsOn I words numbers filter) ≡ true
+  unfolding faultsOn
+  numbered-filter = refl
+
+  numbered-change : (change : Change) → numbered (changeFaults (I .network) change) ≡ true
+  numbered-change filter = refl
+  numbered-change (withdraw ids) = refl
+  numbered-change (choose x v) = refl
+
+  -- a fault that all change calls test is the call's
+  pub refusal-shared : (change : Change) (k : ℕ) → k ≡ refusal (firstFault (faultsOn I words numbers filter)) → (k ≡ 0 → ⊥) → firstFault (faultsOn I words numbers change) ≡ some k
+  refusal-shared change k e d =
+      ap firstFault (faultsOn-change change)
+      ∙ firstFault-append-some (faultsOn I words numbers filter) (changeFaults (I .network) change) k
+      (refusal-some (firstFault (faultsOn I words numbers filter)) k (sym e) d)
+
+  module _ (change : Change) (shared : 0 ≡ refusal (firstFault (faultsOn I words numbers filter))) where
+    behind : firstFault (faultsOn I words numbers change) ≡ firstFault (changeFaults (I .network) change)
+    behind =
+        ap firstFault (faultsOn-change change)
+        ∙ firstFault-append-none (faultsOn I words numbers filter) (changeFaults (I .network) change)
+        (refusal-none (faultsOn I words numbers filter) numbered-filter (sym shared))
+
+    -- where it has none of them, its own fault is the call's, if it has one
+    pub refusal-own : (k : ℕ) → k ≡ refusal (firstFault (changeFaults (I .network) change)) → (k ≡ 0 → ⊥) → firstFault (faultsOn I words numbers change) ≡ some k
+    refusal-own k e d = behind ∙ refusal-some (firstFault (changeFaults (I .network) change)) k (sym e) d
+
+    pub refusal-neither : 0 ≡ refusal (firstFault (changeFaults (I .network) change)) → firstFault (faultsOn I words numbers change) ≡ none
+    refusal-neither e = behind ∙ refusal-none (changeFaults (I .network) change) (numbered-change change) (sym e)
 
 -- ---- A network without network faults
 
@@ -142,6 +199,11 @@ module _ (q : Request) (e : accepts q ≡ true) where
   absent : {f : Fault} → List·Memᴰ f (faults q) → f .1 ≡ false
   unfolding accepts
   absent m = no-fault-at (faults q) (isNone-none (firstFault (faults q)) e) m
+
+  -- its network has no fault
+  pub accepts-network : firstFault (networkFaults N) ≡ none
+  unfolding faults faultsOn
+  accepts-network = none-firstFault (networkFaults N) (λ f m. absent (Memᴰ·append-left _ (Memᴰ·append-left (combinationFaults I) m)))
 
   -- its lists' faults stand behind those of the network and the combinations
   lists : {f : Fault} → List·Memᴰ f (wordsFault N (length (q .words)) ∷ supportsFault I (length (q .supports)) ∷ changeFaults N (q .change)) → f .1 ≡ false

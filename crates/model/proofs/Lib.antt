@@ -4,6 +4,7 @@ pub mod Lists
 pub mod TupleSet
 pub mod Network
 pub mod Agreement
+pub mod Request
 pub mod Fault
 pub mod Combination
 pub mod LiveWords

@@ -1,20 +1,20 @@
 -- Tests over lists against membership, the choices of one element from each list, and sums over parts of a list.
 use mathlib.Core.Path.{_≡_, refl, sym, _∙_, ap, subst}
-use mathlib.Core.Bool.{Bool, true, false, _&&_, _||_, false≢true}
+use mathlib.Core.Bool.{Bool, true, false, _&&_, _||_, false≢true, and-false}
 use mathlib.Core.Option.{orElse, Option·getD}
 use mathlib.Core.List.{List, [], _∷_, _++_, map, map-append, head?, List·Memᴰ, List·Memᴰ·head, List·Memᴰ·tail, List·Memᴰ·eq-of-singleton, List·Memᴰ·cases-cons, List·Memᴰ·append-cases, Memᴰ·append-left, Memᴰ·append-right, Memᴰ·map, Memᴰ·of-map, Memᴰ·cast, List·Memᴰ·not-nil}
 use mathlib.Core.Logic.{⊎-elim}
 use Prim.Native.Nat.{ℕ, zero, suc, _+_, _-_, _≤_, _<_}
 use native.Mathlib.Numerals.{add-one}
 use native.Mathlib.Omega.{arith}
-use native.Mathlib.Decide.{ℕ-discrete}
+use native.Mathlib.Decide.{ℕ-discrete, decLt}
 use native.Mathlib.Nat.{add-zero, zero-add, add-suc, suc-add, le-of-suc-le-suc}
 use lib.Dec.{ltb, eqb}
 use lib.ListN.{length, getD, take, drop}
 use lib.Seq.{drop-cons}
 use borrow.Author.Tests.{eqb-true, eq-eqb, ltb-true, lt-ltb, ne-eqb, le-ltb}
 use Rattle.model.specs.Lists.{all, any, elem, from, sum, select, keepIf, firstOr, pairwise, choices, prefixed, earlier}
-use Rattle.model.proofs.Bools.{and-left, and-right, and-intro, or-left, or-right, or-cases}
+use Rattle.model.proofs.Bools.{and-left, and-right, and-intro, or-left, or-right, or-cases, iff-eq, not-both}
 
 module _ {ℓ} {A : Type ℓ} where
   pub here : {x : A} {xs : List A} → List·Memᴰ x (x ∷ xs)
@@ -139,6 +139,16 @@ module _ {ℓ} {A : Type ℓ} where
   picks-choices done = List·Memᴰ·head refl
   picks-choices (pick {xs} {xss} m p) = in-prefixed xs (choices xss) m (picks-choices p)
 
+  pub picks-length : {xss : List (List A)} {t : List A} → Picks xss t → length t ≡ length xss
+  picks-length done = refl
+  picks-length (pick m p) = ap suc (picks-length p)
+
+  -- the element at a place
+  pub picks-at : {xss : List (List A)} {t : List A} → Picks xss t → (j : ℕ) (d : A) → j < length xss → List·Memᴰ (getD t j d) t × List·Memᴰ (getD t j d) (getD xss j [])
+  picks-at done j d h = absurd (omega arith)
+  picks-at (pick m p) zero d h = (here, m)
+  picks-at (pick m p) (suc j) d h = let k = picks-at p j d (le-of-suc-le-suc h) in (List·Memᴰ·tail (k .0), k .1)
+
   pub picks-append : {xss yss : List (List A)} {t u : List A} → Picks xss t → Picks yss u → Picks (xss ++ yss) (t ++ u)
   picks-append done q = q
   picks-append (pick m p) q = pick m (picks-append p q)
@@ -245,6 +255,9 @@ module _ {ℓ} {A : Type ℓ} (p : A → Bool) where
 
 -- ---- Numbers
 
+pub eqb-sym : (a b : ℕ) → eqb a b ≡ eqb b a
+eqb-sym a b = iff-eq (eqb a b) (eqb b a) (λ h. eq-eqb b a (sym (eqb-true a b h))) (λ h. eq-eqb a b (sym (eqb-true b a h)))
+
 pub elem-mem : (x : ℕ) (xs : List ℕ) → elem x xs ≡ true → List·Memᴰ x xs
 elem-mem x xs e = let k = any-at (eqb x) xs e in Memᴰ·cast (eqb-true x (k .0) (k .2)) (k .1)
 
@@ -323,7 +336,32 @@ select-from p i (suc n) end e =
     subst (First p i end) (firstOr-keepIf (p i) end i (select p (from (suc i) n)))
     (first-keep p i n end (firstOr end (select p (from (suc i) n))) e (select-from p (suc i) n end (omega arith)) (p i) refl)
 
+-- there is one such number
+pub first-unique : (p : ℕ → Bool) (i end x y : ℕ) → First p i end x → First p i end y → x ≡ y
+first-unique p i end x y f g = apart (decLt x y) (decLt y x)
+  where
+    apart : Dec (x < y) → Dec (y < x) → x ≡ y
+    apart (yes h) l = absurd (not-both (f .passes (omega (arith, g .to-end))) (g .none-before x (f .from-i) h))
+    apart (no h) (yes l) = absurd (not-both (g .passes (omega (arith, f .to-end))) (f .none-before y (g .from-i) l))
+    apart (no h) (no l) = omega arith
+
+-- some number of a range passes exactly if the first that passes lies in it
+pub any-first : (p q : ℕ → Bool) (i n end x : ℕ) → end ≡ i + n → ((k : ℕ) → i ≤ k → k < end → q k ≡ p k) → First p i end x → any q (from i n) ≡ ltb x end
+any-first p q i n end x e same f =
+    iff-eq (any q (from i n)) (ltb x end)
+    (λ h. let k = any-at q (from i n) h in let l = from-mem i n (k .0) (k .1) in lt-ltb x end (inside (k .0) (l .0) (omega arith) (k .2) (decLt x end)))
+    (λ h. let l = ltb-true x end h in any-intro q (from i n) (mem-from i n x (f .from-i) (omega arith)) (same x (f .from-i) l ∙ f .passes l))
+  where
+    inside : (k : ℕ) → i ≤ k → k < end → q k ≡ true → Dec (x < end) → x < end
+    inside k a b c (yes h) = h
+    inside k a b c (no h) = absurd (not-both c (same k a b ∙ f .none-before k a (omega arith)))
+
 -- ---- Maps, and the order of choices
+
+pub getD-map-in {ℓ κ} : {A : Type ℓ} {B : Type κ} (f : A → B) (xs : List A) (j : ℕ) (d : A) (e : B) → j < length xs → getD (map f xs) j e ≡ f (getD xs j d)
+getD-map-in f [] j d e h = absurd (omega arith)
+getD-map-in f (x ∷ xs) zero d e h = refl
+getD-map-in f (x ∷ xs) (suc j) d e h = getD-map-in f xs j d e (le-of-suc-le-suc h)
 
 module _ {ℓ κ} {A : Type ℓ} {B : Type κ} (f : A → B) where
   pub all-map : (p : B → Bool) (xs : List A) → all p (map f xs) ≡ all (λ (x : A). p (f x)) xs
@@ -381,6 +419,22 @@ pub earlier-above : (k x : ℕ) (ys : List ℕ) → k < length ys → getD ys k 
 earlier-above k x [] h l = absurd (omega arith)
 earlier-above zero x (y ∷ ys) h l = or-left (eqb y x && earlier ys []) (lt-ltb y x l)
 earlier-above (suc k) x (y ∷ ys) h l = earlier-cons y y ys (take k ys ++ (x ∷ [])) refl ∙ earlier-above k x ys (le-of-suc-le-suc h) l
+
+-- the order looks no further than the first list's length
+pub earlier-within : (xs ys : List ℕ) → earlier xs ys ≡ earlier xs (take (length xs) ys)
+earlier-within [] ys = refl
+earlier-within (x ∷ xs) [] = refl
+earlier-within (x ∷ xs) (y ∷ ys) = ap (λ (b : Bool). ltb x y || (eqb x y && b)) (earlier-within xs ys)
+
+-- what is nowhere less is not earlier
+pub earlier-least : (xs ys : List ℕ) → ((j : ℕ) → j < length xs → getD ys j 0 ≤ getD xs j 0) → earlier xs ys ≡ false
+earlier-least [] ys h = refl
+earlier-least (x ∷ xs) [] h = refl
+earlier-least (x ∷ xs) (y ∷ ys) h =
+    let l = h 0 (omega arith) in
+    ap (λ (b : Bool). b || (eqb x y && earlier xs ys)) (le-ltb x y l)
+    ∙ ap (λ (b : Bool). eqb x y && b) (earlier-least xs ys (λ j k. h (suc j) (omega arith)))
+    ∙ and-false (eqb x y)
 
 -- what is later by its first elements is later, however it goes on
 pub later-append : (xs t ys : List ℕ) → earlier ys xs ≡ true → earlier ys (xs ++ t) ≡ true

@@ -1,10 +1,10 @@
 -- Laws of replies: accepted or refused, the lowest empty relation, what the answer tells, and the sum of its counts.
-use mathlib.Core.Path.{_≡_, refl, _∙_, ap}
-use mathlib.Core.Bool.{Bool, true, false, cond}
-use mathlib.Core.Option.{Option}
+use mathlib.Core.Path.{_≡_, refl, sym, _∙_, ap}
+use mathlib.Core.Bool.{Bool, true, false, not, cond}
+use mathlib.Core.Option.{Option, none}
 use mathlib.Core.Logic.{_⊎_, inl, inr}
 use mathlib.Core.List.{List, _++_}
-use Prim.Native.Nat.{ℕ, _+_, _≤_, _<_}
+use Prim.Native.Nat.{ℕ, _+_, _-_, _≤_, _<_}
 use native.Mathlib.Omega.{arith}
 use native.Mathlib.Decide.{decLt}
 use lib.Dec.{ltb}
@@ -12,20 +12,20 @@ use lib.ListN.{length, drop}
 use borrow.Author.Tests.{lt-ltb, le-ltb}
 use Rattle.model.specs.declared.Counts.{Counts}
 use Rattle.model.specs.declared.Answer.the-variants.{Settled, Emptied}
-use Rattle.model.specs.TupleSet.{TupleSet, count, without}
-use Rattle.model.specs.Network.{Network, total}
-use Rattle.model.specs.Consistency.{supportList, needed}
-use Rattle.model.specs.LiveWords.{written}
-use Rattle.model.specs.Request.{Change, Instance, combinationsOf, Request, removes}
-use Rattle.model.specs.Fault.{firstFault, faults, accepts}
-use Rattle.model.specs.Reply.{Numbers, answerNumbers, Reply, isEmptied, lowestEmpty, answerFor, remainder, countsFor, leaving, accepted, refused, replyTo, reply}
+use Rattle.model.specs.TupleSet.{TupleSet, has, count, restrict, without}
+use Rattle.model.specs.Network.{Network, total, size, firstId}
+use Rattle.model.specs.Consistency.{isConsistent, supportList, needed}
+use Rattle.model.specs.LiveWords.{isLive, living, nextLive, written}
+use Rattle.model.specs.Request.{Change, filter, Instance, combinationsOf, Request, removes}
+use Rattle.model.specs.Fault.{firstFault, refusal, changeFaults, faultsOn, faults, testFaults, isNone, accepts}
+use Rattle.model.specs.Reply.{Numbers, answerNumbers, verdictNumbers, verdictFor, Reply, isEmptied, lowestEmpty, answerFor, remainder, countsFor, leaving, accepted, refused, replyTo, reply, testReply}
 use Rattle.model.specs.Promises.{Tells}
 use Rattle.model.proofs.Bools.{not-both}
-use Rattle.model.proofs.Lists.{First, select-from}
-use Rattle.model.proofs.Fault.{isNone-none, isNone-some}
+use Rattle.model.proofs.Lists.{First, select-from, any-first}
+use Rattle.model.proofs.Fault.{isNone-none, isNone-some, refusal-some, refusal-none, refusal-shared, refusal-own, refusal-neither}
 use Rattle.model.proofs.TupleSet.{without-count, without-length}
 use Rattle.model.proofs.Consistency.{filtered-length, filtered-count}
-use Rattle.model.proofs.LiveWords.{written-written}
+use Rattle.model.proofs.LiveWords.{living-has, nextLive-first, written-written}
 
 -- ---- Accepted or refused
 
@@ -36,6 +36,43 @@ reply-accepted q e = ap (λ (o : Option ℕ). replyTo o q) (isNone-none (firstFa
 pub reply-refused : (q : Request) → accepts q ≡ false → (n : ℕ) × (reply q ≡ refused n q)
 unfolding accepts reply
 reply-refused q e = let k = isNone-some (firstFault (faults q)) e in (k .0, ap (λ (o : Option ℕ). replyTo o q) (k .1))
+
+-- the reply from the numbers of two tests: of the faults that all change calls test, and of the change's own
+module _ (q : Request) where
+  abbrev shared : ℕ
+  shared = refusal (firstFault (faultsOn (q .given) (length (q .words)) (length (q .supports)) filter))
+
+  abbrev own : ℕ
+  own = refusal (firstFault (changeFaults ((q .given) .network) (q .change)))
+
+  pub reply-shared : (k : ℕ) → k ≡ shared → (k ≡ 0 → ⊥) → reply q ≡ refused k q
+  unfolding reply faults
+  reply-shared k e d =
+      ap (λ (o : Option ℕ). replyTo o q) (refusal-shared (q .given) (length (q .words)) (length (q .supports)) (q .change) k e d)
+
+  pub reply-own : 0 ≡ shared → (k : ℕ) → k ≡ own → (k ≡ 0 → ⊥) → reply q ≡ refused k q
+  unfolding reply faults
+  reply-own h k e d =
+      ap (λ (o : Option ℕ). replyTo o q) (refusal-own (q .given) (length (q .words)) (length (q .supports)) (q .change) h k e d)
+
+  pub accepts-neither : 0 ≡ shared → 0 ≡ own → accepts q ≡ true
+  unfolding accepts faults
+  accepts-neither h e = ap isNone (refusal-neither (q .given) (length (q .words)) (length (q .supports)) (q .change) h e)
+
+-- test's answer from the number of its first fault
+module _ (I : Instance) (ws : List ℕ) where
+  abbrev consistent : Bool
+  consistent = isConsistent (I .network) (combinationsOf I) (living (total (I .network)) ws)
+
+  pub testReply-refused : (k : ℕ) → k ≡ refusal (firstFault (testFaults I ws)) → (k ≡ 0 → ⊥) → testReply I ws ≡ (2, k)
+  unfolding testReply
+  testReply-refused k e d =
+      ap (λ (o : Option ℕ). verdictNumbers (verdictFor o consistent)) (refusal-some (firstFault (testFaults I ws)) k (sym e) d)
+
+  pub testReply-checked : 0 ≡ refusal (firstFault (testFaults I ws)) → testReply I ws ≡ verdictNumbers (verdictFor none consistent)
+  unfolding testReply testFaults
+  testReply-checked e =
+      ap (λ (o : Option ℕ). verdictNumbers (verdictFor o consistent)) (refusal-none (testFaults I ws) refl (sym e))
 
 -- what is not refused is accepted
 pub accepts-kind : (q : Request) (n : ℕ) → ((reply q) .answer) .kind ≡ n → n < 2 → (x : Bool) → accepts q ≡ x → accepts q ≡ true
@@ -48,13 +85,20 @@ pub lowestEmpty-first : (N : Network) (L : TupleSet) → First (isEmptied N L) 0
 unfolding lowestEmpty
 lowestEmpty-first N L = select-from (isEmptied N L) 0 (length (N .relations)) (length (N .relations)) (omega arith)
 
+-- a relation is emptied exactly if the next live id from its first one on lies past its last
+pub isEmptied-next : (N : Network) (ws : List ℕ) (r end : ℕ) → end ≡ firstId N r + size N r → end ≤ total N → isEmptied N (living (total N) ws) r ≡ not (ltb (nextLive ws (firstId N r) end) end)
+isEmptied-next N ws r end e h =
+    ap not
+    (any-first (isLive ws) (has (living (total N) ws)) (firstId N r) (size N r) end (nextLive ws (firstId N r) end) e
+    (λ g _ l. living-has (total N) ws g (omega arith)) (nextLive-first ws (firstId N r) end (omega arith)))
+
 -- ---- What the answer tells
 
-answer-emptied : (N : Network) (L : TupleSet) (k : Counts) → lowestEmpty N L < length (N .relations) → answerFor N L k ≡ Emptied (lowestEmpty N L) k
+pub answer-emptied : (N : Network) (L : TupleSet) (k : Counts) → lowestEmpty N L < length (N .relations) → answerFor N L k ≡ Emptied (lowestEmpty N L) k
 unfolding answerFor
 answer-emptied N L k h = rw (lt-ltb (lowestEmpty N L) (length (N .relations)) h)
 
-answer-settled : (N : Network) (L : TupleSet) (k : Counts) → length (N .relations) ≤ lowestEmpty N L → answerFor N L k ≡ Settled k
+pub answer-settled : (N : Network) (L : TupleSet) (k : Counts) → length (N .relations) ≤ lowestEmpty N L → answerFor N L k ≡ Settled k
 unfolding answerFor
 answer-settled N L k h = rw (le-ltb (lowestEmpty N L) (length (N .relations)) h)
 
@@ -118,6 +162,13 @@ module _ (I : Instance) where
   unfolding countsFor remainder
   countsFor-sum change S =
       omega (arith, without-count (removes (I .network) change) S, filtered-count (I .network) (combinationsOf I) (without (removes (I .network) change) S))
+
+  -- the counts by differences: of what lives at entry, what the change leaves of it, and what is left
+  pub countsFor-differences : (change : Change) (S : TupleSet) → countsFor I change S ≡ record { left = count (remainder I change S); withdrawn = count S - count (without (removes (I .network) change) S); deleted = count (without (removes (I .network) change) S) - count (remainder I change S) }
+  unfolding countsFor
+  countsFor-differences change S =
+      let e : count (restrict (removes (I .network) change) S) ≡ count S - count (without (removes (I .network) change) S) = omega (arith, without-count (removes (I .network) change) S) in
+      ap (λ (k : ℕ). record { left = count (remainder I change S); withdrawn = k; deleted = count (without (removes (I .network) change) S) - count (remainder I change S) }) e
 
   -- left + withdrawn + deleted is the live count at entry
   pub leaving-sum : (change : Change) (S L : TupleSet) (words supports : List ℕ) → let a = (leaving I L (countsFor I change S) words supports) .answer in a .left + a .withdrawn + a .deleted ≡ count S

@@ -4,24 +4,26 @@ use mathlib.Core.Path.{_≡_, refl, sym, _∙_, ap, subst}
 use mathlib.Core.Bool.{Bool, true, false, not}
 use mathlib.Core.Option.{Option, none, some, orElse, Option·getD}
 use mathlib.Core.List.{List, [], _∷_, _++_, map, map-append, map-id, append-nil, append-assoc, head?, List·Memᴰ, List·Memᴰ·tail, Memᴰ·append-left, Memᴰ·append-right, Memᴰ·of-map}
+use mathlib.Core.Logic.{⊎-elim}
 use Prim.Native.Nat.{ℕ, suc, _+_, _-_, _≤_, _<_}
 use native.Mathlib.Omega.{arith}
+use native.Mathlib.Decide.{ℕ-discrete}
 use lib.Dec.{ltb}
-use lib.ListN.{length, replicate}
+use lib.ListN.{length, getD, take, replicate, length-map}
 use borrow.Author.Tests.{not-true}
 use Rattle.model.specs.Limits.{noSupport}
 use Rattle.model.specs.Lists.{from, all, select, pairwise, choices, prefixed, earlier}
-use Rattle.model.specs.TupleSet.{TupleSet, has}
-use Rattle.model.specs.Network.{Network, total, idsOf, indexOf, relationOf}
+use Rattle.model.specs.TupleSet.{TupleSet, has, Inside}
+use Rattle.model.specs.Network.{Network, size, total, firstId, idsOf, indexOf, relationOf}
 use Rattle.model.specs.Agreement.{agree}
 use Rattle.model.specs.Combination.{Combination}
 use Rattle.model.specs.LiveWords.{living, nextLive}
 use Rattle.model.specs.Support.{candidates, isSupport, supports, firstSupport, firstAmong, supportFrom, completion}
 use Rattle.model.proofs.Bools.{not-both, and-intro}
-use Rattle.model.proofs.Lists.{here, all-at, all-intro, all-map, pairwise-at, pairwise-cross, Picks, choices-picks, picks-append, select-append, select-all, select-mem, select-none, head-append, firstOr-head, from-append, from-mem, earlier-append}
+use Rattle.model.proofs.Lists.{here, all-at, all-intro, all-map, pairwise-at, pairwise-cross, Picks, choices-picks, picks-append, select-append, select-all, select-mem, select-none, head-append, firstOr-head, from-append, from-mem, earlier-append, earlier-within, earlier-least, later-earlier}
 use Rattle.model.proofs.Agreement.{agree-sym}
 use Rattle.model.proofs.LiveWords.{living-has, nextLive-first}
-use Rattle.model.proofs.Support.{isSupport-self, isSupport-live, isSupport-agree, picks-same}
+use Rattle.model.proofs.Support.{isSupport-self, isSupport-live, isSupport-agree, isSupport-mono, picks-same, candidates-length, candidates-own, Supported, firstSupport-least}
 
 module _ (N : Network) (S : TupleSet) (g : ℕ) (low : List ℕ) where
   abbrev late : List ℕ → Bool
@@ -191,6 +193,35 @@ module _ (N : Network) (S : TupleSet) (g : ℕ) (low : List ℕ) where
       (all-map (map (indexOf N)) late (select (isSupport N S g) (candidates N c))
       ∙ all-intro (λ (t : List ℕ). late (map (indexOf N) t)) (select (isSupport N S g) (candidates N c))
       (λ t m. let s = select-mem (isSupport N S g) (candidates N c) m in ap not (f t (s .0) (s .1))))))
+
+  -- ---- Where a search may begin
+
+  -- at the first support of a larger set: no support before it can come back while tuples only go
+  pub supportFrom-resume : (c : Combination) (T : TupleSet) → Inside S T → Supported N T c g → take (length c) low ≡ firstSupport N T c g → firstSupport N S c g ≡ Option·getD (supportFrom N S c g low) (replicate (length c) noSupport)
+  supportFrom-resume c T inside had e =
+      let f = firstSupport-least N T c g had in
+      let is-low : take (length c) low ≡ map (indexOf N) (f .0) = e ∙ f .3 in
+      supportFrom-first c
+      (λ u m s.
+      earlier-within (map (indexOf N) u) low
+      ∙ ap (λ (n : ℕ). earlier (map (indexOf N) u) (take n low)) (length-map u (indexOf N) ∙ candidates-length N c m)
+      ∙ ap (earlier (map (indexOf N) u)) is-low
+      ∙ ⊎-elim
+      (λ q. ap (λ (t : List ℕ). earlier (map (indexOf N) t) (map (indexOf N) (f .0))) q ∙ earlier-least (map (indexOf N) (f .0)) (map (indexOf N) (f .0)) (λ j l. omega arith))
+      (λ l. later-earlier (map (indexOf N) u) (map (indexOf N) (f .0)) l)
+      (f .4 u m (isSupport-mono N S T inside g u s)))
+
+  -- at the index of g in its own place and 0 elsewhere
+  pub supportFrom-start : (c : Combination) (place own : ℕ) → pairwise ltb c ≡ true → place < length c → own < size N (getD c place 0) → g ≡ firstId N (getD c place 0) + own → getD low place 0 ≡ own → ((j : ℕ) → (j ≡ place → ⊥) → getD low j 0 ≡ 0) → firstSupport N S c g ≡ Option·getD (supportFrom N S c g low) (replicate (length c) noSupport)
+  supportFrom-start c place own rises h l is-g at-place elsewhere =
+      supportFrom-first c
+      (λ u m s. earlier-least (map (indexOf N) u) low (λ j k. at u m s j (ℕ-discrete j place)))
+    where
+      at : (u : List ℕ) → List·Memᴰ u (candidates N c) → isSupport N S g u ≡ true → (j : ℕ) → Dec (j ≡ place) → getD low j 0 ≤ getD (map (indexOf N) u) j 0
+      at u m s j (yes q) =
+          let e : getD (map (indexOf N) u) place 0 ≡ own = candidates-own N c rises m place own h l (subst (λ (x : ℕ). List·Memᴰ x u) is-g (isSupport-self N S g u s)) in
+          rw q (omega arith)
+      at u m s j (no d) = let e = elsewhere j d in omega arith
 
 -- ---- From one live id to the next
 

@@ -3,11 +3,11 @@ use mathlib.Core.Path.{_≡_, refl, sym, _∙_, ap, subst}
 use mathlib.Core.Bool.{Bool, true, false, _&&_}
 use mathlib.Core.List.{List, [], _∷_, map, List·Memᴰ, List·Memᴰ·head, List·Memᴰ·tail, List·Memᴰ·cases-cons, List·Memᴰ·append-cases, List·Memᴰ·not-nil, Memᴰ·append-right}
 use mathlib.Core.Logic.{_⊎_, inl, inr, ⊎-elim}
-use Prim.Native.Nat.{ℕ, zero, suc, _-_, _≤_, _<_}
+use Prim.Native.Nat.{ℕ, zero, suc, _+_, _-_, _≤_, _<_}
 use native.Mathlib.Omega.{arith}
 use borrow.Author.Tests.{ltb-true}
 use lib.Dec.{ltb}
-use lib.ListN.{length, replicate, length-map, length-replicate}
+use lib.ListN.{length, getD, replicate, length-map, length-replicate}
 use Rattle.model.specs.Limits.{noSupport}
 use Rattle.model.specs.Lists.{from, all, elem, select, firstOr, pairwise, earlier, choices}
 use Rattle.model.specs.TupleSet.{TupleSet, has, Inside}
@@ -16,8 +16,8 @@ use Rattle.model.specs.Agreement.{agree}
 use Rattle.model.specs.Combination.{Combination}
 use Rattle.model.specs.Support.{candidates, isSupport, supports, firstSupport}
 use Rattle.model.proofs.Bools.{and-left, and-right, and-intro, not-both}
-use Rattle.model.proofs.Lists.{here, all-at, all-intro, all-more, all-map, any-intro, pairwise-after, pairwise-map, elem-mem, mem-elem, select-mem, select-none, Cut, select-cut, Picks, done, pick, choices-picks, picks-choices, map-choices, choices-earlier, from-rises}
-use Rattle.model.proofs.Network.{relationOf-ids}
+use Rattle.model.proofs.Lists.{here, all-at, all-intro, all-more, all-map, any-intro, pairwise-after, pairwise-map, elem-mem, mem-elem, select-mem, select-none, Cut, select-cut, Picks, done, pick, choices-picks, picks-choices, picks-length, picks-at, getD-map-in, map-choices, choices-earlier, from-mem, from-rises}
+use Rattle.model.proofs.Network.{relationOf-ids, relationOf-at, indexOf-at}
 
 module _ (N : Network) where
   -- ---- The parts of a support
@@ -90,6 +90,35 @@ module _ (N : Network) where
   pub candidates-member : (c : Combination) {t : List ℕ} {x : ℕ} → List·Memᴰ t (candidates N c) → List·Memᴰ x t → List·Memᴰ (relationOf N x) c
   candidates-member c m n = picks-member c (candidates-picks c m) n
 
+  pub candidates-length : (c : Combination) {t : List ℕ} → List·Memᴰ t (candidates N c) → length t ≡ length c
+  candidates-length c m = picks-length (candidates-picks c m) ∙ length-map c (idsOf N)
+
+  indexOf-ids : (r : ℕ) {g : ℕ} → List·Memᴰ g (idsOf N r) → indexOf N g ≡ g - firstId N r
+  unfolding indexOf
+  indexOf-ids r {g} m = ap (λ (s : ℕ). g - firstId N s) (relationOf-ids N r m)
+
+  -- a candidate's tuple at place j is one of the member at j
+  pub candidates-at : (c : Combination) {t : List ℕ} → List·Memᴰ t (candidates N c) → (j : ℕ) → j < length c → List·Memᴰ (getD t j 0) t × List·Memᴰ (getD t j 0) (idsOf N (getD c j 0))
+  candidates-at c {t} m j h =
+      let k = picks-at (candidates-picks c m) j 0 (omega (arith, length-map c (idsOf N))) in
+      (k .0, subst (List·Memᴰ (getD t j 0)) (getD-map-in (idsOf N) c j 0 [] h) (k .1))
+
+  -- its index is one of that member's
+  pub candidates-index : (c : Combination) {t : List ℕ} → List·Memᴰ t (candidates N c) → (j : ℕ) → j < length c → getD (map (indexOf N) t) j 0 < size N (getD c j 0)
+  candidates-index c {t} m j h =
+      let k = candidates-at c m j h in
+      let b = from-mem (firstId N (getD c j 0)) (size N (getD c j 0)) (getD t j 0) (k .1) in
+      let e = getD-map-in (indexOf N) t j 0 0 (omega (arith, candidates-length c m)) ∙ indexOf-ids (getD c j 0) (k .1) in
+      omega arith
+
+  -- a candidate that holds a tuple of the member at j has it at j
+  pub candidates-own : (c : Combination) {t : List ℕ} → pairwise ltb c ≡ true → List·Memᴰ t (candidates N c) → (j x : ℕ) → j < length c → x < size N (getD c j 0) → List·Memᴰ (firstId N (getD c j 0) + x) t → getD (map (indexOf N) t) j 0 ≡ x
+  candidates-own c {t} rises m j x h l n =
+      let r = getD c j 0 in
+      let k = candidates-at c m j h in
+      let same : getD t j 0 ≡ firstId N r + x = picks-same c rises (candidates-picks c m) (k .0) n (relationOf-ids N r (k .1) ∙ sym (relationOf-at N r x l)) in
+      getD-map-in (indexOf N) t j 0 0 (omega (arith, candidates-length c m)) ∙ ap (indexOf N) same ∙ indexOf-at N r x l
+
   -- ---- The first support
 
   -- tuple g has a support in c
@@ -111,10 +140,6 @@ module _ (N : Network) where
       (r .0, ap (λ (ts : List (List ℕ)). firstOr (replicate (length c) noSupport) (map (map (indexOf N)) ts)) (r .1))
 
   -- ---- The order of candidates, by indices
-
-  indexOf-ids : (r : ℕ) {g : ℕ} → List·Memᴰ g (idsOf N r) → indexOf N g ≡ g - firstId N r
-  unfolding indexOf
-  indexOf-ids r {g} m = ap (λ (s : ℕ). g - firstId N s) (relationOf-ids N r m)
 
   -- f of each number of a range that begins at i
   indices-from : (f : ℕ → ℕ) (i j n : ℕ) → ((g : ℕ) → List·Memᴰ g (from i n) → f g ≡ g - j) → j ≤ i → map f (from i n) ≡ from (i - j) n
@@ -170,13 +195,6 @@ module _ (N : Network) where
       )
 
   -- ---- Lengths
-
-  picks-length : {A : Type 0} {xss : List (List A)} {t : List A} → Picks xss t → length t ≡ length xss
-  picks-length done = refl
-  picks-length (pick m p) = ap suc (picks-length p)
-
-  candidates-length : (c : Combination) {t : List ℕ} → List·Memᴰ t (candidates N c) → length t ≡ length c
-  candidates-length c m = picks-length (candidates-picks c m) ∙ length-map c (idsOf N)
 
   first-length : (c : Combination) (ts : List (List ℕ)) → ((t : List ℕ) → List·Memᴰ t ts → length t ≡ length c) → length (firstOr (replicate (length c) noSupport) (map (map (indexOf N)) ts)) ≡ length c
   first-length c [] f = length-replicate (length c) noSupport

@@ -60,6 +60,16 @@ not-either false u t = refl
 pub without-length : (t : ℕ → Bool) (S : TupleSet) → length (without t S) ≡ length S
 without-length t S = restrict-length (λ g. not (t g)) S
 
+-- tests that say the same of the set's tuples remove the same
+pub without-cong : (t u : ℕ → Bool) (S : TupleSet) → ((g : ℕ) → has S g ≡ true → t g ≡ u g) → without t S ≡ without u S
+without-cong t u S f =
+    ext-getD false (without t S) (without u S) (without-length t S ∙ sym (without-length u S))
+    (λ g _. restrict-has (λ g. not (t g)) S g ∙ same g (has S g) refl ∙ sym (restrict-has (λ g. not (u g)) S g))
+  where
+    same : (g : ℕ) (x : Bool) → has S g ≡ x → (x && not (t g)) ≡ (x && not (u g))
+    same g true e = ap not (f g e)
+    same g false e = refl
+
 -- removing nothing changes nothing
 pub without-none : (S : TupleSet) → without (λ (g : ℕ). false) S ≡ S
 without-none S =

@@ -8,7 +8,7 @@ use lib.Dec.{eqb, ltb}
 use lib.ListN.{length, replicate}
 use borrow.Author.Tests.{ne-eqb}
 use Rattle.model.specs.Limits.{noSupport}
-use Rattle.model.specs.Lists.{all, firstOr, pairwise}
+use Rattle.model.specs.Lists.{firstOr, pairwise}
 use Rattle.model.specs.TupleSet.{TupleSet, has, without, Inside}
 use Rattle.model.specs.Network.{Network, relationOf, indexOf}
 use Rattle.model.specs.Combination.{Combination}

@@ -16,7 +16,7 @@ use Rattle.network.specs.declared.agreement.Place.{Place}
 use Rattle.network.specs.Layout.{widthIn, Laid, placeAt}
 use Rattle.network.proofs.Starts.{start-at}
 
-length-part : (from to : ℕ) (l : List ℕ) → from ≤ to → to ≤ length l → length (take (to - from) (drop from l)) ≡ to - from
+pub length-part : (from to : ℕ) (l : List ℕ) → from ≤ to → to ≤ length l → length (take (to - from) (drop from l)) ≡ to - from
 length-part from to l h k =
     let e : length (drop from l) ≡ length l - from = length-drop from l in
     length-take-le (to - from) (drop from l) (omega arith)
@@ -53,7 +53,7 @@ module _ (N : Network) (vs ws : List ℕ) (laid : Laid N vs ws) (r x : ℕ) (h :
       let l = before-within variablesIn (N .relations) r exists in
       omega (arith, (faultless N (laid .faultless)) .variables)
 
-  tuple-fits : before valuesIn (N .relations) r + x * width N r + width N r ≤ length (N .values)
+  pub tuple-fits : before valuesIn (N .relations) r + x * width N r + width N r ≤ length (N .values)
   tuple-fits =
       let l = before-within valuesIn (N .relations) r exists in
       let m : width N r * suc x ≤ width N r * size N r = mul-le-mul-left (width N r) h in

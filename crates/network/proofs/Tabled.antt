@@ -48,10 +48,10 @@ wide-at (R ∷ Rs) h zero k = and-left (hasVariable R) (all hasVariable Rs) h
 wide-at (R ∷ Rs) h (suc r) k = wide-at Rs (and-right (hasVariable R) (all hasVariable Rs) h) r (le-of-suc-le-suc k)
 
 module _ (N : Network) (vs ws : List ℕ) (laid : Laid N vs ws) where
-  variable-start : (r : ℕ) → r < 65 → getD vs r 0 ≡ before variablesIn (N .relations) r
+  pub variable-start : (r : ℕ) → r < 65 → getD vs r 0 ≡ before variablesIn (N .relations) r
   variable-start r h = ap (λ (l : List ℕ). getD l r 0) (laid .variables) ∙ start-at variablesIn (N .relations) r h
 
-  value-start : (r : ℕ) → r < 65 → getD ws r 0 ≡ before valuesIn (N .relations) r
+  pub value-start : (r : ℕ) → r < 65 → getD ws r 0 ≡ before valuesIn (N .relations) r
   value-start r h = ap (λ (l : List ℕ). getD l r 0) (laid .values) ∙ start-at valuesIn (N .relations) r h
 
   few : length (N .relations) ≤ 64
@@ -61,7 +61,7 @@ module _ (N : Network) (vs ws : List ℕ) (laid : Laid N vs ws) where
   every = all-variables (N .relations) ((faultless N (laid .faultless)) .widths)
 
   module _ (r : ℕ) (h : r < length (N .relations)) where
-    width-at : widthIn vs r ≡ (getD (N .relations) r noRelation) .width
+    pub width-at : widthIn vs r ≡ (getD (N .relations) r noRelation) .width
     width-at =
         let l = few in
         let a = variable-start r (omega arith) in

@@ -1,7 +1,7 @@
 -- Laws of one member's turn in the search: the walk from live id to live id, and what is known once one tuple more is chosen.
 -- From the laws of the walk, of the tuples chosen and of the search.
 use mathlib.Core.Path.{_≡_, refl, sym, _∙_, ap, ap₂, subst}
-use mathlib.Core.Bool.{Bool, true, false, _&&_, false≢true, true≢false}
+use mathlib.Core.Bool.{Bool, true, false, _&&_, false≢true}
 use mathlib.Core.Option.{Option, none, some, orElse}
 use mathlib.Core.List.{List, [], _∷_, _++_, map, List·Memᴰ, List·Memᴰ·tail, List·Memᴰ·eq-of-singleton}
 use Prim.Native.Nat.{ℕ, suc, _+_, _-_, _*_, _≤_, _<_}
@@ -10,67 +10,23 @@ use native.Mathlib.Decide.{ℕ-discrete}
 use native.Mathlib.Omega.{arith}
 use lib.Dec.{ltb, eqb}
 use lib.ListN.{length, getD, take, drop, set}
-use lib.Seq.{take-suc, take-suc-set, drop-length, getD-set-same, getD-set-other}
+use lib.Seq.{take-suc, take-suc-set, getD-set-same, getD-set-other}
 use borrow.Author.Tests.{eqb-true, eqb-false, eq-eqb, ltb-true, ltb-false}
 use Rattle.model.specs.Lists.{all, pairwise, earlier}
-use Rattle.model.specs.Network.{size, total, firstId, idsOf, indexOf, relationOf}
+use Rattle.model.specs.Network.{size, total, firstId, idsOf, relationOf}
 use Rattle.model.specs.Agreement.{Cell, cells, cellsOf, agreeing, agree}
 use Rattle.model.specs.TupleSet.{has}
 use Rattle.model.specs.LiveWords.{isLive, nextLive}
-use Rattle.model.specs.Support.{supportFrom, completion}
+use Rattle.model.specs.Support.{completion}
 use Rattle.model.proofs.Bools.{and-left, and-intro, not-both}
-use Rattle.model.proofs.Lists.{all-at, all-append, pairwise-append, earlier-take, earlier-above, later-append, later-earlier}
+use Rattle.model.proofs.Lists.{all-at, all-append, pairwise-append, earlier-above, later-append}
 use Rattle.model.proofs.Network.{relationOf-at}
 use Rattle.model.proofs.Agreement.{agree-sym}
 use Rattle.model.proofs.LiveWords.{living-has, nextLive-first}
-use Rattle.model.proofs.Support.{isSupport-intro}
-use Rattle.model.proofs.Search.{completion-start, completion-done, completion-clash, reach, reach-none, reach-step, reach-live}
+use Rattle.model.proofs.Search.{completion-clash, reach, reach-none, reach-step, reach-live}
 use Rattle.support.specs.Search.{Search, network, live, idAt, seeker, Ready, chosenIds, Begun, Seeking, fits, Trial}
-use Rattle.support.proofs.Chosen.{chosen-mem, chosen-set, chosen-indices, fits-own, fits-other}
+use Rattle.support.proofs.Chosen.{chosen-set, fits-own, fits-other}
 use Rattle.support.proofs.Walk.{members-differ, few-tuples, member-below, member-start, member-within, span, span-inside, walk-whole}
-
--- ---- No member has its tuple yet
-
-pub begun-none : (Q : Search) (chosen : List ℕ) → Begun Q 0 true chosen
-unfolding chosenIds
-begun-none Q chosen =
-    record {
-      depth = omega arith;
-      within = λ j l. absurd (omega arith);
-      own = λ l. absurd (omega arith);
-      live = refl;
-      pairs = refl;
-      seeker = λ l. refl;
-      at-low = λ e. refl;
-      past-low = λ e. absurd (true≢false e);
-    }
-
--- what there is to find then is the first support at or after the bound
-pub sought-first : (Q : Search) (chosen : List ℕ) → completion (network Q) (live Q) (seeker Q) (Q .low) (chosenIds (network Q) (Q .members) chosen 0) (map (idsOf (network Q)) (drop 0 (Q .members))) ≡ supportFrom (network Q) (live Q) (Q .members) (seeker Q) (Q .low)
-unfolding chosenIds
-sought-first Q chosen = completion-start (network Q) (live Q) (seeker Q) (Q .low) (Q .members)
-
--- ---- Every member has its tuple
-
-module _ (Q : Search) (R : Ready Q) (resumes : Bool) (chosen : List ℕ) (sized : length chosen ≡ 4) where
-  abbrev all-ids : List ℕ
-  all-ids = chosenIds (network Q) (Q .members) chosen (length (Q .members))
-
-  late : (b : Bool) → resumes ≡ b → Begun Q (length (Q .members)) resumes chosen → earlier (take (length (Q .members)) chosen) (Q .low) ≡ false
-  late true e B = ap (λ (is : List ℕ). earlier is (Q .low)) (B .at-low e) ∙ earlier-take (length (Q .members)) (Q .low)
-  late false e B = later-earlier (take (length (Q .members)) chosen) (Q .low) (B .past-low e)
-
-  pub turn-done : (k : ℕ) → k ≡ length (Q .members) → Begun Q k resumes chosen → completion (network Q) (live Q) (seeker Q) (Q .low) (chosenIds (network Q) (Q .members) chosen k) (map (idsOf (network Q)) (drop k (Q .members))) ≡ some (take (length (Q .members)) chosen)
-  turn-done k e B₀ =
-      let N = network Q in
-      let c = Q .members in
-      let B : Begun Q (length c) resumes chosen = subst (λ (j : ℕ). Begun Q j resumes chosen) e B₀ in
-      let names : map (indexOf N) all-ids ≡ take (length c) chosen = chosen-indices N c chosen (length c) (omega (arith, R .few)) (B .within) in
-      let own-in : List·Memᴰ (seeker Q) all-ids = subst (λ (x : ℕ). List·Memᴰ (idAt N c (Q .place) x) all-ids) (B .own (R .place)) (chosen-mem N c chosen (length c) (Q .place) (R .place)) in
-      rw (e, drop-length c)
-      (completion-done N (live Q) (seeker Q) (Q .low) all-ids (isSupport-intro N (live Q) (seeker Q) all-ids own-in (B .live) (B .pairs))
-      (ap (λ (is : List ℕ). earlier is (Q .low)) names ∙ late resumes refl B)
-      ∙ ap {B = Option (List ℕ)} some names)
 
 -- ---- The walk from live id to live id
 
@@ -96,7 +52,7 @@ pub record Come (Q : Search) (k : ℕ) (resumes : Bool) (chosen : List ℕ) (g :
   pub rest : left Q k resumes chosen g ≡ sought Q k chosen
 
 -- what `span_of` asks
-pub span-asks : (Q : Search) (k : ℕ) (R : Ready Q) → k < length (Q .members) → (getD (Q .members) k 0 < 64) × ((getD (Q .tupleStarts) (getD (Q .members) k 0) 0 + Q .own + 1 < 65536) × (getD (Q .tupleStarts) (getD (Q .members) k 0) 0 + getD (Q .low) k 0 < 65536))
+pub span-asks : (Q : Search) (k : ℕ) (R : Ready Q) → k < length (Q .members) → (getD (Q .members) k 0 < 64) × ((getD (Q .tupleStarts) (getD (Q .members) k 0) 0 + Q .own < 65535) × (getD (Q .tupleStarts) (getD (Q .members) k 0) 0 + getD (Q .low) k 0 < 65535))
 span-asks Q k R inside =
     let m = member-start Q R k inside in
     let w = member-within Q R k inside in

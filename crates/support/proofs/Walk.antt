@@ -12,7 +12,7 @@ use lib.ListN.{length, getD, take, drop, take-append-drop}
 use lib.Seq.{take-suc, drop-cons}
 use borrow.Author.Tests.{ltb-true, eqb-true}
 use Rattle.model.specs.Lists.{from, all, pairwise, earlier}
-use Rattle.model.specs.Network.{size, total, firstId, idsOf, indexOf, relationOf, tuplesIn, before}
+use Rattle.model.specs.Network.{size, total, firstId, idsOf, indexOf, relationOf, tuplesIn}
 use Rattle.model.specs.Support.{completion}
 use Rattle.model.proofs.Bools.{and-left, and-right}
 use Rattle.model.proofs.Lists.{here, all-getD, pairwise-getD, mem-from, picks-append, pick, done, earlier-below}

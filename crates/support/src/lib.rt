@@ -36,26 +36,20 @@ fn span_of(
     resumes: bool,
     from: u16,
 ) -> Span
-    requires { ⌜ (r < 64) × ((getD (now «tuple_starts») r 0 + own + 1 < 65536) × (getD (now «tuple_starts») r 0 + from < 65536)) ⌝ }
+    requires { ⌜ (r < 64) × ((getD (now «tuple_starts») r 0 + own < 65535) × (getD (now «tuple_starts») r 0 + from < 65535)) ⌝ }
     ensures { λ s. ⌜ s ≡ spanAt (now («tuple_starts» .entry)) r alone own resumes from ⌝ }
 {
     let relation = wide(r);
     let first = tuple_starts[relation];
     if alone {
         let start = first + own;
-        return Span {
-            first,
-            start,
-            end: start + 1,
-        };
+        let end = start + 1;
+        return Span { first, start, end };
     }
     let end = tuple_starts[relation + 1];
     if resumes {
-        return Span {
-            first,
-            start: first + from,
-            end,
-        };
+        let start = first + from;
+        return Span { first, start, end };
     }
     Span {
         first,

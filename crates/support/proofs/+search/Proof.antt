@@ -8,14 +8,14 @@ use Prim.Native.Nat.{ℕ, _+_, _-_, _<_}
 use native.Mathlib.Omega.{arith}
 use lib.Dec.{eqb}
 use lib.ListN.{length, getD, take, set}
-use borrow.Author.Needs.{needs}
 use borrow.Kind.Array.{eInt, good-length}
 use mir.Syntax.{w16}
 use borrow.Fn.Kinds.{In}
 use borrow.Fn.PlainCycle.{Measures, is, falls, and}
 use Rattle.support.specs.declared.Span.{Span}
 use Rattle.support.specs.Search.{Search, searching, Begun, Seeking, answer}
-use Rattle.support.proofs.Turn.{turn-done, onward, Come, span-asks, Turn, walk-asks, walk-forward, come-first, come-from, come-none, come-found, next-ahead, come-next, trial, come-clash, onward-more, come-more}
+use Rattle.support.proofs.Ends.{turn-done}
+use Rattle.support.proofs.Turn.{onward, Come, span-asks, Turn, walk-asks, walk-forward, come-first, come-from, come-none, come-found, next-ahead, come-next, trial, come-clash, onward-more, come-more}
 use Rattle.live.proofs.next.Reads as next-reads
 use Rattle.support.proofs.fits.Reads as fits-reads
 use Rattle.support.proofs.span_of.Reads as span-of-reads

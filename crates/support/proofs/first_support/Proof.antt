@@ -8,7 +8,7 @@ use borrow.Author.Needs.{needs}
 use Rattle.model.proofs.Agreement.{cellsOf-at}
 use Rattle.network.proofs.Places.{Within, below-limit, rises, place-within, place-lengths, place-cells}
 use Rattle.support.specs.Search.{Search, searching, network}
-use Rattle.support.proofs.Turn.{begun-none, sought-first}
+use Rattle.support.proofs.Ends.{begun-none, sought-first}
 use Rattle.support.proofs.first_support.Statement.{statement}
 use Rattle.support.proofs.first_support.Tie as tie
 

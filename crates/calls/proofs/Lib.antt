@@ -1,0 +1,6 @@
+-- The laws of the crate's definitions.
+pub mod Instance
+pub mod Struck
+pub mod Columns
+pub mod Tables
+pub mod Change

@@ -1,0 +1,61 @@
+-- Laws of the search's two ends: no member has its tuple yet, and every member has its tuple.
+-- From what a search asks, the laws of the tuples chosen and of the search.
+use mathlib.Core.Path.{_≡_, refl, _∙_, ap, subst}
+use mathlib.Core.Bool.{Bool, true, false, true≢false}
+use mathlib.Core.Option.{Option, some}
+use mathlib.Core.List.{List, map, List·Memᴰ}
+use Prim.Native.Nat.{ℕ}
+use native.Mathlib.Omega.{arith}
+use lib.ListN.{length, take, drop}
+use lib.Seq.{drop-length}
+use Rattle.model.specs.Lists.{earlier}
+use Rattle.model.specs.Network.{idsOf, indexOf}
+use Rattle.model.specs.Support.{supportFrom, completion}
+use Rattle.model.proofs.Lists.{earlier-take, later-earlier}
+use Rattle.model.proofs.Support.{isSupport-intro}
+use Rattle.model.proofs.Search.{completion-start, completion-done}
+use Rattle.support.specs.Search.{Search, network, live, idAt, seeker, Ready, chosenIds, Begun}
+use Rattle.support.proofs.Chosen.{chosen-mem, chosen-indices}
+
+-- ---- No member has its tuple yet
+
+pub begun-none : (Q : Search) (chosen : List ℕ) → Begun Q 0 true chosen
+unfolding chosenIds
+begun-none Q chosen =
+    record {
+      depth = omega arith;
+      within = λ j l. absurd (omega arith);
+      own = λ l. absurd (omega arith);
+      live = refl;
+      pairs = refl;
+      seeker = λ l. refl;
+      at-low = λ e. refl;
+      past-low = λ e. absurd (true≢false e);
+    }
+
+-- what there is to find then is the first support at or after the bound
+pub sought-first : (Q : Search) (chosen : List ℕ) → completion (network Q) (live Q) (seeker Q) (Q .low) (chosenIds (network Q) (Q .members) chosen 0) (map (idsOf (network Q)) (drop 0 (Q .members))) ≡ supportFrom (network Q) (live Q) (Q .members) (seeker Q) (Q .low)
+unfolding chosenIds
+sought-first Q chosen = completion-start (network Q) (live Q) (seeker Q) (Q .low) (Q .members)
+
+-- ---- Every member has its tuple
+
+module _ (Q : Search) (R : Ready Q) (resumes : Bool) (chosen : List ℕ) (sized : length chosen ≡ 4) where
+  abbrev all-ids : List ℕ
+  all-ids = chosenIds (network Q) (Q .members) chosen (length (Q .members))
+
+  late : (b : Bool) → resumes ≡ b → Begun Q (length (Q .members)) resumes chosen → earlier (take (length (Q .members)) chosen) (Q .low) ≡ false
+  late true e B = ap (λ (is : List ℕ). earlier is (Q .low)) (B .at-low e) ∙ earlier-take (length (Q .members)) (Q .low)
+  late false e B = later-earlier (take (length (Q .members)) chosen) (Q .low) (B .past-low e)
+
+  pub turn-done : (k : ℕ) → k ≡ length (Q .members) → Begun Q k resumes chosen → completion (network Q) (live Q) (seeker Q) (Q .low) (chosenIds (network Q) (Q .members) chosen k) (map (idsOf (network Q)) (drop k (Q .members))) ≡ some (take (length (Q .members)) chosen)
+  turn-done k e B₀ =
+      let N = network Q in
+      let c = Q .members in
+      let B : Begun Q (length c) resumes chosen = subst (λ (j : ℕ). Begun Q j resumes chosen) e B₀ in
+      let names : map (indexOf N) all-ids ≡ take (length c) chosen = chosen-indices N c chosen (length c) (omega (arith, R .few)) (B .within) in
+      let own-in : List·Memᴰ (seeker Q) all-ids = subst (λ (x : ℕ). List·Memᴰ (idAt N c (Q .place) x) all-ids) (B .own (R .place)) (chosen-mem N c chosen (length c) (Q .place) (R .place)) in
+      rw (e, drop-length c)
+      (completion-done N (live Q) (seeker Q) (Q .low) all-ids (isSupport-intro N (live Q) (seeker Q) all-ids own-in (B .live) (B .pairs))
+      (ap (λ (is : List ℕ). earlier is (Q .low)) names ∙ late resumes refl B)
+      ∙ ap {B = Option (List ℕ)} some names)
