@@ -1,11 +1,11 @@
 -- Laws of pairs of combination and member: their combination is listed and rises, their numbers lie within the list and apart.
 -- From what the filter asks of its lists, and the model's laws of combinations and of where pairs' numbers begin.
-use mathlib.Core.Path.{_≡_, refl, sym, _∙_, ap, subst}
+use mathlib.Core.Path.{_≡_, sym, _∙_, ap, subst}
 use mathlib.Core.Bool.{true}
 use mathlib.Core.Logic.{_⊎_, inl, inr}
-use mathlib.Core.List.{List, [], _∷_, List·Memᴰ, List·Memᴰ·head, List·Memᴰ·tail, Memᴰ·cast}
-use Prim.Native.Nat.{ℕ, zero, suc, _+_, _*_, _/_, _%_, _≤_, _<_}
-use native.Mathlib.Nat.{div-lt-iff-lt-mul, div-add-mod', mod-lt, mul-le-mul-right, le-of-suc-le-suc}
+use mathlib.Core.List.{List, [], List·Memᴰ, Memᴰ·cast}
+use Prim.Native.Nat.{ℕ, suc, _+_, _*_, _/_, _%_, _≤_, _<_}
+use native.Mathlib.Nat.{div-lt-iff-lt-mul, div-add-mod', mod-lt, mul-le-mul-right}
 use native.Mathlib.Decide.{decLt, ℕ-discrete}
 use native.Mathlib.Omega.{arith}
 use lib.Dec.{ltb}
@@ -14,7 +14,7 @@ use lib.Seq.{getD-take, getD-drop}
 use Rattle.model.specs.Lists.{all, pairwise}
 use Rattle.model.specs.Network.{relationOf}
 use Rattle.model.specs.Combination.{pairMember}
-use Rattle.model.specs.Consistency.{needed, supportStart}
+use Rattle.model.specs.Consistency.{needed}
 use Rattle.model.specs.Fault.{properMembers}
 use Rattle.model.proofs.Bools.{and-right}
 use Rattle.model.proofs.Lists.{getD-mem, all-at}

@@ -1,24 +1,21 @@
 -- Laws of a visit under way: what holds once its walk has come to a tuple, and what each turn of the walk makes of it.
 -- From the laws of one step of a visit, and of live words.
 use mathlib.Core.Path.{_≡_, refl, sym, _∙_, ap, subst}
-use mathlib.Core.Bool.{Bool, true, false, _||_, true≢false, or-false}
-use mathlib.Core.Logic.{_⊎_, inl, inr, ⊎-elim}
-use mathlib.Core.List.{List, _++_}
-use Prim.Native.Nat.{ℕ, suc, _+_, _-_, _*_, _^_, _≤_, _<_}
-use native.Mathlib.Nat.{add-sub-cancel-left}
+use mathlib.Core.Bool.{Bool, true, false, _||_, true≢false}
+use mathlib.Core.Logic.{_⊎_, inl, inr}
+use mathlib.Core.List.{List}
+use Prim.Native.Nat.{ℕ, suc, _≤_, _<_}
 use native.Mathlib.Decide.{ℕ-discrete}
 use native.Mathlib.Omega.{arith}
-use lib.ListN.{length, getD, drop}
-use Rattle.model.specs.Limits.{maxPairs, maxTuples, wordBits}
+use lib.ListN.{length, drop}
+use Rattle.model.specs.Limits.{maxPairs}
 use Rattle.model.specs.TupleSet.{has, count}
-use Rattle.model.specs.Network.{total, firstId}
-use Rattle.model.specs.Combination.{pairMember}
 use Rattle.model.specs.Consistency.{needed}
-use Rattle.model.specs.LiveWords.{isLive, nextLive, cleared}
-use Rattle.model.proofs.Bools.{not-both, or-right, or-false-left}
-use Rattle.model.proofs.LiveWords.{cleared-below, cleared-length, living-has, nextLive-first}
+use Rattle.model.specs.LiveWords.{isLive, cleared}
+use Rattle.model.proofs.Bools.{not-both}
+use Rattle.model.proofs.LiveWords.{cleared-below, cleared-length}
 use Rattle.worklist.specs.Pairs.{queues}
-use Rattle.engine.specs.Setting.{Setting, network, listed, Sound, liveIn, combinationOf, sizeOf, tupleId, placeOf}
+use Rattle.engine.specs.Setting.{Setting, network, listed, Sound, liveIn, sizeOf, tupleId}
 use Rattle.engine.specs.Work.{Working, Done, Rest, Shrunk, Renewed, Visited}
 use Rattle.engine.proofs.Steps.{Small, kept-length, kept-beyond, kept-rest, kept-working, kept-done, shrunk-refl, shrunk-trans, done-skip, removed-count, removed-working, removed-shrunk, removed-rest, removed-done}
 

@@ -1,12 +1,12 @@
 -- Laws of a visit's walk from live tuple to live tuple of the pair's member: where it begins, how it goes on, and where it ends.
 -- From the laws of a visit under way, of the tables, and of the next live id.
-use mathlib.Core.Path.{_≡_, refl, sym, _∙_, ap, subst}
+use mathlib.Core.Path.{_≡_, _∙_, ap, subst}
 use mathlib.Core.Bool.{Bool, true, false}
 use mathlib.Core.List.{List}
 use Prim.Native.Nat.{ℕ, suc, _+_, _-_, _*_, _≤_, _<_}
 use native.Mathlib.Omega.{arith}
 use lib.ListN.{length, getD}
-use Rattle.model.specs.Limits.{maxTuples, maxSupportNumbers, wordBits}
+use Rattle.model.specs.Limits.{maxSupportNumbers, wordBits}
 use Rattle.model.specs.TupleSet.{has}
 use Rattle.model.specs.Network.{total, size, firstId, tuplesIn}
 use Rattle.model.specs.Combination.{pairMember}
@@ -15,7 +15,7 @@ use Rattle.model.proofs.Network.{before-within}
 use Rattle.model.proofs.LiveWords.{living-has, nextLive-first}
 use Rattle.worklist.proofs.Starts.{relation-ends}
 use Rattle.engine.specs.Setting.{Setting, network, Sound, liveIn, sizeOf, tupleId, placeOf}
-use Rattle.engine.specs.Work.{Working, Renewed, Visited}
+use Rattle.engine.specs.Work.{Working, Visited}
 use Rattle.engine.proofs.Pairing.{place-within}
 use Rattle.engine.proofs.Members.{few-tuples, start-of, member-exists, member-below, tuple-below}
 use Rattle.engine.proofs.Steps.{Small}

@@ -1,6 +1,6 @@
 -- `visit::renew` meets its contract: what is held lives and is the first support, or it is the bound from which the search starts.
 -- From the laws of the numbers held for a tuple, and the contracts of the functions called.
-use mathlib.Core.Path.{_≡_, refl, sym, _∙_, ap, ap₂, subst}
+use mathlib.Core.Path.{_≡_, sym, _∙_, ap, ap₂, subst}
 use mathlib.Core.Bool.{Bool, true, false, cond}
 use mathlib.Core.List.{List, _++_}
 use Prim.Native.Nat.{ℕ, _+_, _-_, _*_, _/_, _%_, _≤_, _<_}
@@ -10,28 +10,18 @@ use lib.Dec.{eqb}
 use lib.ListN.{length, getD, take, drop, set, replicate}
 use borrow.Author.Needs.{needs}
 use Rattle.model.specs.Limits.{maxMembers, noSupport}
-use Rattle.model.specs.TupleSet.{has}
 use Rattle.model.specs.Lists.{from, all}
 use Rattle.model.specs.LiveWords.{isLive, cleared}
 use Rattle.model.specs.Support.{supportFrom}
 use Rattle.worklist.specs.Tables.{chosenId, Chosen}
 use Rattle.support.specs.Search.{Search, searching, live, Ready, answer}
 use Rattle.support.specs.Search as support
-use Rattle.engine.specs.Setting.{Setting, setting, network, liveIn, Sound, combinationOf, sizeOf, tupleId, placeOf}
-use Rattle.engine.specs.Work.{Working, Renewed}
+use Rattle.engine.specs.Setting.{Setting, setting, network, Sound, combinationOf, sizeOf, tupleId, placeOf}
+use Rattle.engine.specs.Work.{Renewed}
 use Rattle.engine.proofs.Members.{few-tuples, start-of, member-below, tuple-below, base-within}
 use Rattle.engine.proofs.Bounds.{Seeker, held-inside, loaded, chosen, renewed-held, lowOf, searched, ready, renewed-found, renewed-none}
 use Rattle.engine.proofs.visit.renew.Statement.{statement}
 use Rattle.engine.proofs.visit.renew.Tie as tie
-use Rattle.engine.proofs.visit.renew.Reads as reads
-use Rattle.engine.proofs.visit.renew.Lts as lts
-use Rattle.engine.proofs.visit.bound_of.Reads as bound-of-reads
-use Rattle.live.proofs.clear.Reads as clear-reads
-use Rattle.network.proofs.wide.Reads as wide-reads
-use Rattle.support.proofs.first_support.Reads as first-support-reads
-use Rattle.worklist.proofs.list.all_live.Reads as all-live-reads
-use Rattle.worklist.proofs.list.load.Reads as load-reads
-use Rattle.worklist.proofs.list.store.Reads as store-reads
 
 -- ---- What it is called on
 

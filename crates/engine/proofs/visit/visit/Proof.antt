@@ -1,6 +1,6 @@
 -- `visit::visit` meets its contract. The loop's invariant: the walk has come to `g`, and all before it is done. The measure is what is left of the walk.
 -- From the laws of a visit's walk, and the contracts of the functions called.
-use mathlib.Core.Path.{_≡_, refl, sym, _∙_, ap, ap₂, subst}
+use mathlib.Core.Path.{_≡_, sym, _∙_, ap, ap₂, subst}
 use mathlib.Core.Bool.{Bool, true, false}
 use mathlib.Core.Logic.{⊎-elim}
 use mathlib.Core.List.{List}
@@ -12,20 +12,13 @@ use borrow.Author.Tests.{not-true, not-false}
 use Rattle.model.specs.LiveWords.{isLive}
 use Rattle.worklist.specs.Pairs.{queues}
 use Rattle.worklist.specs.declared.queue.Queue.{Queue}
-use Rattle.engine.specs.Setting.{Setting, setting, network, Sound, placeOf}
+use Rattle.engine.specs.Setting.{Setting, setting, Sound, placeOf}
 use Rattle.engine.specs.Work.{Working}
 use Rattle.engine.proofs.Members.{few-tuples, member-below}
-use Rattle.engine.proofs.Steps.{Small}
 use Rattle.engine.proofs.Visiting.{Going, going-kept, going-removed, still-waits, requeued-waits}
 use Rattle.engine.proofs.Walking.{Row, row-of, Come, end-total, walk-asks, come-first, come-end, index-inside, index-lives, come-more, come-ahead, place-short}
 use Rattle.engine.proofs.visit.visit.Statement.{statement}
 use Rattle.engine.proofs.visit.visit.Tie as tie
-use Rattle.engine.proofs.visit.visit.Reads as reads
-use Rattle.engine.proofs.visit.visit.Lts as lts
-use Rattle.engine.proofs.visit.renew.Reads as renew-reads
-use Rattle.live.proofs.next.Reads as next-reads
-use Rattle.network.proofs.wide.Reads as wide-reads
-use Rattle.worklist.proofs.queue.requeue.Reads as requeue-reads
 
 abbrev Inv-loop : tie.InvT-loop
 Inv-loop variables values variable-starts tuple-starts value-starts members m pair-starts words₀ numbers₀ p r first end start waiting₀ shrunk₀ g₀ words numbers waiting shrunk g =
