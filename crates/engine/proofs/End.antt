@@ -24,7 +24,7 @@ use Rattle.engine.specs.Setting.{Setting, network, listed, Sound, liveIn
 use Rattle.engine.specs.Work.{Done, Rest, Shrunk}
 use Rattle.engine.specs.Blank.{Blanked}
 use Rattle.engine.proofs.Pairing.{m-positive, whole, combination-length}
-use Rattle.engine.proofs.Bounds.{tuple-below}
+use Rattle.engine.proofs.Members.{tuple-below}
 
 -- ---- Where no pair waits
 

@@ -1,6 +1,6 @@
 -- The laws of the filter's work.
 pub mod Pairing
-pub mod Laws
+pub mod Members
 pub mod Bounds
 pub mod Steps
 pub mod Visiting

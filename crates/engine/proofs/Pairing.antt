@@ -1,11 +1,11 @@
 -- Laws of pairs of combination and member: their combination is listed and rises, their numbers lie within the list and apart.
 -- From what the filter asks of its lists, and the model's laws of combinations and of where pairs' numbers begin.
-use mathlib.Core.Path.{_≡_, refl, sym, _∙_, ap, subst}
+use mathlib.Core.Path.{_≡_, sym, _∙_, ap, subst}
 use mathlib.Core.Bool.{true}
 use mathlib.Core.Logic.{_⊎_, inl, inr}
-use mathlib.Core.List.{List, [], _∷_, List·Memᴰ, List·Memᴰ·head, List·Memᴰ·tail, Memᴰ·cast}
-use Prim.Native.Nat.{ℕ, zero, suc, _+_, _*_, _/_, _%_, _≤_, _<_}
-use native.Mathlib.Nat.{div-lt-iff-lt-mul, div-add-mod', mod-lt, mul-le-mul-right, le-of-suc-le-suc}
+use mathlib.Core.List.{List, [], List·Memᴰ, Memᴰ·cast}
+use Prim.Native.Nat.{ℕ, suc, _+_, _*_, _/_, _%_, _≤_, _<_}
+use native.Mathlib.Nat.{div-lt-iff-lt-mul, div-add-mod', mod-lt, mul-le-mul-right}
 use native.Mathlib.Decide.{decLt, ℕ-discrete}
 use native.Mathlib.Omega.{arith}
 use lib.Dec.{ltb}
@@ -14,19 +14,14 @@ use lib.Seq.{getD-take, getD-drop}
 use Rattle.model.specs.Lists.{all, pairwise}
 use Rattle.model.specs.Network.{relationOf}
 use Rattle.model.specs.Combination.{pairMember}
-use Rattle.model.specs.Consistency.{needed, supportStart}
+use Rattle.model.specs.Consistency.{needed}
 use Rattle.model.specs.Fault.{properMembers}
 use Rattle.model.proofs.Bools.{and-right}
-use Rattle.model.proofs.Lists.{all-at}
+use Rattle.model.proofs.Lists.{getD-mem, all-at}
 use Rattle.model.proofs.Network.{relationOf-at}
 use Rattle.model.proofs.Combination.{combination-count, combination-at}
-use Rattle.model.proofs.SupportList.{supportStart-suc, supportStart-within, pairCombination-length}
+use Rattle.model.proofs.SupportList.{supportStart-suc, supportStart-mono, supportStart-within, pairCombination-length}
 use Rattle.engine.specs.Setting.{Setting, network, listed, Sound, combinationOf, sizeOf, tupleId, placeOf}
-
-getD-mem : {A : Type 0} (xs : List A) (k : ℕ) (d : A) → k < length xs → List·Memᴰ (getD xs k d) xs
-getD-mem [] k d h = absurd (omega arith)
-getD-mem (x ∷ xs) zero d h = List·Memᴰ·head refl
-getD-mem (x ∷ xs) (suc k) d h = List·Memᴰ·tail (getD-mem xs k d (le-of-suc-le-suc h))
 
 module _ (G : Setting) (sound : Sound G) where
   abbrev members : List ℕ
@@ -40,7 +35,7 @@ module _ (G : Setting) (sound : Sound G) where
 
   -- ---- The combination
 
-  below-count : (p : ℕ) → p < length members → p / G .m < length members / G .m
+  pub below-count : (p : ℕ) → p < length members → p / G .m < length members / G .m
   below-count p h = div-lt-iff-lt-mul m-positive .1 (subst (λ (n : ℕ). p < n) (sym whole) h)
 
   pub combination-listed : (p : ℕ) → p < length members → List·Memᴰ (combinationOf G p) (listed G)
@@ -83,16 +78,6 @@ module _ (G : Setting) (sound : Sound G) where
   place-within p x h k =
       omega (arith, supportStart-within (network G) (G .m) members m-positive whole p h, row-within x (sizeOf G p) k)
 
-  start-next : (q p : ℕ) → q ≤ suc p → (q ≤ p → supportStart (network G) (G .m) members q ≤ supportStart (network G) (G .m) members p) → p < length members → Dec (q ≡ suc p) → supportStart (network G) (G .m) members q ≤ supportStart (network G) (G .m) members (suc p)
-  start-next q p l f h (yes e) = subst (λ (k : ℕ). supportStart (network G) (G .m) members q ≤ supportStart (network G) (G .m) members k) e (omega arith)
-  start-next q p l f h (no d) = omega (arith, f (omega arith), supportStart-suc (network G) (G .m) members p h)
-
-  start-mono : (q p : ℕ) → q ≤ p → p ≤ length members → supportStart (network G) (G .m) members q ≤ supportStart (network G) (G .m) members p
-  start-mono q zero l h =
-      let e : q ≡ 0 = omega arith in
-      subst (λ (k : ℕ). supportStart (network G) (G .m) members k ≤ supportStart (network G) (G .m) members 0) (sym e) (omega arith)
-  start-mono q (suc p) l h = start-next q p l (λ k. start-mono q p k (omega arith)) (omega arith) (ℕ-discrete q (suc p))
-
   -- numbers of different tuples lie apart
   Apart : ℕ → ℕ → Type 0
   Apart a b = (a + G .m ≤ b) ⊎ (b + G .m ≤ a)
@@ -100,7 +85,7 @@ module _ (G : Setting) (sound : Sound G) where
   -- all of a lower pair's lie before
   lower : (q y p x : ℕ) → q < p → p < length members → y < sizeOf G q → placeOf G q y + G .m ≤ placeOf G p x
   lower q y p x l h k =
-      omega (arith, start-mono (suc q) p l (omega arith), supportStart-suc (network G) (G .m) members q (omega arith), row-within y (sizeOf G q) k)
+      omega (arith, supportStart-mono (network G) (G .m) members (suc q) p l, supportStart-suc (network G) (G .m) members q (omega arith), row-within y (sizeOf G q) k)
 
   apart-row : (p y x : ℕ) → Dec (y < x) → (y ≡ x → ⊥) → Apart (placeOf G p y) (placeOf G p x)
   unfolding Apart

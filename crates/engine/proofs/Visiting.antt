@@ -32,10 +32,10 @@ pub record Going (G : Setting) (p : ℕ) (queue words numbers queue′ words′ 
   pub same : shrunk ≡ false → (queue′ ≡ queue) × (words′ ≡ words)
   pub less : shrunk ≡ true → (count (liveIn G words′) < count (liveIn G words)) × ((q : ℕ) → q < length (G .members) → queues (G .m) (G .members) p q ≡ true → isLive queue′ q ≡ true)
 
-module _ (G : Setting) (sound : Sound G) (p : ℕ) (hp : p < length (G .members)) (queue words numbers : List ℕ) where
+module _ {G : Setting} (sound : Sound G) {p : ℕ} (hp : p < length (G .members)) where
   -- nothing is done yet
-  pub going-start : Small words → Working G words numbers → Going G p queue words numbers queue words numbers false 0
-  going-start small work =
+  pub going-start : {queue words numbers : List ℕ} → Small words → Working G words numbers → Going G p queue words numbers queue words numbers false 0
+  going-start {words = words} small work =
       record {
         small = small;
         working = work;
@@ -48,7 +48,7 @@ module _ (G : Setting) (sound : Sound G) (p : ℕ) (hp : p < length (G .members)
         less = λ e. absurd (true≢false (sym e));
       }
 
-  module _ (queue′ words′ numbers′ : List ℕ) (shrunk : Bool) (k : ℕ) (I : Going G p queue words numbers queue′ words′ numbers′ shrunk k) where
+  module _ {queue words numbers queue′ words′ numbers′ : List ℕ} {shrunk : Bool} {k : ℕ} (I : Going G p queue words numbers queue′ words′ numbers′ shrunk k) where
     -- dead tuples are passed over
     pub going-skip : (j : ℕ) → ((x : ℕ) → k ≤ x → x < j → has (liveIn G words′) (tupleId G p x) ≡ false) → Going G p queue words numbers queue′ words′ numbers′ shrunk j
     going-skip j dead =
@@ -64,7 +64,7 @@ module _ (G : Setting) (sound : Sound G) (p : ℕ) (hp : p < length (G .members)
           less = I .less;
         }
 
-    module _ (hk : k < sizeOf G p) (found : Bool) (words″ numbers″ : List ℕ) (R : Renewed G p k words′ numbers′ found words″ numbers″) where
+    module _ (hk : k < sizeOf G p) {found : Bool} {words″ numbers″ : List ℕ} (R : Renewed G p k words′ numbers′ found words″ numbers″) where
       -- the tuple has its first support
       pub going-kept : found ≡ true → Going G p queue words numbers queue′ words″ numbers″ shrunk (suc k)
       going-kept e =
@@ -143,8 +143,8 @@ module _ (G : Setting) (sound : Sound G) (p : ℕ) (hp : p < length (G .members)
         go false e = inl (I .same e)
 
 -- the pairs that wait once those that a removal queues are put
-pub requeued-waits : (G : Setting) (sound : Sound G) (p : ℕ) (queue queue′ : List ℕ) → ((q : ℕ) → q < maxPairs → isLive queue′ q ≡ (isLive queue q || queues (G .m) (G .members) p q)) → (q : ℕ) → q < length (G .members) → isLive queue′ q ≡ false → (isLive queue q ≡ false) × (queues (G .m) (G .members) p q ≡ false)
-requeued-waits G sound p queue queue′ f q l w =
+pub requeued-waits : {G : Setting} (sound : Sound G) (p : ℕ) (queue queue′ : List ℕ) → ((q : ℕ) → q < maxPairs → isLive queue′ q ≡ (isLive queue q || queues (G .m) (G .members) p q)) → (q : ℕ) → q < length (G .members) → isLive queue′ q ≡ false → (isLive queue q ≡ false) × (queues (G .m) (G .members) p q ≡ false)
+requeued-waits {G} sound p queue queue′ f q l w =
     let e = sym (f q (omega (arith, sound .tables .pairs .few))) ∙ w in
     neither (isLive queue q) (queues (G .m) (G .members) p q) e
   where

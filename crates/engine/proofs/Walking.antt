@@ -4,7 +4,6 @@ use mathlib.Core.Path.{_≡_, _∙_, ap, subst}
 use mathlib.Core.Bool.{Bool, true, false}
 use mathlib.Core.List.{List}
 use Prim.Native.Nat.{ℕ, suc, _+_, _-_, _*_, _≤_, _<_}
-use native.Mathlib.Numerals.{add-one}
 use native.Mathlib.Omega.{arith}
 use lib.ListN.{length, getD}
 use Rattle.model.specs.Limits.{maxSupportNumbers, wordBits}
@@ -12,32 +11,31 @@ use Rattle.model.specs.TupleSet.{has}
 use Rattle.model.specs.Network.{total, size, firstId, tuplesIn}
 use Rattle.model.specs.Combination.{pairMember}
 use Rattle.model.specs.LiveWords.{isLive, nextLive}
-use Rattle.model.proofs.Network.{before-suc, before-within}
+use Rattle.model.proofs.Network.{before-within}
 use Rattle.model.proofs.LiveWords.{living-has, nextLive-first}
+use Rattle.worklist.proofs.Starts.{relation-ends}
 use Rattle.engine.specs.Setting.{Setting, network, Sound, liveIn, sizeOf, tupleId, placeOf}
 use Rattle.engine.specs.Work.{Working, Visited}
 use Rattle.engine.proofs.Pairing.{place-within}
-use Rattle.engine.proofs.Bounds.{few-tuples, start-of, member-exists, member-below, tuple-below}
+use Rattle.engine.proofs.Members.{few-tuples, start-of, member-exists, member-below, tuple-below}
 use Rattle.engine.proofs.Steps.{Small}
 use Rattle.engine.proofs.Visiting.{Going, going-start, going-skip, going-end}
 
 -- The ids of the tuples of pair p's member: from `first` on and below `end`.
 pub record Row (G : Setting) (p first end : ℕ) : Type 0 where
+  pub sound : Sound G
   pub pair : p < length (G .members)
   pub is-first : first ≡ firstId (network G) (pairMember (G .members) p)
   pub is-end : end ≡ first + sizeOf G p
 
-pub row-of : (G : Setting) → Sound G → (p r : ℕ) → p < length (G .members) → r ≡ getD (G .members) p 0 → Row G p (getD (G .tupleStarts) r 0) (getD (G .tupleStarts) (r + 1) 0)
-row-of G sound p r h e =
+pub row-of : {G : Setting} → Sound G → (p r : ℕ) → p < length (G .members) → r ≡ getD (G .members) p 0 → Row G p (getD (G .tupleStarts) r 0) (getD (G .tupleStarts) (r + 1) 0)
+row-of {G} sound p r h e =
     let b = member-below G sound p h in
-    let q = start-of G sound r (omega arith) in
-    let f = ap (firstId (network G)) e in
     record {
+      sound = sound;
       pair = h;
-      is-first = q ∙ f;
-      is-end =
-          let n : firstId (network G) (r + 1) ≡ firstId (network G) r + size (network G) r = rw add-one (before-suc tuplesIn (network G .relations) r (omega (arith, member-exists G sound p h))) in
-          omega (arith, q, start-of G sound (r + 1) (omega arith), ap (size (network G)) e);
+      is-first = start-of G sound r (omega arith) ∙ ap (firstId (network G)) e;
+      is-end = omega (arith, relation-ends (network G) (G .m) (G .tupleStarts) (G .members) (sound .tables) p r h e, ap (size (network G)) e);
     }
 
 -- The walk has come to id g: it is live, or the end.
@@ -47,67 +45,66 @@ pub record Come (G : Setting) (p first end : ℕ) (queue words numbers queue′ 
   pub to-end : g ≤ end
   pub lives : g < end → isLive words′ g ≡ true
 
-module _ (G : Setting) (sound : Sound G) (p first end : ℕ) (row : Row G p first end) where
+module _ {G : Setting} {p first end : ℕ} (row : Row G p first end) where
   pub end-total : end ≤ total (network G)
-  end-total = omega (arith, row .is-first, row .is-end, before-within tuplesIn (network G .relations) (pairMember (G .members) p) (member-exists G sound p (row .pair)))
+  end-total = omega (arith, row .is-first, row .is-end, before-within tuplesIn (network G .relations) (pairMember (G .members) p) (member-exists G (row .sound) p (row .pair)))
 
   -- what `next` asks
   pub walk-asks : (ws : List ℕ) (g : ℕ) → total (network G) ≤ wordBits * length ws → g ≤ end → (g ≤ end) × (end ≤ 64 * length ws) × (end ≤ 4096)
-  walk-asks ws g enough h = let t = end-total in (h, omega arith, omega (arith, few-tuples G sound))
+  walk-asks ws g enough h = let t = end-total in (h, omega arith, omega (arith, few-tuples G (row .sound)))
 
-  module _ (queue words numbers : List ℕ) where
-    -- ids that are not live are passed over
-    come-next : (queue′ words′ numbers′ : List ℕ) (shrunk : Bool) (i : ℕ) → first ≤ i → i ≤ end → Going G p queue words numbers queue′ words′ numbers′ shrunk (i - first) → Come G p first end queue words numbers queue′ words′ numbers′ shrunk (nextLive words′ i end)
-    come-next queue′ words′ numbers′ shrunk i l h I =
-        let f = nextLive-first words′ i end h in
-        let t = end-total in
-        record {
-          going = going-skip G sound p (row .pair) queue words numbers queue′ words′ numbers′ shrunk (i - first) I (nextLive words′ i end - first)
-              (λ x a b.
-              let e = row .is-first in
-              living-has (total (network G)) words′ (tupleId G p x) (omega (arith, f .to-end))
-              ∙ f .none-before (tupleId G p x) (omega arith) (omega arith));
-          from-first = omega (arith, f .from-i);
-          to-end = f .to-end;
-          lives = f .passes;
-        }
+  -- ids that are not live are passed over
+  come-next : {queue words numbers queue′ words′ numbers′ : List ℕ} {shrunk : Bool} (i : ℕ) → first ≤ i → i ≤ end → Going G p queue words numbers queue′ words′ numbers′ shrunk (i - first) → Come G p first end queue words numbers queue′ words′ numbers′ shrunk (nextLive words′ i end)
+  come-next {words′ = words′} i l h I =
+      let f = nextLive-first words′ i end h in
+      let t = end-total in
+      record {
+        going = going-skip (row .sound) (row .pair) I (nextLive words′ i end - first)
+            (λ x a b.
+            let e = row .is-first in
+            living-has (total (network G)) words′ (tupleId G p x) (omega (arith, f .to-end))
+            ∙ f .none-before (tupleId G p x) (omega arith) (omega arith));
+        from-first = omega (arith, f .from-i);
+        to-end = f .to-end;
+        lives = f .passes;
+      }
 
-    pub come-first : Small words → Working G words numbers → Come G p first end queue words numbers queue words numbers false (nextLive words first end)
-    come-first small work =
-        let e : 0 ≡ first - first = omega arith in
-        come-next queue words numbers false first (omega arith) (omega (arith, row .is-end))
-        (subst (Going G p queue words numbers queue words numbers false) e (going-start G sound p (row .pair) queue words numbers small work))
+  pub come-first : {queue words numbers : List ℕ} → Small words → Working G words numbers → Come G p first end queue words numbers queue words numbers false (nextLive words first end)
+  come-first {queue} {words} {numbers} small work =
+      let e : 0 ≡ first - first = omega arith in
+      come-next first (omega arith) (omega (arith, row .is-end))
+      (subst (Going G p queue words numbers queue words numbers false) e (going-start (row .sound) (row .pair) small work))
 
-    module _ (queue′ words′ numbers′ : List ℕ) (shrunk : Bool) (g : ℕ) (C : Come G p first end queue words numbers queue′ words′ numbers′ shrunk g) where
-      -- past the end, the pair is visited
-      pub come-end : end ≤ g → Visited G p queue words numbers queue′ words′ numbers′
-      come-end h =
-          going-end G sound p (row .pair) queue words numbers queue′ words′ numbers′ shrunk (g - first) (C .going) (omega (arith, row .is-end))
+  module _ {queue words numbers queue′ words′ numbers′ : List ℕ} {shrunk : Bool} {g : ℕ} (C : Come G p first end queue words numbers queue′ words′ numbers′ shrunk g) where
+    -- past the end, the pair is visited
+    pub come-end : end ≤ g → Visited G p queue words numbers queue′ words′ numbers′
+    come-end h =
+        going-end (row .sound) (row .pair) (C .going) (omega (arith, row .is-end))
 
-      module _ (inside : g < end) where
-        pub index-inside : g - first < sizeOf G p
-        index-inside = omega (arith, row .is-end, C .from-first)
+    module _ (inside : g < end) where
+      pub index-inside : g - first < sizeOf G p
+      index-inside = omega (arith, row .is-end, C .from-first)
 
-        pub id-back : tupleId G p (g - first) ≡ g
-        id-back = omega (arith, row .is-first, C .from-first)
+      pub id-back : tupleId G p (g - first) ≡ g
+      id-back = omega (arith, row .is-first, C .from-first)
 
-        pub index-lives : has (liveIn G words′) (tupleId G p (g - first)) ≡ true
-        index-lives =
-            living-has (total (network G)) words′ (tupleId G p (g - first)) (tuple-below G sound p (g - first) (row .pair) index-inside)
-            ∙ ap (isLive words′) id-back
-            ∙ C .lives inside
+      pub index-lives : has (liveIn G words′) (tupleId G p (g - first)) ≡ true
+      index-lives =
+          living-has (total (network G)) words′ (tupleId G p (g - first)) (tuple-below G (row .sound) p (g - first) (row .pair) index-inside)
+          ∙ ap (isLive words′) id-back
+          ∙ C .lives inside
 
-        -- once its tuple is done, the walk goes on
-        pub come-more : (queue″ words″ numbers″ : List ℕ) (shrunk′ : Bool) → Going G p queue words numbers queue″ words″ numbers″ shrunk′ (suc (g - first)) → Come G p first end queue words numbers queue″ words″ numbers″ shrunk′ (nextLive words″ (g + 1) end)
-        come-more queue″ words″ numbers″ shrunk′ I =
-            let e : suc (g - first) ≡ g + 1 - first = omega (arith, C .from-first) in
-            come-next queue″ words″ numbers″ shrunk′ (g + 1) (omega (arith, C .from-first)) (omega arith)
-            (subst (Going G p queue words numbers queue″ words″ numbers″ shrunk′) e I)
+      -- once its tuple is done, the walk goes on
+      pub come-more : {queue″ words″ numbers″ : List ℕ} {shrunk′ : Bool} → Going G p queue words numbers queue″ words″ numbers″ shrunk′ (suc (g - first)) → Come G p first end queue words numbers queue″ words″ numbers″ shrunk′ (nextLive words″ (g + 1) end)
+      come-more {queue″} {words″} {numbers″} {shrunk′} I =
+          let e : suc (g - first) ≡ g + 1 - first = omega (arith, C .from-first) in
+          come-next (g + 1) (omega (arith, C .from-first)) (omega arith)
+          (subst (Going G p queue words numbers queue″ words″ numbers″ shrunk′) e I)
 
-        -- it comes nearer to the end
-        pub come-ahead : (ws : List ℕ) → (g < nextLive ws (g + 1) end) × (nextLive ws (g + 1) end ≤ end)
-        come-ahead ws = let f = nextLive-first ws (g + 1) end (omega arith) in (omega (arith, f .from-i), f .to-end)
+      -- it comes nearer to the end
+      pub come-ahead : (ws : List ℕ) → (g < nextLive ws (g + 1) end) × (nextLive ws (g + 1) end ≤ end)
+      come-ahead ws = let f = nextLive-first ws (g + 1) end (omega arith) in (omega (arith, f .from-i), f .to-end)
 
-        -- where its numbers begin
-        pub place-short : placeOf G p (g - first) + G .m ≤ maxSupportNumbers
-        place-short = omega (arith, place-within G sound p (g - first) (row .pair) index-inside, sound .tables .short)
+      -- where its numbers begin
+      pub place-short : placeOf G p (g - first) + G .m ≤ maxSupportNumbers
+      place-short = omega (arith, place-within G (row .sound) p (g - first) (row .pair) index-inside, row .sound .tables .short)

@@ -3,7 +3,7 @@
 use mathlib.Core.Path.{_≡_, refl, sym, _∙_, ap, subst}
 use mathlib.Core.Bool.{Bool, true, false, not}
 use mathlib.Core.Option.{Option, none, some, orElse, Option·getD}
-use mathlib.Core.List.{List, [], _∷_, _++_, map, map-append, map-id, append-nil, append-assoc, head?, List·Memᴰ, List·Memᴰ·tail, Memᴰ·append-left, Memᴰ·append-right, Memᴰ·of-map}
+use mathlib.Core.List.{List, [], _∷_, _++_, map, map-append, map-id, append-nil, append-assoc, head?, List·Memᴰ, List·Memᴰ·tail, Memᴰ·append-left, Memᴰ·append-right, Memᴰ·map, Memᴰ·of-map}
 use mathlib.Core.Logic.{⊎-elim}
 use Prim.Native.Nat.{ℕ, suc, _+_, _-_, _≤_, _<_}
 use native.Mathlib.Omega.{arith}
@@ -20,7 +20,7 @@ use Rattle.model.specs.Combination.{Combination}
 use Rattle.model.specs.LiveWords.{living, nextLive}
 use Rattle.model.specs.Support.{candidates, isSupport, supports, firstSupport, firstAmong, supportFrom, completion}
 use Rattle.model.proofs.Bools.{not-both, and-intro}
-use Rattle.model.proofs.Lists.{here, all-at, all-intro, all-map, pairwise-at, pairwise-cross, Picks, choices-picks, picks-append, select-append, select-all, select-mem, select-none, head-append, firstOr-head, from-append, from-mem, earlier-append, earlier-within, earlier-least, later-earlier}
+use Rattle.model.proofs.Lists.{here, all-at, all-intro, all-map, pairwise-at, pairwise-cross, Picks, choices-picks, picks-append, select-append, select-all, select-mem, mem-select, select-none, head-append, head-mem, head-none, firstOr-head, from-append, from-mem, earlier-append, earlier-within, earlier-least, later-earlier}
 use Rattle.model.proofs.Agreement.{agree-sym}
 use Rattle.model.proofs.LiveWords.{living-has, nextLive-first}
 use Rattle.model.proofs.Support.{isSupport-self, isSupport-live, isSupport-agree, isSupport-mono, picks-same, candidates-length, candidates-own, Supported, firstSupport-least}
@@ -193,6 +193,22 @@ module _ (N : Network) (S : TupleSet) (g : ℕ) (low : List ℕ) where
       (all-map (map (indexOf N)) late (select (isSupport N S g) (candidates N c))
       ∙ all-intro (λ (t : List ℕ). late (map (indexOf N) t)) (select (isSupport N S g) (candidates N c))
       (λ t m. let s = select-mem (isSupport N S g) (candidates N c) m in ap not (f t (s .0) (s .1))))))
+
+  -- what is found is a support
+  pub supportFrom-some : (c : Combination) (is : List ℕ) → supportFrom N S c g low ≡ some is → Supported N S c g
+  unfolding supportFrom firstAmong
+  supportFrom-some c is e =
+      let m = select-mem late (named (candidates N c)) (head-mem (select late (named (candidates N c))) e) in
+      let k = Memᴰ·of-map (map (indexOf N)) (select (isSupport N S g) (candidates N c)) (m .0) in
+      let s = select-mem (isSupport N S g) (candidates N c) (k .1) in
+      (k .0, s .0, s .1)
+
+  -- nothing is found, and no support is earlier than low: there is none
+  pub supportFrom-none : (c : Combination) → ((t : List ℕ) → List·Memᴰ t (candidates N c) → isSupport N S g t ≡ true → earlier (map (indexOf N) t) low ≡ false) → supportFrom N S c g low ≡ none → Supported N S c g → ⊥
+  unfolding supportFrom firstAmong
+  supportFrom-none c f e s =
+      head-none (select late (named (candidates N c))) e
+      (mem-select late (named (candidates N c)) (Memᴰ·map (map (indexOf N)) (mem-select (isSupport N S g) (candidates N c) (s .1) (s .2))) (ap not (f (s .0) (s .1) (s .2))))
 
   -- ---- Where a search may begin
 

@@ -111,6 +111,14 @@ module _ (N : Network) where
       let e = getD-map-in (indexOf N) t j 0 0 (omega (arith, candidates-length c m)) ∙ indexOf-ids (getD c j 0) (k .1) in
       omega arith
 
+  -- the tuple by its index
+  pub candidates-id : (c : Combination) {t : List ℕ} → List·Memᴰ t (candidates N c) → (j : ℕ) → j < length c → firstId N (getD c j 0) + getD (map (indexOf N) t) j 0 ≡ getD t j 0
+  candidates-id c {t} m j h =
+      let k = candidates-at c m j h in
+      let b = from-mem (firstId N (getD c j 0)) (size N (getD c j 0)) (getD t j 0) (k .1) in
+      let e = getD-map-in (indexOf N) t j 0 0 (omega (arith, candidates-length c m)) ∙ indexOf-ids (getD c j 0) (k .1) in
+      omega (arith, b .0)
+
   -- a candidate that holds a tuple of the member at j has it at j
   pub candidates-own : (c : Combination) {t : List ℕ} → pairwise ltb c ≡ true → List·Memᴰ t (candidates N c) → (j x : ℕ) → j < length c → x < size N (getD c j 0) → List·Memᴰ (firstId N (getD c j 0) + x) t → getD (map (indexOf N) t) j 0 ≡ x
   candidates-own c {t} rises m j x h l n =
@@ -193,6 +201,13 @@ module _ (N : Network) where
             (List·Memᴰ·cases-cons h))
             (List·Memᴰ·append-cases (k .before) (subst (List·Memᴰ u) (k .whole) m)),
       )
+
+  -- a support than which none is earlier is the first
+  pub firstSupport-lowest : (S : TupleSet) (c : Combination) (g : ℕ) (t : List ℕ) → List·Memᴰ t (candidates N c) → isSupport N S g t ≡ true → ((u : List ℕ) → List·Memᴰ u (candidates N c) → isSupport N S g u ≡ true → sooner u t ≡ false) → firstSupport N S c g ≡ map (indexOf N) t
+  firstSupport-lowest S c g t m e lowest =
+      let f = firstSupport-least S c g (t, m, e) in
+      f .3
+      ∙ ⊎-elim (λ q. sym (ap (map (indexOf N)) q)) (λ l. absurd (not-both l (lowest (f .0) (f .1) (f .2)))) (f .4 t m e)
 
   -- ---- Lengths
 

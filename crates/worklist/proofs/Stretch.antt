@@ -7,7 +7,7 @@ use Prim.Native.Nat.{ℕ, zero, suc, _+_, _-_, _≤_}
 use native.Mathlib.Nat.{sub-zero, zero-sub, suc-sub-suc}
 use native.Mathlib.Omega.{arith}
 use lib.ListN.{length, take, drop, replicate, length-append, length-drop, take-append-drop}
-use lib.Seq.{length-take-le, take-at, drop-at, take-append-le, drop-append-le, drop-drop}
+use lib.Seq.{length-take-le, take-at, drop-at, take-append-le, drop-append-le, take-add, drop-drop}
 
 pub take-replicate {ℓ} : {A : Type ℓ} (m n : ℕ) (x : A) → m ≤ n → take m (replicate n x) ≡ replicate m x
 take-replicate zero n x h = refl
@@ -22,6 +22,11 @@ drop-replicate (suc m) (suc n) x = drop-replicate m n x ∙ ap (λ (k : ℕ). re
 -- the list with `new` in place of the m elements from `at` on
 abbrev pub replaced {ℓ} : {A : Type ℓ} → List A → List A → ℕ → ℕ → List A
 replaced list new at m = take at list ++ new ++ drop (at + m) list
+
+-- by themselves
+pub replaced-same {ℓ} : {A : Type ℓ} (list : List A) (at m : ℕ) → replaced list (take m (drop at list)) at m ≡ list
+replaced-same {A = A} list at m =
+    ap (λ (t : List A). t ++ drop (at + m) list) (sym (take-add at m list)) ∙ take-append-drop (at + m) list
 
 module _ {ℓ} {A : Type ℓ} (list new : List A) (at m : ℕ) (long : length new ≡ m) (inside : at + m ≤ length list) where
   head-length : length (take at list ++ new) ≡ at + m

@@ -10,27 +10,18 @@ use lib.Dec.{eqb}
 use lib.ListN.{length, getD, take, drop, set, replicate}
 use borrow.Author.Needs.{needs}
 use Rattle.model.specs.Limits.{maxMembers, noSupport}
-use Rattle.model.specs.TupleSet.{has}
 use Rattle.model.specs.Lists.{from, all}
 use Rattle.model.specs.LiveWords.{isLive, cleared}
 use Rattle.model.specs.Support.{supportFrom}
 use Rattle.worklist.specs.Tables.{chosenId, Chosen}
-use Rattle.support.specs.Search.{Search, searching, live, seeker, Ready, answer}
+use Rattle.support.specs.Search.{Search, searching, live, Ready, answer}
 use Rattle.support.specs.Search as support
-use Rattle.engine.specs.Setting.{Setting, setting, network, liveIn, Sound, combinationOf, sizeOf, tupleId, placeOf}
-use Rattle.engine.specs.Work.{Working, Renewed}
-use Rattle.engine.proofs.Bounds.{few-tuples, start-of, member-below, tuple-below, base-within, held-inside, loaded, chosen, renewed-held, lowOf, searched, ready, renewed-found, renewed-none}
+use Rattle.engine.specs.Setting.{Setting, setting, network, Sound, combinationOf, sizeOf, tupleId, placeOf}
+use Rattle.engine.specs.Work.{Renewed}
+use Rattle.engine.proofs.Members.{few-tuples, start-of, member-below, tuple-below, base-within}
+use Rattle.engine.proofs.Bounds.{Seeker, held-inside, loaded, chosen, renewed-held, lowOf, searched, ready, renewed-found, renewed-none}
 use Rattle.engine.proofs.visit.renew.Statement.{statement}
 use Rattle.engine.proofs.visit.renew.Tie as tie
-use Rattle.engine.proofs.visit.renew.Reads as reads
-use Rattle.engine.proofs.visit.renew.Lts as lts
-use Rattle.engine.proofs.visit.bound_of.Reads as bound-of-reads
-use Rattle.live.proofs.clear.Reads as clear-reads
-use Rattle.network.proofs.wide.Reads as wide-reads
-use Rattle.support.proofs.first_support.Reads as first-support-reads
-use Rattle.worklist.proofs.list.all_live.Reads as all-live-reads
-use Rattle.worklist.proofs.list.load.Reads as load-reads
-use Rattle.worklist.proofs.list.store.Reads as store-reads
 
 -- ---- What it is called on
 
@@ -41,29 +32,33 @@ module _ (a : tie.Start) where
   abbrev sound : Sound G
   sound = a .pre .0
 
-  abbrev work : Working G (a .args .words .now) (a .args .numbers .now)
-  work = a .pre .1 .0
-
   abbrev in-members : a .args .p < length (a .args .members .now)
   in-members = a .pre .1 .1 .0
 
   abbrev in-size : a .args .x < sizeOf G (a .args .p)
   in-size = a .pre .1 .1 .1 .0
 
-  abbrev lives : has (liveIn G (a .args .words .now)) (tupleId G (a .args .p) (a .args .x)) ≡ true
-  lives = a .pre .1 .1 .1 .1 .0
+  abbrev seeker : Seeker G (a .args .words .now) (a .args .numbers .now) (a .args .p) (a .args .x)
+  seeker =
+      record {
+        sound = sound;
+        working = a .pre .1 .0;
+        pair = in-members;
+        index = in-size;
+        lives = a .pre .1 .1 .1 .1 .0;
+      }
 
   abbrev is-at : a .args .at ≡ placeOf G (a .args .p) (a .args .x)
   is-at = a .pre .1 .1 .1 .1 .1
 
   inside : a .args .at + a .args .m ≤ length (a .args .numbers .now)
-  inside = omega (arith, is-at, held-inside G sound (a .args .words .now) (a .args .numbers .now) work (a .args .p) (a .args .x) in-members in-size lives)
+  inside = omega (arith, is-at, held-inside seeker)
 
   abbrev baseOf : ℕ
   baseOf = a .args .p / a .args .m * a .args .m
 
   abbrev loadedOf : List ℕ
-  loadedOf = loaded G sound (a .args .words .now) (a .args .numbers .now) work (a .args .p) (a .args .x) in-members in-size lives
+  loadedOf = loaded seeker
 
 abbrev entry : tie.After-wide2 → tie.Start
 entry c = c .before .before .before .before .before .before .before
@@ -100,7 +95,7 @@ loaded-is c =
 is-index : (c : tie.Then1) → getD (loadedOf (entry (c .before .before .before))) 0 0 ≡ noSupport → ⊥
 is-index c e = c .if1 .taken (ap (λ (is : List ℕ). getD is 0 0) (loaded-is (c .before)) ∙ e)
 
-low-is : (c : tie.After-bound-of) → (let a = entry (c .before .before .before .before) in c .bound-of .result ≡ lowOf (G a) (sound a) (a .args .words .now) (a .args .numbers .now) (work a) (a .args .p) (a .args .x) (in-members a) (in-size a) (lives a))
+low-is : (c : tie.After-bound-of) → (let a = entry (c .before .before .before .before) in c .bound-of .result ≡ lowOf (seeker a))
 low-is c =
     let a = entry (c .before .before .before .before) in
     c .bound-of .ensures
@@ -120,7 +115,7 @@ abbrev searchOf : tie.Start → List ℕ → ℕ → List ℕ → Search
 searchOf a members place low =
     searching (a .args .variables .now) (a .args .values .now) (a .args .variable-starts .now) (a .args .tuple-starts .now) (a .args .value-starts .now) (a .args .words .now) members place (a .args .x) low
 
-search-is : (c : tie.After-bound-of) → (let w = c .before .before .before .before in let a = entry w in let n = w .before .wide .result in let b = w .wide2 .result / n * n in searchOf a (take (b + n - b) (drop b (a .args .members .now))) (w .wide2 .result % n) (c .bound-of .result) ≡ searched (G a) (sound a) (a .args .words .now) (a .args .numbers .now) (work a) (a .args .p) (a .args .x) (in-members a) (in-size a) (lives a))
+search-is : (c : tie.After-bound-of) → (let w = c .before .before .before .before in let a = entry w in let n = w .before .wide .result in let b = w .wide2 .result / n * n in searchOf a (take (b + n - b) (drop b (a .args .members .now))) (w .wide2 .result % n) (c .bound-of .result) ≡ searched (seeker a))
 search-is c =
     let w = c .before .before .before .before in
     let a = entry w in
@@ -128,9 +123,9 @@ search-is c =
     ∙ ap (searchOf a (combinationOf (G a) (a .args .p)) (a .args .p % a .args .m)) (low-is c)
 
 -- what it answers
-answer-is : (c : tie.After-first-support) → (let a = entry (c .before .before .before .before .before .before .before) in let Q = searched (G a) (sound a) (a .args .words .now) (a .args .numbers .now) (work a) (a .args .p) (a .args .x) (in-members a) (in-size a) (lives a) in answer (c .first-support .result .ok) (take (length (Q .members)) (c .first-support .result .tuples)) ≡ supportFrom (support.network Q) (live Q) (Q .members) (seeker Q) (Q .low))
+answer-is : (c : tie.After-first-support) → (let a = entry (c .before .before .before .before .before .before .before) in let Q = searched (seeker a) in answer (c .first-support .result .ok) (take (length (Q .members)) (c .first-support .result .tuples)) ≡ supportFrom (support.network Q) (live Q) (Q .members) (support.seeker Q) (Q .low))
 answer-is c =
-    subst (λ (Q : Search). answer (c .first-support .result .ok) (take (length (Q .members)) (c .first-support .result .tuples)) ≡ supportFrom (support.network Q) (live Q) (Q .members) (seeker Q) (Q .low))
+    subst (λ (Q : Search). answer (c .first-support .result .ok) (take (length (Q .members)) (c .first-support .result .tuples)) ≡ supportFrom (support.network Q) (live Q) (Q .members) (support.seeker Q) (Q .low))
     (search-is (c .before .before .before))
     (c .first-support .ensures)
 
@@ -186,7 +181,7 @@ all-live-requires c κs =
     subst (λ (n : ℕ). Chosen ws ts ms (w .wide2 .result / w .before .wide .result * w .before .wide .result) n (c .before .before .load .result)) (sym (each-is w))
     (subst (λ (b : ℕ). Chosen ws ts ms b (a .args .m) (c .before .before .load .result)) (sym (base-is w))
     (subst (Chosen ws ts ms (baseOf a) (a .args .m)) (sym (loaded-is (c .before .before)))
-    (chosen (G a) (sound a) ws (a .args .numbers .now) (work a) (a .args .p) (a .args .x) (in-members a) (in-size a) (lives a) (is-index (c .before)))))
+    (chosen (seeker a) (is-index (c .before)))))
 
 same-length : tie.Need-same-length
 same-length c = search needs
@@ -200,7 +195,7 @@ returns c =
     let w = l .before .before in
     let a = entry w in
     let live : ℕ → ℕ → List ℕ → Bool = λ b n is. all (λ (j : ℕ). isLive (a .args .words .now) (chosenId (a .args .tuple-starts .now) (a .args .members .now) b is j)) (from 0 n) in
-    renewed-held (G a) (sound a) (a .args .words .now) (a .args .numbers .now) (work a) (a .args .p) (a .args .x) (in-members a) (in-size a) (lives a)
+    renewed-held (seeker a)
     (is-index (c .before .before .before))
     (sym
     (c .before .all-live .ensures
@@ -234,7 +229,7 @@ first-support-requires c κs =
     let w = b .before .before .before .before in
     let a = entry w in
     subst Ready (sym (search-is b))
-    (ready (G a) (sound a) (a .args .words .now) (a .args .numbers .now) (work a) (a .args .p) (a .args .x) (in-members a) (in-size a) (lives a))
+    (ready (seeker a))
 
 store-requires : tie.Need-store-requires
 store-requires c κs =
@@ -257,7 +252,7 @@ returns-2 c =
     (sym
     (c .before .before .store .ensures
     ∙ ap₂ (λ (at n : ℕ). take at (a .args .numbers .now) ++ take n (f .first-support .result .tuples) ++ drop (at + n) (a .args .numbers .now)) (is-at a) (each-is w)))
-    (renewed-found (G a) (sound a) (a .args .words .now) (a .args .numbers .now) (work a) (a .args .p) (a .args .x) (in-members a) (in-size a) (lives a)
+    (renewed-found (seeker a)
     (f .first-support .result .ok) (f .first-support .result .tuples) (answer-is f) (c .before .before .before .before .before .if3 .taken))
 
 mul-wide : tie.Need-mul-wide
@@ -285,7 +280,7 @@ add-clear c =
 clear-requires : tie.Need-clear-requires
 clear-requires c κs =
     let a = entry (looked (c .before .before)) in
-    omega (arith, id-is (c .before .before), tuple-below (G a) (sound a) (a .args .p) (a .args .x) (in-members a) (in-size a), work a .enough)
+    omega (arith, id-is (c .before .before), tuple-below (G a) (sound a) (a .args .p) (a .args .x) (in-members a) (in-size a), seeker a .working .enough)
 
 same-length-5 : tie.Need-same-length-5
 same-length-5 c = search needs
@@ -301,7 +296,7 @@ returns-3 c =
     let a = entry w in
     subst (λ (ws : List ℕ). Renewed (G a) (a .args .p) (a .args .x) (a .args .words .now) (a .args .numbers .now) false ws (a .args .numbers .now))
     (sym (c .before .before .clear .ensures ∙ ap (λ (g : ℕ). cleared g (a .args .words .now)) (id-is l)))
-    (renewed-none (G a) (sound a) (a .args .words .now) (a .args .numbers .now) (work a) (a .args .p) (a .args .x) (in-members a) (in-size a) (lives a)
+    (renewed-none (seeker a)
     (f .first-support .result .ok) (f .first-support .result .tuples) (answer-is f) (l .before .before .if3 .left))
 
 pub renew-spec : {M : Type 1} → statement M

@@ -15,16 +15,11 @@ use Rattle.worklist.specs.declared.queue.Queue.{Queue}
 use Rattle.engine.specs.Setting.{Setting, setting, Sound, placeOf}
 use Rattle.engine.specs.Work.{Working}
 use Rattle.engine.proofs.Bounds.{few-tuples, member-below}
+use Rattle.engine.proofs.Members.{few-tuples, member-below}
 use Rattle.engine.proofs.Visiting.{Going, going-kept, going-removed, still-waits, requeued-waits}
 use Rattle.engine.proofs.Walking.{Row, row-of, Come, end-total, walk-asks, come-first, come-end, index-inside, index-lives, come-more, come-ahead, place-short}
 use Rattle.engine.proofs.visit.visit.Statement.{statement}
 use Rattle.engine.proofs.visit.visit.Tie as tie
-use Rattle.engine.proofs.visit.visit.Reads as reads
-use Rattle.engine.proofs.visit.visit.Lts as lts
-use Rattle.engine.proofs.visit.renew.Reads as renew-reads
-use Rattle.live.proofs.next.Reads as next-reads
-use Rattle.network.proofs.wide.Reads as wide-reads
-use Rattle.worklist.proofs.queue.requeue.Reads as requeue-reads
 
 abbrev Inv-loop : tie.InvT-loop
 Inv-loop variables values variable-starts tuple-starts value-starts members m pair-starts words₀ numbers₀ p r first end start waiting₀ shrunk₀ g₀ words numbers waiting shrunk g =
@@ -66,7 +61,7 @@ row : (c : tie.After-wide4 Inv-loop μ-loop) → (let w = c .before .before .bef
 row c =
     let w = c .before .before .before .before .before in
     let a = entry c in
-    row-of (G a) (sound a) (a .args .p) (w .wide2 .result) (in-members a) (relation-is w)
+    row-of (sound a) (a .args .p) (w .wide2 .result) (in-members a) (relation-is w)
 
 -- where the pair's numbers begin
 start-is : (c : tie.After-wide4 Inv-loop μ-loop) → c .wide4 .result ≡ placeOf (G (entry c)) (entry c .args .p) 0
@@ -102,7 +97,7 @@ place-small c =
     let b = begun i in
     let a = entry b in
     let l = i .before .loop in
-    omega (arith, place-is c, place-short (G a) (sound a) (a .args .p) (first b) (end b) (row b) (a .args .queue .words) (a .args .words .now) (a .args .numbers .now) (l .waiting .words) (l .words) (l .numbers) (l .shrunk) (l .g) (l .inv) (i .loop-test .taken))
+    omega (arith, place-is c, place-short (row b) (l .inv) (i .loop-test .taken))
 
 -- ---- After the tuple's renewal
 
@@ -129,9 +124,9 @@ turned-kept c e =
     let b = begun i in
     let a = entry b in
     let l = i .before .loop in
-    going-kept (G a) (sound a) (a .args .p) (in-members a) (a .args .queue .words) (a .args .words .now) (a .args .numbers .now) (l .waiting .words) (l .words) (l .numbers) (l .shrunk) (l .g - first b) (l .inv .going)
-    (index-inside (G a) (sound a) (a .args .p) (first b) (end b) (row b) (a .args .queue .words) (a .args .words .now) (a .args .numbers .now) (l .waiting .words) (l .words) (l .numbers) (l .shrunk) (l .g) (l .inv) (i .loop-test .taken))
-    (c .renew .result) (words-after c) (numbers-after c) (c .renew .ensures) e
+    going-kept (sound a) (in-members a) (l .inv .going)
+    (index-inside (row b) (l .inv) (i .loop-test .taken))
+    (c .renew .ensures) e
 
 turned-removed : (c : tie.After-renew Inv-loop μ-loop) (waiting : Queue) → c .renew .result ≡ false → (let i = turning c in let a = entry (begun i) in (q : ℕ) → q < length (a .args .members .now) → isLive (waiting .words) q ≡ false → (isLive (i .before .loop .waiting .words) q ≡ false) × (queues (a .args .m) (a .args .members .now) (a .args .p) q ≡ false)) → Turned c waiting true
 turned-removed c waiting e waits =
@@ -139,10 +134,10 @@ turned-removed c waiting e waits =
     let b = begun i in
     let a = entry b in
     let l = i .before .loop in
-    going-removed (G a) (sound a) (a .args .p) (in-members a) (a .args .queue .words) (a .args .words .now) (a .args .numbers .now) (l .waiting .words) (l .words) (l .numbers) (l .shrunk) (l .g - first b) (l .inv .going)
-    (index-inside (G a) (sound a) (a .args .p) (first b) (end b) (row b) (a .args .queue .words) (a .args .words .now) (a .args .numbers .now) (l .waiting .words) (l .words) (l .numbers) (l .shrunk) (l .g) (l .inv) (i .loop-test .taken))
-    (c .renew .result) (words-after c) (numbers-after c) (c .renew .ensures)
-    (index-lives (G a) (sound a) (a .args .p) (first b) (end b) (row b) (a .args .queue .words) (a .args .words .now) (a .args .numbers .now) (l .waiting .words) (l .words) (l .numbers) (l .shrunk) (l .g) (l .inv) (i .loop-test .taken))
+    going-removed (sound a) (in-members a) (l .inv .going)
+    (index-inside (row b) (l .inv) (i .loop-test .taken))
+    (c .renew .ensures)
+    (index-lives (row b) (l .inv) (i .loop-test .taken))
     (waiting .words) waits e
 
 abbrev renewed : tie.Joined1 Inv-loop μ-loop → tie.After-renew Inv-loop μ-loop
@@ -158,13 +153,13 @@ turned c =
     let joins : (waiting : Queue) (shrunk : Bool) → c .if1 .waiting ≡ waiting → c .if1 .shrunk ≡ shrunk → Turned n waiting shrunk → Turned n (c .if1 .waiting) (c .if1 .shrunk) =
     λ waiting shrunk e f t. subst (λ (q : Queue). Turned n q (c .if1 .shrunk)) (sym e) (subst (Turned n waiting) (sym f) t) in
     ⊎-elim
-    (λ w. joins (w .2 .result) true (w .3) (w .4) (turned-removed n (w .2 .result) (not-true (n .renew .result) (w .0 .taken)) (requeued-waits (G a) (sound a) (a .args .p) (l .waiting .words) (w .2 .result .words) (w .2 .ensures))))
+    (λ w. joins (w .2 .result) true (w .3) (w .4) (turned-removed n (w .2 .result) (not-true (n .renew .result) (w .0 .taken)) (requeued-waits (sound a) (a .args .p) (l .waiting .words) (w .2 .result .words) (w .2 .ensures))))
     (⊎-elim
     (λ w.
     let e = not-false (l .shrunk) (w .1 .left) in
     joins (l .waiting) true (w .2) (w .3 ∙ e)
     (turned-removed n (l .waiting) (not-true (n .renew .result) (w .0 .taken))
-    (still-waits (G a) (sound a) (a .args .p) (in-members a) (a .args .queue .words) (a .args .words .now) (a .args .numbers .now) (l .waiting .words) (l .words) (l .numbers) (l .shrunk) (l .g - first b) (l .inv .going) e)))
+    (still-waits (sound a) (in-members a) (l .inv .going) e)))
     (λ w. joins (l .waiting) (l .shrunk) (w .1) (w .2) (turned-kept n (not-false (n .renew .result) (w .0 .left)))))
     (c .if1 .came)
 
@@ -213,14 +208,14 @@ next-requires : tie.Need-next-requires Inv-loop μ-loop
 next-requires c κs =
     let b = c .before in
     let a = entry b in
-    walk-asks (G a) (sound a) (a .args .p) (first b) (end b) (row b) (a .args .words .now) (first b) (work a .enough) (omega (arith, row b .is-end))
+    walk-asks (row b) (a .args .words .now) (first b) (work a .enough) (omega (arith, row b .is-end))
 
 loop-holds : tie.Need-loop-holds Inv-loop μ-loop
 loop-holds c =
     let b = c .before .before in
     let a = entry b in
     subst (Come (G a) (a .args .p) (first b) (end b) (a .args .queue .words) (a .args .words .now) (a .args .numbers .now) (a .args .queue .words) (a .args .words .now) (a .args .numbers .now) false) (sym (c .next .ensures))
-    (come-first (G a) (sound a) (a .args .p) (first b) (end b) (row b) (a .args .queue .words) (a .args .words .now) (a .args .numbers .now) (λ i h. b .before .before .before .before .before .before .before .before .before .slice-known .given i .fits) (work a))
+    (come-first (row b) (λ i h. b .before .before .before .before .before .before .before .before .before .slice-known .given i .fits) (work a))
 
 sub-x : tie.Need-sub-x Inv-loop μ-loop
 sub-x c = c .before .loop .inv .from-first
@@ -250,9 +245,9 @@ renew-requires c κs =
         (
           in-members a,
           (
-            index-inside (G a) (sound a) (a .args .p) (first b) (end b) (row b) (a .args .queue .words) (a .args .words .now) (a .args .numbers .now) (l .waiting .words) (l .words) (l .numbers) (l .shrunk) (l .g) (l .inv) (i .loop-test .taken),
+            index-inside (row b) (l .inv) (i .loop-test .taken),
             (
-              index-lives (G a) (sound a) (a .args .p) (first b) (end b) (row b) (a .args .queue .words) (a .args .words .now) (a .args .numbers .now) (l .waiting .words) (l .words) (l .numbers) (l .shrunk) (l .g) (l .inv) (i .loop-test .taken),
+              index-lives (row b) (l .inv) (i .loop-test .taken),
               place-is w,
             ),
           ),
@@ -270,7 +265,7 @@ add-next c =
     let i = turning (renewed (c .before)) in
     let b = begun i in
     let a = entry b in
-    omega (arith, i .loop-test .taken, end-total (G a) (sound a) (a .args .p) (first b) (end b) (row b), few-tuples (G a) (sound a))
+    omega (arith, i .loop-test .taken, end-total (row b), few-tuples (G a) (sound a))
 
 next-requires-2 : tie.Need-next-requires-2 Inv-loop μ-loop
 next-requires-2 c κs =
@@ -278,7 +273,7 @@ next-requires-2 c κs =
     let i = turning n in
     let b = begun i in
     let a = entry b in
-    walk-asks (G a) (sound a) (a .args .p) (first b) (end b) (row b) (words-after n) (i .before .loop .g + 1) (turned (c .before) .working .enough) (omega (arith, i .loop-test .taken))
+    walk-asks (row b) (words-after n) (i .before .loop .g + 1) (turned (c .before) .working .enough) (omega (arith, i .loop-test .taken))
 
 loop-less : tie.Need-loop-less Inv-loop μ-loop
 loop-less c =
@@ -287,7 +282,7 @@ loop-less c =
     let b = begun i in
     let a = entry b in
     let l = i .before .loop in
-    let f = come-ahead (G a) (sound a) (a .args .p) (first b) (end b) (row b) (a .args .queue .words) (a .args .words .now) (a .args .numbers .now) (l .waiting .words) (l .words) (l .numbers) (l .shrunk) (l .g) (l .inv) (i .loop-test .taken) (words-after n) in
+    let f = come-ahead (row b) (l .inv) (i .loop-test .taken) (words-after n) in
     omega (arith, f .0, f .1, c .next2 .ensures, i .loop-test .taken)
 
 loop-again : tie.Need-loop-again Inv-loop μ-loop
@@ -299,8 +294,7 @@ loop-again c =
     let a = entry b in
     let l = i .before .loop in
     subst (Come (G a) (a .args .p) (first b) (end b) (a .args .queue .words) (a .args .words .now) (a .args .numbers .now) (j .if1 .waiting .words) (words-after n) (numbers-after n) (j .if1 .shrunk)) (sym (c .next2 .ensures))
-    (come-more (G a) (sound a) (a .args .p) (first b) (end b) (row b) (a .args .queue .words) (a .args .words .now) (a .args .numbers .now) (l .waiting .words) (l .words) (l .numbers) (l .shrunk) (l .g) (l .inv) (i .loop-test .taken)
-    (j .if1 .waiting .words) (words-after n) (numbers-after n) (j .if1 .shrunk) (turned j))
+    (come-more (row b) (l .inv) (i .loop-test .taken) (turned j))
 
 same-length : tie.Need-same-length Inv-loop μ-loop
 same-length c = c .before .loop .inv .going .wide
@@ -313,7 +307,7 @@ returns c =
     let b = c .before .before .before .before in
     let a = entry b in
     let l = c .before .loop in
-    come-end (G a) (sound a) (a .args .p) (first b) (end b) (row b) (a .args .queue .words) (a .args .words .now) (a .args .numbers .now) (l .waiting .words) (l .words) (l .numbers) (l .shrunk) (l .g) (l .inv) (c .loop-test .left)
+    come-end (row b) (l .inv) (c .loop-test .left)
 
 pub visit-spec : {M : Type 1} → statement M
 visit-spec =
