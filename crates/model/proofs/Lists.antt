@@ -1,7 +1,7 @@
 -- Tests over lists against membership, the choices of one element from each list, and sums over parts of a list.
 use mathlib.Core.Path.{_≡_, refl, sym, _∙_, ap, subst}
 use mathlib.Core.Bool.{Bool, true, false, _&&_, _||_, false≢true, and-false}
-use mathlib.Core.Option.{orElse, Option·getD}
+use mathlib.Core.Option.{none, some, orElse, Option·getD, Option·some-injective, Option·none-ne-some, Option·some-ne-none}
 use mathlib.Core.List.{List, [], _∷_, _++_, map, map-append, head?, List·Memᴰ, List·Memᴰ·head, List·Memᴰ·tail, List·Memᴰ·eq-of-singleton, List·Memᴰ·cases-cons, List·Memᴰ·append-cases, Memᴰ·append-left, Memᴰ·append-right, Memᴰ·map, Memᴰ·of-map, Memᴰ·cast, List·Memᴰ·not-nil}
 use mathlib.Core.Logic.{⊎-elim}
 use Prim.Native.Nat.{ℕ, zero, suc, _+_, _-_, _≤_, _<_}
@@ -41,6 +41,22 @@ module _ {ℓ} {A : Type ℓ} where
   all-getD p [] k d e h = absurd (omega arith)
   all-getD p (x ∷ xs) zero d e h = and-left (p x) (all p xs) e
   all-getD p (x ∷ xs) (suc k) d e h = all-getD p xs k d (and-right (p x) (all p xs) e) (le-of-suc-le-suc h)
+
+  -- what stands at a place is in the list
+  pub getD-mem : (xs : List A) (k : ℕ) (d : A) → k < length xs → List·Memᴰ (getD xs k d) xs
+  getD-mem [] k d h = absurd (omega arith)
+  getD-mem (x ∷ xs) zero d h = here
+  getD-mem (x ∷ xs) (suc k) d h = List·Memᴰ·tail (getD-mem xs k d (le-of-suc-le-suc h))
+
+  -- what is in a list stands at some place
+  pub mem-getD : (xs : List A) {x : A} (d : A) → List·Memᴰ x xs → (k : ℕ) × (k < length xs) × (getD xs k d ≡ x)
+  mem-getD [] d m = absurd (List·Memᴰ·not-nil m)
+  mem-getD (y ∷ xs) {x} d m =
+      ⊎-elim
+      {C = (k : ℕ) × (k < length (y ∷ xs)) × (getD (y ∷ xs) k d ≡ x)}
+      (λ e. (0, omega arith, sym e))
+      (λ h. let r = mem-getD xs d h in (suc (r .0), omega (arith, r .1), r .2))
+      (List·Memᴰ·cases-cons m)
 
   pub all-append : (p : A → Bool) (xs ys : List A) → all p xs ≡ true → all p ys ≡ true → all p (xs ++ ys) ≡ true
   all-append p [] ys e f = f
@@ -155,6 +171,14 @@ module _ {ℓ} {A : Type ℓ} where
   unfolding orElse
   head-append [] ys = refl
   head-append (x ∷ xs) ys = refl
+
+  pub head-mem : (xs : List A) {x : A} → head? xs ≡ some x → List·Memᴰ x xs
+  head-mem [] {x} e = absurd (Option·none-ne-some x e)
+  head-mem (y ∷ xs) {x} e = List·Memᴰ·head (sym (Option·some-injective y x e))
+
+  pub head-none : (xs : List A) {x : A} → head? xs ≡ none → List·Memᴰ x xs → ⊥
+  head-none [] e m = List·Memᴰ·not-nil m
+  head-none (y ∷ xs) e m = Option·some-ne-none y e
 
   pub firstOr-head : (d : A) (xs : List A) → firstOr d xs ≡ Option·getD (head? xs) d
   firstOr-head d [] = refl
