@@ -2,7 +2,7 @@
 -- From the definitions, and what a network without faults has; for combinations of any number of members.
 use mathlib.Core.Path.{_≡_, refl, sym, _∙_, ap, ap₂, subst}
 use mathlib.Core.Bool.{Bool, true, false, not, _||_, true≢false}
-use mathlib.Core.List.{List, [], _∷_, _++_, map, List·Memᴰ, List·Memᴰ·head, List·Memᴰ·tail, List·Memᴰ·cases-cons, List·Memᴰ·eq-of-singleton, List·Memᴰ·not-nil, Memᴰ·of-map}
+use mathlib.Core.List.{List, [], _∷_, _++_, map, List·Memᴰ, List·Memᴰ·head, List·Memᴰ·tail, List·Memᴰ·cases-cons, List·Memᴰ·eq-of-singleton, List·Memᴰ·not-nil, Memᴰ·of-map, Memᴰ·cast}
 use mathlib.Core.Logic.{_⊎_, inl, inr, ⊎-elim}
 use Prim.Native.Nat.{ℕ, zero, suc, _+_, _*_, _/_, _%_, _≤_, _<_}
 use native.Mathlib.Nat.{zero-mul, suc-mul, add-mul, zero-add, add-comm, div-mul-le-self, div-add-mod', mul-le-mul-right, mod-lt, div-lt-iff-lt-mul, div-eq-of-lt-le}
@@ -20,7 +20,7 @@ use Rattle.model.specs.Combination.{Combination, combinations, pairCombi
 use Rattle.model.specs.Consistency.{needed}
 use Rattle.model.specs.Fault.{within}
 use Rattle.model.proofs.Bools.{and-left, or-cases, not-both}
-use Rattle.model.proofs.Lists.{here, all-at, all-intro, all-getD, mem-getD, any-at, any-intro, select-mem, mem-select, elem-mem, mem-elem, from-mem, length-from, getD-map-from}
+use Rattle.model.proofs.Lists.{here, all-at, all-intro, all-getD, mem-getD, any-at, any-intro, select-mem, mem-select, elem-mem, mem-elem, from-mem, length-from, getD-map-from, getD-mem}
 use Rattle.model.proofs.Network.{before-within}
 use Rattle.model.proofs.Fault.{Faultless}
 
@@ -41,6 +41,8 @@ module _ (m : ℕ) (list : List ℕ) where
   pub combination-within : (k : ℕ) → k < length list / m → k * m + m ≤ length list
   combination-within k h = omega (arith, suc-mul k m, mul-le-mul-right {m = suc k} m h, div-mul-le-self (length list) m)
 
+  -- ---- Pairs of combination and member
+
   -- each member of each combination is some pair's
   pub pair-of : {c : Combination} {r : ℕ} → 0 < m → List·Memᴰ c (combinations m list) → List·Memᴰ r c → (p : ℕ) × (p < length list) × (pairCombination m list p ≡ c) × (pairMember list p ≡ r)
   unfolding combinations
@@ -59,6 +61,36 @@ module _ (m : ℕ) (list : List ℕ) where
         ap (λ (x : ℕ). take m (drop (x * m) list)) q ∙ a .2,
         sym (getD-take m (drop (i * m) list) j 0 (omega (arith, f .1)) ∙ getD-drop (i * m) list j 0) ∙ f .2,
       )
+
+  -- a pair of a list of whole combinations
+  module _ (pos : 0 < m) (whole : length list / m * m ≡ length list) (p : ℕ) (h : p < length list) where
+    listed : p / m < length list / m
+    listed = div-lt-iff-lt-mul pos .1 (subst (λ (n : ℕ). p < n) (sym whole) h)
+
+    -- its combination lies within the list
+    pub pair-within : p / m * m + m ≤ length list
+    pair-within = combination-within (p / m) listed
+
+    pub pair-length : length (pairCombination m list p) ≡ m
+    pair-length = length-take-le m (drop (p / m * m) list) (omega (arith, length-drop (p / m * m) list, pair-within))
+
+    -- and is one of the combinations
+    pub pair-listed : List·Memᴰ (pairCombination m list p) (combinations m list)
+    pair-listed =
+        Memᴰ·cast (sym (combination-at (p / m) listed))
+        (getD-mem (combinations m list) (p / m) [] (subst (λ (n : ℕ). p / m < n) (sym combination-count) listed))
+
+    -- with the pair's member in its place
+    pub pair-place : getD (pairCombination m list p) (p % m) 0 ≡ pairMember list p
+    pair-place =
+        getD-take m (drop (p / m * m) list) (p % m) 0 (mod-lt p pos)
+        ∙ getD-drop (p / m * m) list (p % m) 0
+        ∙ ap (λ (k : ℕ). getD list k 0) (div-add-mod' p m)
+
+    pub pair-member : List·Memᴰ (pairMember list p) (pairCombination m list p)
+    pair-member =
+        Memᴰ·cast (sym pair-place)
+        (getD-mem (pairCombination m list p) (p % m) 0 (subst (λ (n : ℕ). p % m < n) (sym pair-length) (mod-lt p pos)))
 
   -- a list of whole combinations
   module _ (whole : length list % m ≡ 0) where

@@ -1,20 +1,22 @@
 -- Laws of R(*,m)C: the rule read off and shown, that it is monotone, and the test of consistency.
-use mathlib.Core.Path.{_≡_, refl, _∙_, ap, subst}
+use mathlib.Core.Path.{_≡_, refl, sym, _∙_, ap, subst}
 use mathlib.Core.Bool.{Bool, true, not, _||_}
-use mathlib.Core.List.{List, [], _∷_, map, List·Memᴰ, List·Memᴰ·tail}
+use mathlib.Core.List.{List, [], _∷_, map, List·Memᴰ, List·Memᴰ·tail, Memᴰ·cast}
 use mathlib.Core.Logic.{_↔_}
-use Prim.Native.Nat.{ℕ, _+_, _*_, _≤_}
+use Prim.Native.Nat.{ℕ, _+_, _*_, _/_, _≤_, _<_}
 use native.Mathlib.Omega.{arith}
 use lib.ListN.{length, length-append}
 use Rattle.model.specs.Lists.{from, sum, any, elem, each}
 use Rattle.model.specs.TupleSet.{TupleSet, has, count, without, Inside, Consistent, Largest}
-use Rattle.model.specs.Network.{Network, size, firstId, idsOf, relationOf}
-use Rattle.model.specs.Combination.{Combination}
+use Rattle.model.specs.Network.{Network, size, total, firstId, idsOf, relationOf}
+use Rattle.model.specs.Combination.{Combination, combinations, pairCombination, pairMember}
 use Rattle.model.specs.Support.{candidates, isSupport, firstSupport}
 use Rattle.model.specs.Consistency.{supported, isConsistent, filtered, supportList, needed}
 use Rattle.model.proofs.Bools.{iff-eq, implies-intro, implies-elim}
 use Rattle.model.proofs.Lists.{here, all-at, all-intro, any-at, any-intro, elem-mem, mem-elem, mem-from, length-from}
 use Rattle.model.proofs.TupleSet.{Monotone, has-below, closure-length, closure-count, closure-largest, largest-unique, closure-mono, closure-closure, closure-of-consistent, closure-without, closure-keeps}
+use Rattle.model.proofs.Network.{relationOf-ids, ids-relationOf}
+use Rattle.model.proofs.Combination.{pair-of, pair-listed, pair-member}
 use Rattle.model.proofs.Support.{Supported, isSupport-mono, firstSupport-length}
 
 module _ (N : Network) (cs : List Combination) where
@@ -96,6 +98,25 @@ module _ (N : Network) (cs : List Combination) where
   filtered-alone S g alone =
       iff-eq (has (filtered N cs S) g) (has S g) (filtered-largest S .inside g)
       (λ e. filtered-keeps (λ h. h ≡ g) (λ X lives h q. supported-intro X h (λ c m n. absurd (alone c m (subst (λ (x : ℕ). List·Memᴰ (relationOf N x) c) q n)))) S (λ h q. ap (has S) q ∙ e) g refl)
+
+-- ---- Consistency by pairs
+
+-- every live tuple of each pair's member has a support in the pair's combination
+pub isConsistent-pairs : (N : Network) (m : ℕ) (list : List ℕ) (S : TupleSet) → 0 < m → length list / m * m ≡ length list → length S ≡ total N → (isConsistent N (combinations m list) S ≡ true) ↔ ((p g : ℕ) → p < length list → List·Memᴰ g (idsOf N (pairMember list p)) → has S g ≡ true → Supported N S (pairCombination m list p) g)
+isConsistent-pairs N m list S pos whole long = (
+  λ e p g h n live. supported-at N (combinations m list) S g (pairCombination m list p)
+      (isConsistent-iff N (combinations m list) S .0 e g live)
+      (pair-listed m list pos whole p h)
+      (Memᴰ·cast (relationOf-ids N (pairMember list p) n) (pair-member m list pos whole p h)),
+  λ f. isConsistent-iff N (combinations m list) S .1
+      (λ g live.
+      supported-intro N (combinations m list) S g
+      (λ c n k.
+      let q = pair-of m list pos n k in
+      let i = ids-relationOf N g (omega (arith, has-below S g live)) in
+      subst (λ (d : Combination). Supported N S d g) (q .2)
+      (f (q .0) g (q .1) (subst (λ (r : ℕ). List·Memᴰ g (idsOf N r)) (sym (q .3)) (i .1)) live))),
+)
 
 -- ---- The support list
 

@@ -42,12 +42,13 @@ module _ {ℓ} {A : Type ℓ} where
   all-getD p (x ∷ xs) zero d e h = and-left (p x) (all p xs) e
   all-getD p (x ∷ xs) (suc k) d e h = all-getD p xs k d (and-right (p x) (all p xs) e) (le-of-suc-le-suc h)
 
-  -- what stands at a place is in the list, and what is in the list stands at some place
+  -- what stands at a place is in the list
   pub getD-mem : (xs : List A) (k : ℕ) (d : A) → k < length xs → List·Memᴰ (getD xs k d) xs
   getD-mem [] k d h = absurd (omega arith)
   getD-mem (x ∷ xs) zero d h = here
   getD-mem (x ∷ xs) (suc k) d h = List·Memᴰ·tail (getD-mem xs k d (le-of-suc-le-suc h))
 
+  -- what is in a list stands at some place
   pub mem-getD : (xs : List A) {x : A} (d : A) → List·Memᴰ x xs → (k : ℕ) × (k < length xs) × (getD xs k d ≡ x)
   mem-getD [] d m = absurd (List·Memᴰ·not-nil m)
   mem-getD (y ∷ xs) {x} d m =

@@ -1,7 +1,7 @@
 -- Laws of the search for a support, member by member: when it is done, when it goes on, and when it can find nothing.
 -- From the definition of the first support among candidates, and the laws of lists, supports, agreement and live words.
 use mathlib.Core.Path.{_≡_, refl, sym, _∙_, ap, subst}
-use mathlib.Core.Bool.{Bool, true, false, not}
+use mathlib.Core.Bool.{Bool, true, false, not, cond, false≢true}
 use mathlib.Core.Option.{Option, none, some, orElse, Option·getD}
 use mathlib.Core.List.{List, [], _∷_, _++_, map, map-append, map-id, append-nil, append-assoc, head?, List·Memᴰ, List·Memᴰ·tail, Memᴰ·append-left, Memᴰ·append-right, Memᴰ·map, Memᴰ·of-map}
 use mathlib.Core.Logic.{⊎-elim}
@@ -12,15 +12,15 @@ use lib.Dec.{ltb}
 use lib.ListN.{length, getD, take, replicate, length-map}
 use borrow.Author.Tests.{not-true}
 use Rattle.model.specs.Limits.{noSupport}
-use Rattle.model.specs.Lists.{from, all, select, pairwise, choices, prefixed, earlier}
+use Rattle.model.specs.Lists.{from, all, any, select, pairwise, choices, prefixed, earlier}
 use Rattle.model.specs.TupleSet.{TupleSet, has, Inside}
 use Rattle.model.specs.Network.{Network, size, total, firstId, idsOf, indexOf, relationOf}
 use Rattle.model.specs.Agreement.{agree}
 use Rattle.model.specs.Combination.{Combination}
 use Rattle.model.specs.LiveWords.{living, nextLive}
 use Rattle.model.specs.Support.{candidates, isSupport, supports, firstSupport, firstAmong, supportFrom, completion}
-use Rattle.model.proofs.Bools.{not-both, and-intro}
-use Rattle.model.proofs.Lists.{here, all-at, all-intro, all-map, pairwise-at, pairwise-cross, Picks, choices-picks, picks-append, select-append, select-all, select-mem, mem-select, select-none, head-append, head-mem, head-none, firstOr-head, from-append, from-mem, earlier-append, earlier-within, earlier-least, later-earlier}
+use Rattle.model.proofs.Bools.{not-both, and-intro, iff-eq}
+use Rattle.model.proofs.Lists.{here, all-at, all-intro, all-map, pairwise-at, pairwise-cross, Picks, choices-picks, picks-append, select-append, select-all, select-mem, mem-select, select-none, head-append, head-mem, head-none, firstOr-head, from-append, from-mem, earlier-append, earlier-within, earlier-least, later-earlier, any-at, any-intro}
 use Rattle.model.proofs.Agreement.{agree-sym}
 use Rattle.model.proofs.LiveWords.{living-has, nextLive-first}
 use Rattle.model.proofs.Support.{isSupport-self, isSupport-live, isSupport-agree, isSupport-mono, picks-same, candidates-length, candidates-own, Supported, firstSupport-least}
@@ -182,8 +182,12 @@ module _ (N : Network) (S : TupleSet) (g : ℕ) (low : List ℕ) where
   unfolding completion supportFrom candidates
   completion-start c = ap (firstAmong N S g low) (map-id (choices (map (idsOf N) c)))
 
+  -- no support of g in c is earlier than low
+  abbrev pub Lowest : Combination → Type 0
+  Lowest c = (t : List ℕ) → List·Memᴰ t (candidates N c) → isSupport N S g t ≡ true → earlier (map (indexOf N) t) low ≡ false
+
   -- no support is earlier than low: the first support
-  pub supportFrom-first : (c : Combination) → ((t : List ℕ) → List·Memᴰ t (candidates N c) → isSupport N S g t ≡ true → earlier (map (indexOf N) t) low ≡ false) → firstSupport N S c g ≡ Option·getD (supportFrom N S c g low) (replicate (length c) noSupport)
+  pub supportFrom-first : (c : Combination) → Lowest c → firstSupport N S c g ≡ Option·getD (supportFrom N S c g low) (replicate (length c) noSupport)
   unfolding firstSupport supports supportFrom firstAmong
   supportFrom-first c f =
       firstOr-head (replicate (length c) noSupport) (named (candidates N c))
@@ -203,12 +207,20 @@ module _ (N : Network) (S : TupleSet) (g : ℕ) (low : List ℕ) where
       let s = select-mem (isSupport N S g) (candidates N c) (k .1) in
       (k .0, s .0, s .1)
 
-  -- nothing is found, and no support is earlier than low: there is none
-  pub supportFrom-none : (c : Combination) → ((t : List ℕ) → List·Memᴰ t (candidates N c) → isSupport N S g t ≡ true → earlier (map (indexOf N) t) low ≡ false) → supportFrom N S c g low ≡ none → Supported N S c g → ⊥
+  -- where none is found, and no support is earlier than low, there is none
+  pub supportFrom-none : (c : Combination) → Lowest c → supportFrom N S c g low ≡ none → Supported N S c g → ⊥
   unfolding supportFrom firstAmong
   supportFrom-none c f e s =
       head-none (select late (named (candidates N c))) e
       (mem-select late (named (candidates N c)) (Memᴰ·map (map (indexOf N)) (mem-select (isSupport N S g) (candidates N c) (s .1) (s .2))) (ap not (f (s .0) (s .1) (s .2))))
+
+  -- so one is found exactly if there is one
+  pub supportFrom-any : (c : Combination) → Lowest c → (ok : Bool) (is : List ℕ) → cond ok (some is) none ≡ supportFrom N S c g low → ok ≡ any (isSupport N S g) (candidates N c)
+  supportFrom-any c f true is e =
+      let s = supportFrom-some c is (sym e) in
+      sym (any-intro (isSupport N S g) (candidates N c) (s .1) (s .2))
+  supportFrom-any c f false is e =
+      iff-eq false (any (isSupport N S g) (candidates N c)) (λ q. absurd (false≢true q)) (λ q. absurd (supportFrom-none c f (sym e) (any-at (isSupport N S g) (candidates N c) q)))
 
   -- ---- Where a search may begin
 
@@ -228,16 +240,19 @@ module _ (N : Network) (S : TupleSet) (g : ℕ) (low : List ℕ) where
       (f .4 u m (isSupport-mono N S T inside g u s)))
 
   -- at the index of g in its own place and 0 elsewhere
-  pub supportFrom-start : (c : Combination) (place own : ℕ) → pairwise ltb c ≡ true → place < length c → own < size N (getD c place 0) → g ≡ firstId N (getD c place 0) + own → getD low place 0 ≡ own → ((j : ℕ) → (j ≡ place → ⊥) → getD low j 0 ≡ 0) → firstSupport N S c g ≡ Option·getD (supportFrom N S c g low) (replicate (length c) noSupport)
-  supportFrom-start c place own rises h l is-g at-place elsewhere =
-      supportFrom-first c
-      (λ u m s. earlier-least (map (indexOf N) u) low (λ j k. at u m s j (ℕ-discrete j place)))
+  pub start-lowest : (c : Combination) (place own : ℕ) → pairwise ltb c ≡ true → place < length c → own < size N (getD c place 0) → g ≡ firstId N (getD c place 0) + own → getD low place 0 ≡ own → ((j : ℕ) → (j ≡ place → ⊥) → getD low j 0 ≡ 0) → Lowest c
+  start-lowest c place own rises h l is-g at-place elsewhere u m s =
+      earlier-least (map (indexOf N) u) low (λ j k. at u m s j (ℕ-discrete j place))
     where
       at : (u : List ℕ) → List·Memᴰ u (candidates N c) → isSupport N S g u ≡ true → (j : ℕ) → Dec (j ≡ place) → getD low j 0 ≤ getD (map (indexOf N) u) j 0
       at u m s j (yes q) =
           let e : getD (map (indexOf N) u) place 0 ≡ own = candidates-own N c rises m place own h l (subst (λ (x : ℕ). List·Memᴰ x u) is-g (isSupport-self N S g u s)) in
           rw q (omega arith)
       at u m s j (no d) = let e = elsewhere j d in omega arith
+
+  pub supportFrom-start : (c : Combination) (place own : ℕ) → pairwise ltb c ≡ true → place < length c → own < size N (getD c place 0) → g ≡ firstId N (getD c place 0) + own → getD low place 0 ≡ own → ((j : ℕ) → (j ≡ place → ⊥) → getD low j 0 ≡ 0) → firstSupport N S c g ≡ Option·getD (supportFrom N S c g low) (replicate (length c) noSupport)
+  supportFrom-start c place own rises h l is-g at-place elsewhere =
+      supportFrom-first c (start-lowest c place own rises h l is-g at-place elsewhere)
 
 -- ---- From one live id to the next
 

@@ -3,10 +3,10 @@
 use mathlib.Core.Path.{_≡_, refl, sym, _∙_, ap, subst}
 use mathlib.Core.List.{List, [], _∷_, _++_, map, append-assoc, List·Memᴰ, List·Memᴰ·tail}
 use Prim.Native.Nat.{ℕ, zero, suc, _+_, _*_, _/_, _≤_, _<_}
-use native.Mathlib.Nat.{add-zero, zero-add, add-suc, suc-add, zero-mul, add-mul, mul-le-mul-right, div-eq-of-lt-le, div-lt-iff-lt-mul}
+use native.Mathlib.Nat.{add-zero, zero-add, add-suc, suc-add, zero-mul, add-mul, mul-le-mul-right, div-eq-of-lt-le}
 use native.Mathlib.Omega.{arith}
-use lib.ListN.{length, getD, take, drop, length-drop}
-use lib.Seq.{take-take, take-add, take-length, drop-drop, drop-cons, length-take-le}
+use lib.ListN.{length, getD, take, drop}
+use lib.Seq.{take-take, take-add, take-length, drop-drop, drop-cons}
 use Rattle.model.specs.Lists.{from, sum, each}
 use Rattle.model.specs.TupleSet.{TupleSet}
 use Rattle.model.specs.Network.{Network, size, firstId, idsOf}
@@ -14,6 +14,7 @@ use Rattle.model.specs.Combination.{Combination, combinations, pairCombi
 use Rattle.model.specs.Support.{firstSupport}
 use Rattle.model.specs.Consistency.{supportList, needed, supportStart}
 use Rattle.model.proofs.Lists.{here, from-mem, length-from, map-places, sum-take-suc, sum-take-le, from-append}
+use Rattle.model.proofs.Combination.{pair-length}
 use Rattle.model.proofs.Consistency.{each-length, sum-times, sum-same, supportList-length}
 use Rattle.model.proofs.Support.{firstSupport-length}
 
@@ -112,11 +113,7 @@ module _ (N : Network) (S : TupleSet) (m : ℕ) (list : List ℕ) where
   supportStart-sum p h = sum-times (λ (k : ℕ). size N (getD list k 0)) m (from 0 p) ∙ ap (λ (xs : List ℕ). sum xs * m) (starts-places p h)
 
   pub pairCombination-length : (p : ℕ) → 0 < m → length list / m * m ≡ length list → p < length list → length (pairCombination m list p) ≡ m
-  pairCombination-length p pos whole h =
-      let j = p / m in
-      let l : suc j ≤ length list / m = div-lt-iff-lt-mul pos .1 (subst (λ (n : ℕ). p < n) (sym whole) h) in
-      let b : j * m + m ≤ length list = omega (arith, mul-le-mul-right m l, whole) in
-      length-take-le m (drop (j * m) list) (omega (arith, length-drop (j * m) list))
+  pairCombination-length p pos whole h = pair-length m list pos whole p h
 
   -- how many tuples' numbers lie before the one at i
   tuples-before : (f i : ℕ) → sum (map (λ (g : ℕ). m) (from f i)) ≡ i * m
