@@ -10,7 +10,7 @@ use native.Mathlib.Decide.{ℕ-discrete}
 use native.Mathlib.Omega.{arith}
 use lib.Dec.{eqb}
 use lib.ListN.{length, getD, take, drop, set, replicate, length-map, length-drop, getD-replicate, List·getD-append}
-use lib.Seq.{length-take-le, take-all, getD-set-same, getD-set-other, take-at}
+use lib.Seq.{length-take-le, take-all, take-at, getD-set-same, getD-set-other}
 use borrow.Author.Tests.{eq-eqb, ne-eqb}
 use Rattle.model.specs.Limits.{maxMembers, noSupport}
 use Rattle.model.specs.Lists.{from, all, earlier}
@@ -19,7 +19,7 @@ use Rattle.model.specs.Network.{Network, size, total, firstId, indexOf}
 use Rattle.model.specs.Combination.{Combination}
 use Rattle.model.specs.LiveWords.{isLive, cleared}
 use Rattle.model.specs.Support.{candidates, isSupport, firstSupport, supportFrom}
-use Rattle.model.proofs.Lists.{all-at, all-intro, all-map, map-from-same, map-places, from-mem, earlier-within}
+use Rattle.model.proofs.Lists.{all-at, all-intro, all-map, from-mem, map-from-same, map-places, earlier-within}
 use Rattle.model.proofs.Network.{ids-below}
 use Rattle.model.proofs.LiveWords.{living-has}
 use Rattle.model.proofs.Support.{isSupport-intro, isSupport-self, candidates-length, candidates-at, candidates-index, candidates-id, firstSupport-lowest}
@@ -29,7 +29,6 @@ use Rattle.worklist.proofs.Stretch.{replaced, replaced-same}
 use Rattle.support.specs.Search.{Search, searching, seeker, Ready, answer}
 use Rattle.engine.specs.Setting.{Setting, network, Sound, liveIn, combinationOf, sizeOf, tupleId, placeOf, held}
 use Rattle.engine.specs.Work.{Candidate, Bound, Working, Renewed}
-use Rattle.engine.proofs.Laws.{candidates-index, candidates-id, replaced-same, candidates-length, candidates-at, firstSupport-lowest, supportFrom-some, supportFrom-none}
 use Rattle.engine.proofs.Pairing.{m-positive, combination-length, member-at, place-within}
 use Rattle.engine.proofs.Members.{starts-tuples, few-tuples, member-below, base-within, combination-proper, start-at-member, place-below, own-index, none-earlier}
 

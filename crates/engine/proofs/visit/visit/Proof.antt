@@ -14,7 +14,6 @@ use Rattle.worklist.specs.Pairs.{queues}
 use Rattle.worklist.specs.declared.queue.Queue.{Queue}
 use Rattle.engine.specs.Setting.{Setting, setting, Sound, placeOf}
 use Rattle.engine.specs.Work.{Working}
-use Rattle.engine.proofs.Bounds.{few-tuples, member-below}
 use Rattle.engine.proofs.Members.{few-tuples, member-below}
 use Rattle.engine.proofs.Visiting.{Going, going-kept, going-removed, still-waits, requeued-waits}
 use Rattle.engine.proofs.Walking.{Row, row-of, Come, end-total, walk-asks, come-first, come-end, index-inside, index-lives, come-more, come-ahead, place-short}
