@@ -78,3 +78,71 @@ pub fn filter(
     let before = count(words, 0, total_of(shape));
     finish(shape, variables, values, m, members, words, supports, before)
 }
+
+// Withdraws the tuples listed, live or dead, and filters what then lives.
+pub fn withdraw(
+    shape: Shape,
+    variables: &[u16],
+    values: &[u16],
+    m: u16,
+    members: &[u16],
+    words: &mut [u64],
+    supports: &mut [u16],
+    ids: &[u16],
+) -> Answer
+    ensures { λ a. ⌜ replied a (now (words .exit)) (now (supports .exit)) ≡ reply (request (instanceOf shape (now (variables .entry)) (now (values .entry)) m (now (members .entry))) (now (words .entry)) (now (supports .entry)) (withdraw (now (ids .entry)))) ⌝ }
+{
+    let f = checked(shape, variables, values, m, members, words.len(), supports.len());
+    if f != 0 {
+        return Answer::Refused(f);
+    }
+    let tuples = total_of(shape);
+    let own = ids_fault(tuples, ids);
+    if own != 0 {
+        return Answer::Refused(own);
+    }
+    let before = count(words, 0, tuples);
+    withdraw_ids(words, ids);
+    finish(shape, variables, values, m, members, words, supports, before)
+}
+
+// Withdraws every tuple that has another value than v under variable x, and filters what then lives.
+pub fn choose(
+    shape: Shape,
+    variables: &[u16],
+    values: &[u16],
+    m: u16,
+    members: &[u16],
+    words: &mut [u64],
+    supports: &mut [u16],
+    x: u16,
+    v: u16,
+) -> Answer
+    ensures { λ a. ⌜ replied a (now (words .exit)) (now (supports .exit)) ≡ reply (request (instanceOf shape (now (variables .entry)) (now (values .entry)) m (now (members .entry))) (now (words .entry)) (now (supports .entry)) (choose x v)) ⌝ }
+{
+    let f = checked(shape, variables, values, m, members, words.len(), supports.len());
+    if f != 0 {
+        return Answer::Refused(f);
+    }
+    let own = variable_fault(x);
+    if own != 0 {
+        return Answer::Refused(own);
+    }
+    let tables = offsets(shape);
+    let variable_starts = tables.variables;
+    let tuple_starts = tables.tuples;
+    let value_starts = tables.values;
+    let before = count(words, 0, tuple_starts[MAX_RELATIONS]);
+    choose_value(
+        variables,
+        values,
+        &variable_starts,
+        &tuple_starts,
+        &value_starts,
+        shape.count as u16,
+        words,
+        x,
+        v,
+    );
+    finish(shape, variables, values, m, members, words, supports, before)
+}
