@@ -1,10 +1,10 @@
--- From the checks to the filter: what an instance without the faults 2 to 12 has, and that the filter of the struck words is
--- the reply. From the tables of faults, the laws of the tables of starts, and the laws of replies.
+-- What a request without the faults 2 to 12 gives the filter and the answer, and that what they leave of a change is the reply.
+-- From the tables of faults, the laws of the tables of starts, and the laws of replies.
 use mathlib.Core.Path.{_≡_, refl, sym, _∙_, ap, ap₂, subst}
 use mathlib.Core.Bool.{Bool, true, false, _||_}
 use mathlib.Core.Option.{none}
-use mathlib.Core.List.{List, [], _∷_, _++_, map, List·Memᴰ·tail}
-use Prim.Native.Nat.{ℕ, _+_, _-_, _*_, _/_, _%_, _≤_, _<_}
+use mathlib.Core.List.{List, [], _∷_, _++_, List·Memᴰ·tail}
+use Prim.Native.Nat.{ℕ, _+_, _-_, _*_, _≤_}
 use native.Mathlib.Nat.{div-add-mod'}
 use native.Mathlib.Omega.{arith}
 use borrow.Author.Tests.{ltb-false}
@@ -13,13 +13,13 @@ use lib.ListN.{length, getD, drop}
 use Rattle.model.specs.declared.Counts.{Counts}
 use Rattle.model.specs.declared.Answer.{Answer}
 use Rattle.model.specs.Limits.{wordBits, maxSupportNumbers}
-use Rattle.model.specs.Lists.{from, all}
+use Rattle.model.specs.Lists.{all}
 use Rattle.model.specs.TupleSet.{TupleSet, count, without}
-use Rattle.model.specs.Network.{Network, total, firstId, tuplesIn, variablesIn, valuesIn}
+use Rattle.model.specs.Network.{Network, total, tuplesIn, variablesIn, valuesIn}
 use Rattle.model.specs.Combination.{Combination, combinations}
 use Rattle.model.specs.Consistency.{filtered, needed, supportList}
 use Rattle.model.specs.LiveWords.{livingFrom, living, written}
-use Rattle.model.specs.Request.{Change, filter, Instance, combinationsOf, Request, removes}
+use Rattle.model.specs.Request.{filter, Instance, combinationsOf, Request, removes}
 use Rattle.model.specs.Fault.{Fault, firstFault, refusal, networkFaults, combinationFaults, wordsFault, supportsFault, changeFaults, properMembers, faultsOn}
 use Rattle.model.specs.Reply.{answerNumbers, answerFor, remainder, leaving, accepted, reply}
 use Rattle.model.proofs.Bools.{or-false-left}
@@ -31,9 +31,9 @@ use Rattle.model.proofs.Fault.{refusal-none, firstFault-front, firstFault-back,
 use Rattle.model.proofs.Reply.{accepts-neither, reply-accepted, countsFor-differences, leaving-written}
 use Rattle.network.specs.declared.Shape.{Shape}
 use Rattle.network.specs.Shape.{relationsOf, networkOf}
-use Rattle.network.specs.Layout.{starts, tabled, Laid, Bounded}
+use Rattle.network.specs.Layout.{starts, Laid, Bounded}
 use Rattle.network.proofs.Relations.{relation-count}
-use Rattle.network.proofs.Tabled.{laid-tabled, tabled-laid}
+use Rattle.network.proofs.Tabled.{laid-tabled}
 use Rattle.combination.specs.Proper.{proper, Proper}
 use Rattle.combination.proofs.Members.{some-members, few-members, whole-combinations, short-list, all-exist}
 use Rattle.worklist.specs.Tables.{Tabled}
@@ -46,7 +46,7 @@ use Rattle.calls.proofs.Instance.{network-few, network-bounded, combinations-pr
 use Rattle.calls.proofs.Tables.{total-at}
 use Rattle.calls.proofs.Change.{tables-given}
 use Rattle.calls.proofs.Struck.{struck-length, struck-living}
-use Rattle.changes.specs.Change.{request, replied, Checked, finished}
+use Rattle.changes.specs.Change.{replied, Checked, finished}
 
 -- the words and the support list at the end of the filter
 abbrev pub Filtered : Network → List Combination → List ℕ → List ℕ → List ℕ → List ℕ → Type 0
@@ -54,7 +54,53 @@ Filtered N cs words supports final numbers =
     let L = filtered N cs (living (total N) words) in
     (final ≡ written (total N) L words) × (numbers ≡ supportList N cs L ++ drop (needed N cs) supports)
 
--- ---- What the checks give
+-- ---- What the checks give of an instance
+
+module _ (I : Instance) (words supports : List ℕ) (ok : Checked I words supports) where
+  abbrev ofInstance : List Fault
+  ofInstance = networkFaults (I .network) ++ combinationFaults I
+
+  abbrev ofLists : List Fault
+  ofLists = wordsFault (I .network) (length words) ∷ supportsFault I (length supports) ∷ []
+
+  none-found : firstFault (ofInstance ++ ofLists) ≡ none
+  unfolding faultsOn
+  none-found = refusal-none (faultsOn I (length words) (length supports) filter) refl (sym ok)
+
+  lists-sound : firstFault ofLists ≡ none
+  lists-sound = firstFault-back ofInstance ofLists none-found
+
+  network-sound : firstFault (networkFaults (I .network)) ≡ none
+  network-sound = firstFault-front (networkFaults (I .network)) (combinationFaults I) (firstFault-front ofInstance ofLists none-found)
+
+  combinations-sound : firstFault (combinationFaults I) ≡ none
+  combinations-sound = firstFault-back (networkFaults (I .network)) (combinationFaults I) (firstFault-front ofInstance ofLists none-found)
+
+  -- there are enough words
+  pub checked-words : total (I .network) ≤ wordBits * length words
+  checked-words = omega (arith, ltb-false (length words * wordBits) (total (I .network)) (no-fault-at ofLists lists-sound here))
+
+  -- all ids can be counted
+  pub checked-ids : (end : ℕ) → end ≡ total (I .network) → (0 ≤ end) × (end ≤ 64 * length words) × (end ≤ 4096)
+  checked-ids end e = (omega arith, omega (arith, checked-words), omega (arith, (faultless (I .network) network-sound) .tuples))
+
+  abbrev wanted : ℕ
+  wanted = needed (I .network) (combinationsOf I)
+
+  supports-sound : (ltb maxSupportNumbers wanted || ltb (length supports) wanted) ≡ false
+  supports-sound = no-fault-at ofLists lists-sound (List·Memᴰ·tail here)
+
+  short : ltb maxSupportNumbers wanted ≡ false
+  short = or-false-left (ltb maxSupportNumbers wanted) (ltb (length supports) wanted) supports-sound
+
+  -- not too many support numbers, and room for them
+  few-numbers : wanted ≤ maxSupportNumbers
+  few-numbers = ltb-false maxSupportNumbers wanted short
+
+  room : wanted ≤ length supports
+  room = ltb-false (length supports) wanted (sym (ap (λ (b : Bool). b || ltb (length supports) wanted) short) ∙ supports-sound)
+
+-- ---- What they give of the records that were taken apart
 
 module _ (S : Shape) (variables values : List ℕ) (m : ℕ) (members words supports : List ℕ) where
   abbrev I : Instance
@@ -64,52 +110,20 @@ module _ (S : Shape) (variables values : List ℕ) (m : ℕ) (members words supp
   N = networkOf S variables values
 
   module _ (ok : Checked I words supports) where
-    none-found : firstFault (networkFaults N ++ combinationFaults I ++ (wordsFault N (length words) ∷ supportsFault I (length supports) ∷ [])) ≡ none
-    unfolding faultsOn
-    none-found = refusal-none (faultsOn I (length words) (length supports) filter) refl (sym ok)
-
-    instance-sound : firstFault (networkFaults N ++ combinationFaults I) ≡ none
-    instance-sound = firstFault-front (networkFaults N ++ combinationFaults I) (wordsFault N (length words) ∷ supportsFault I (length supports) ∷ []) none-found
-
-    lists-sound : firstFault (wordsFault N (length words) ∷ supportsFault I (length supports) ∷ []) ≡ none
-    lists-sound = firstFault-back (networkFaults N ++ combinationFaults I) (wordsFault N (length words) ∷ supportsFault I (length supports) ∷ []) none-found
-
-    network-sound : firstFault (networkFaults N) ≡ none
-    network-sound = firstFault-front (networkFaults N) (combinationFaults I) instance-sound
-
     pub checked-few : S .count ≤ 64
-    checked-few = network-few S variables values network-sound
+    checked-few = network-few S variables values (network-sound I words supports ok)
 
     pub checked-bounded : Bounded (relationsOf S)
-    checked-bounded = network-bounded S variables values network-sound
+    checked-bounded = network-bounded S variables values (network-sound I words supports ok)
 
     pub checked-proper : Proper (S .count) m members
-    checked-proper = combinations-proper S variables values m members (firstFault-back (networkFaults N) (combinationFaults I) instance-sound)
-
-    pub checked-words : total N ≤ wordBits * length words
-    checked-words = omega (arith, ltb-false (length words * wordBits) (total N) (no-fault-at (wordsFault N (length words) ∷ supportsFault I (length supports) ∷ []) lists-sound here))
-
-    -- all ids can be counted
-    pub checked-ids : (end : ℕ) → end ≡ total N → (0 ≤ end) × (end ≤ 64 * length words) × (end ≤ 4096)
-    checked-ids end e = (omega arith, omega (arith, checked-words), omega (arith, (faultless N network-sound) .tuples))
-
-    abbrev wanted : ℕ
-    wanted = needed N (combinations m members)
-
-    supports-sound : (ltb maxSupportNumbers wanted || ltb (length supports) wanted) ≡ false
-    supports-sound = no-fault-at (wordsFault N (length words) ∷ supportsFault I (length supports) ∷ []) lists-sound (List·Memᴰ·tail here)
-
-    short : ltb maxSupportNumbers wanted ≡ false
-    short = or-false-left (ltb maxSupportNumbers wanted) (ltb (length supports) wanted) supports-sound
-
-    room : wanted ≤ length supports
-    room = ltb-false (length supports) wanted (sym (ap (λ (b : Bool). b || ltb (length supports) wanted) short) ∙ supports-sound)
+    checked-proper = combinations-proper S variables values m members (combinations-sound I words supports ok)
 
     -- ---- The tables
 
     module _ (vs ts ws : List ℕ) (ev : vs ≡ starts variablesIn (relationsOf S)) (et : ts ≡ starts tuplesIn (relationsOf S)) (ew : ws ≡ starts valuesIn (relationsOf S)) where
       pub checked-tables : Tables N vs ts ws (S .count) (length words)
-      checked-tables = tables-given S variables values vs ts ws (length words) network-sound checked-words ev et ew
+      checked-tables = tables-given S variables values vs ts ws (length words) (network-sound I words supports ok) (checked-words I words supports ok) ev et ew
 
       pub checked-total : getD ts 64 0 ≡ total N
       checked-total = total-at N ts (S .count) (length words) (checked-tables .table)
@@ -136,7 +150,7 @@ module _ (S : Shape) (variables values : List ℕ) (m : ℕ) (members words supp
             relations = omega (arith, relation-count S, checked-few);
             pairs = pairs;
             exist = λ p h. omega (arith, relation-count S, all-exist m members (S .count) checked-proper p h);
-            short = ltb-false maxSupportNumbers wanted short;
+            short = few-numbers I words supports ok;
           }
 
       proper-members : all (properMembers N) (combinations m members) ≡ true
@@ -152,10 +166,10 @@ module _ (S : Shape) (variables values : List ℕ) (m : ℕ) (members words supp
           }
 
       -- what the filter asks
-      pub checked-sound : (k : ℕ) → k ≡ wanted → Sound G × ((total (network G) ≤ wordBits * length words) × ((k ≡ needed (network G) (listed G)) × (k ≤ length supports)))
+      pub checked-sound : (k : ℕ) → k ≡ needed N (combinations m members) → Sound G × ((total (network G) ≤ wordBits * length words) × ((k ≡ needed (network G) (listed G)) × (k ≤ length supports)))
       checked-sound k e = (
         sound,
-        subst (λ (M : Network). (total M ≤ wordBits * length words) × ((k ≡ needed M (combinations m members)) × (k ≤ length supports))) (sym same) (checked-words, (e, omega (arith, room))),
+        subst (λ (M : Network). (total M ≤ wordBits * length words) × ((k ≡ needed M (combinations m members)) × (k ≤ length supports))) (sym same) (checked-words I words supports ok, (e, omega (arith, e, room I words supports ok))),
       )
 
       -- ---- What the filter leaves
@@ -176,7 +190,7 @@ module _ (S : Shape) (variables values : List ℕ) (m : ℕ) (members words supp
         final-living : living (total N) final ≡ kept
         final-living =
             ap (living (total N)) (left .0)
-            ∙ living-written (total N) kept words (filtered-length N (combinations m members) alive ∙ living-length (total N) words) checked-words
+            ∙ living-written (total N) kept words (filtered-length N (combinations m members) alive ∙ living-length (total N) words) (checked-words I words supports ok)
 
         -- the tables serve the answer
         pub final-table : TupleTable N ts (S .count) (length final)
@@ -203,35 +217,48 @@ counted-all n end k ws e f =
     let g : end - 0 ≡ n = omega arith in
     f ∙ ap (λ (l : ℕ). count (livingFrom 0 l ws)) g
 
-module _ (I : Instance) (words supports : List ℕ) (change : Change) (ok : Checked I words supports) (enough : total (I .network) ≤ wordBits * length words) where
-  abbrev removed : ℕ → Bool
-  removed = removes (I .network) change
+-- The request has no fault, so many tuples lived before, and the words are now those lent with the change struck.
+pub record Changed (q : Request) (final : List ℕ) (before : ℕ) : Type 0 where
+  pub checked : Checked (q .given) (q .words) (q .supports)
+  pub own : 0 ≡ refusal (firstFault (changeFaults ((q .given) .network) (q .change)))
+  pub strikes : final ≡ struck (total ((q .given) .network)) (removes ((q .given) .network) (q .change)) (q .words)
+  pub lived : before ≡ count (living (total ((q .given) .network)) (q .words))
+
+module _ (q : Request) (final : List ℕ) (before : ℕ) (d : Changed q final before) where
+  abbrev J : Instance
+  J = q .given
 
   abbrev n : ℕ
-  n = total (I .network)
+  n = total (J .network)
 
-  abbrev S : TupleSet
-  S = living n words
+  abbrev removed : ℕ → Bool
+  removed = removes (J .network) (q .change)
 
-  -- the words once the change is struck, and how many tuples lived before
-  module _ (final : List ℕ) (e : final ≡ struck n removed words) (before : ℕ) (f : before ≡ count S) where
-    remaining : living n final ≡ without removed S
-    remaining = ap (living n) e ∙ struck-living n words removed enough
+  abbrev atEntry : TupleSet
+  atEntry = living n (q .words)
 
-    -- are what the last part of a call asks for
-    pub struck-checked : Checked I final supports
-    struck-checked = subst (λ (k : ℕ). 0 ≡ refusal (firstFault (faultsOn I k (length supports) filter))) (sym (ap length e ∙ struck-length n words removed)) ok
+  abbrev left-by : TupleSet → TupleSet
+  left-by L = filtered (J .network) (combinationsOf J) L
 
-    pub struck-fewer : count (living n final) ≤ before
-    struck-fewer = omega (arith, f, ap count remaining, without-count removed S)
+  abbrev counts : TupleSet → Counts
+  counts L = record { left = count (left-by L); withdrawn = count atEntry - count L; deleted = count L - count (left-by L) }
 
-    -- and what it leaves of them is the reply
-    pub struck-reply : 0 ≡ refusal (firstFault (changeFaults (I .network) change)) → finished I final supports before ≡ reply (request I words supports change)
-    unfolding finished remainder accepted
-    struck-reply own =
-        let counts : TupleSet → Counts = λ L. record { left = count (filtered (I .network) (combinationsOf I) L); withdrawn = count S - count L; deleted = count L - count (filtered (I .network) (combinationsOf I) L) } in
-        ap₂ (λ (ws : List ℕ) (k : ℕ). finished I ws supports k) e f
-        ∙ ap (λ (L : TupleSet). leaving I (filtered (I .network) (combinationsOf I) L) (counts L) (struck n removed words) supports) (struck-living n words removed enough)
-        ∙ leaving-written I (remainder I change S) (without removed S) (counts (without removed S)) words supports
-        ∙ ap (λ (k : Counts). leaving I (remainder I change S) k words supports) (sym (countsFor-differences I change S))
-        ∙ sym (reply-accepted (request I words supports change) (accepts-neither (request I words supports change) ok own))
+  remaining : living n (struck n removed (q .words)) ≡ without removed atEntry
+  remaining = struck-living n (q .words) removed (checked-words J (q .words) (q .supports) (d .checked))
+
+  -- this is what the last part of a call asks for
+  pub changed-ready : Checked J final (q .supports) × (count (living n final) ≤ before)
+  changed-ready = (
+    subst (λ (k : ℕ). 0 ≡ refusal (firstFault (faultsOn J k (length (q .supports)) filter))) (sym (ap length (d .strikes) ∙ struck-length n (q .words) removed)) (d .checked),
+    omega (arith, d .lived, ap (λ (ws : List ℕ). count (living n ws)) (d .strikes), ap count remaining, without-count removed atEntry),
+  )
+
+  -- and what it leaves is the reply
+  pub changed-reply : finished J final (q .supports) before ≡ reply q
+  unfolding finished remainder accepted
+  changed-reply =
+      ap₂ (λ (ws : List ℕ) (k : ℕ). finished J ws (q .supports) k) (d .strikes) (d .lived)
+      ∙ ap (λ (L : TupleSet). leaving J (left-by L) (counts L) (struck n removed (q .words)) (q .supports)) remaining
+      ∙ leaving-written J (remainder J (q .change) atEntry) (without removed atEntry) (counts (without removed atEntry)) (q .words) (q .supports)
+      ∙ ap (λ (k : Counts). leaving J (remainder J (q .change) atEntry) k (q .words) (q .supports)) (sym (countsFor-differences J (q .change) atEntry))
+      ∙ sym (reply-accepted q (accepts-neither q (d .checked) (d .own)))

@@ -71,12 +71,29 @@ pub fn filter(
 ) -> Answer
     ensures { λ a. ⌜ replied a (now (words .exit)) (now (supports .exit)) ≡ reply (request (instanceOf shape (now (variables .entry)) (now (values .entry)) m (now (members .entry))) (now (words .entry)) (now (supports .entry)) filter) ⌝ }
 {
-    let f = checked(shape, variables, values, m, members, words.len(), supports.len());
+    let f = checked(
+        shape,
+        variables,
+        values,
+        m,
+        members,
+        words.len(),
+        supports.len(),
+    );
     if f != 0 {
         return Answer::Refused(f);
     }
     let before = count(words, 0, total_of(shape));
-    finish(shape, variables, values, m, members, words, supports, before)
+    finish(
+        shape,
+        variables,
+        values,
+        m,
+        members,
+        words,
+        supports,
+        before,
+    )
 }
 
 // Withdraws the tuples listed, live or dead, and filters what then lives.
@@ -92,18 +109,35 @@ pub fn withdraw(
 ) -> Answer
     ensures { λ a. ⌜ replied a (now (words .exit)) (now (supports .exit)) ≡ reply (request (instanceOf shape (now (variables .entry)) (now (values .entry)) m (now (members .entry))) (now (words .entry)) (now (supports .entry)) (withdraw (now (ids .entry)))) ⌝ }
 {
-    let f = checked(shape, variables, values, m, members, words.len(), supports.len());
+    let f = checked(
+        shape,
+        variables,
+        values,
+        m,
+        members,
+        words.len(),
+        supports.len(),
+    );
     if f != 0 {
         return Answer::Refused(f);
     }
     let tuples = total_of(shape);
-    let own = ids_fault(tuples, ids);
-    if own != 0 {
-        return Answer::Refused(own);
+    let of_ids = ids_fault(tuples, ids);
+    if of_ids != 0 {
+        return Answer::Refused(of_ids);
     }
     let before = count(words, 0, tuples);
     withdraw_ids(words, ids);
-    finish(shape, variables, values, m, members, words, supports, before)
+    finish(
+        shape,
+        variables,
+        values,
+        m,
+        members,
+        words,
+        supports,
+        before,
+    )
 }
 
 // Withdraws every tuple that has another value than v under variable x, and filters what then lives.
@@ -120,13 +154,21 @@ pub fn choose(
 ) -> Answer
     ensures { λ a. ⌜ replied a (now (words .exit)) (now (supports .exit)) ≡ reply (request (instanceOf shape (now (variables .entry)) (now (values .entry)) m (now (members .entry))) (now (words .entry)) (now (supports .entry)) (choose x v)) ⌝ }
 {
-    let f = checked(shape, variables, values, m, members, words.len(), supports.len());
+    let f = checked(
+        shape,
+        variables,
+        values,
+        m,
+        members,
+        words.len(),
+        supports.len(),
+    );
     if f != 0 {
         return Answer::Refused(f);
     }
-    let own = variable_fault(x);
-    if own != 0 {
-        return Answer::Refused(own);
+    let of_variable = variable_fault(x);
+    if of_variable != 0 {
+        return Answer::Refused(of_variable);
     }
     let tables = offsets(shape);
     let variable_starts = tables.variables;
@@ -144,5 +186,14 @@ pub fn choose(
         x,
         v,
     );
-    finish(shape, variables, values, m, members, words, supports, before)
+    finish(
+        shape,
+        variables,
+        values,
+        m,
+        members,
+        words,
+        supports,
+        before,
+    )
 }

@@ -2,20 +2,17 @@
 -- From what the checks, the strike and `finish` ensure, and the laws of replies.
 use mathlib.Core.Path.{_≡_, sym, _∙_}
 use mathlib.Core.List.{List}
-use Prim.Native.Nat.{ℕ, _*_, _≤_}
+use Prim.Native.Nat.{ℕ}
 use native.Mathlib.Omega.{arith}
 use lib.ListN.{length, getD}
-use Rattle.model.specs.TupleSet.{count}
 use Rattle.model.specs.Network.{Network, total}
-use Rattle.model.specs.LiveWords.{living}
-use Rattle.model.specs.Request.{Change, choose, Instance, Request, removes}
+use Rattle.model.specs.Request.{Change, choose, Instance, Request}
 use Rattle.model.specs.Fault.{firstFault, refusal, changeFaults}
 use Rattle.model.proofs.Reply.{reply-shared, reply-own}
 use Rattle.calls.specs.Checks.{instanceOf}
-use Rattle.calls.specs.Struck.{struck}
 use Rattle.calls.specs.Tables.{Tables}
 use Rattle.changes.specs.Change.{request, Checked}
-use Rattle.changes.proofs.Ready.{checked-few, checked-bounded, checked-words, checked-ids, checked-tables, checked-total, counted-all, struck-checked, struck-fewer, struck-reply}
+use Rattle.changes.proofs.Ready.{checked-few, checked-bounded, checked-ids, checked-tables, checked-total, counted-all, Changed, changed-ready, changed-reply}
 use borrow.Author.Needs.{needs}
 use Rattle.changes.proofs.choose.Statement.{statement}
 use Rattle.changes.proofs.choose.Tie as tie
@@ -43,9 +40,6 @@ module _ (c : tie.Else1) where
 
   sound : Checked (instance entry) (entry .args .words .now) (entry .args .supports .now)
   sound = sym (c .if1 .left) ∙ c .before .checked .ensures
-
-  enough : total network ≤ 64 * length (entry .args .words .now)
-  enough = let a = entry .args in checked-words (a .shape) (a .variables .now) (a .values .now) (a .m) (a .members .now) (a .words .now) (a .supports .now) sound
 
 -- ---- .. and without fault 14
 
@@ -79,25 +73,27 @@ module _ (c : tie.After-offsets) where
 abbrev tables : tie.After-count → tie.After-offsets
 tables c = c .before .before .before .before .before
 
-lived : (c : tie.After-count) → (let one = laid (tables c) in c .count .result ≡ count (living (total (network one)) (entry one .args .words .now)))
-lived c =
-    let one = laid (tables c) in
-    counted-all (total (network one)) _ (c .count .result) (entry one .args .words .now) (all-ids (tables c)) (c .count .ensures)
-
 -- ---- Struck
 
 abbrev counts : tie.After-choose-value → tie.After-count
 counts c = c .before .before .before .before .before .before
 
 module _ (c : tie.After-choose-value) where
-  abbrev two : tie.Else1
-  two = laid (tables (counts c))
+  abbrev two : tie.After-offsets
+  two = tables (counts c)
 
   abbrev final : List ℕ
   final = c .choose-value .last .1 .1 .1 .1 .1 .1 .0
 
-  strikes : final ≡ struck (total (network two)) (removes (network two) (change (entry two))) (entry two .args .words .now)
-  strikes = c .choose-value .ensures (entry two .args .shape) (given (tables (counts c)))
+  done : Changed (asked (entry (laid two))) final (counts c .count .result)
+  done =
+      let a = entry (laid two) .args in
+      record {
+        checked = sound (laid two);
+        own = own (two .before);
+        strikes = c .choose-value .ensures (a .shape) (given two);
+        lived = counted-all (total (network (laid two))) _ (counts c .count .result) (a .words .now) (all-ids two) (counts c .count .ensures);
+      }
 
 checked-requires : tie.Need-checked-requires
 checked-requires c κs = search needs
@@ -122,8 +118,8 @@ array-read-count c = search needs
 count-requires : tie.Need-count-requires
 count-requires c κs =
     let o = c .before .before .before .before in
-    let a = entry (laid o) .args in
-    checked-ids (a .shape) (a .variables .now) (a .values .now) (a .m) (a .members .now) (a .words .now) (a .supports .now) (sound (laid o)) _ (all-ids o)
+    let e = entry (laid o) in
+    checked-ids (instance e) (e .args .words .now) (e .args .supports .now) (sound (laid o)) _ (all-ids o)
 
 cast-choose-value : tie.Need-cast-choose-value
 cast-choose-value c =
@@ -139,10 +135,7 @@ choose-value-requires c κs =
 finish-requires : tie.Need-finish-requires
 finish-requires c κs =
     let d = c .before .before .before .before in
-    let e = entry (two d) in (
-      struck-checked (instance e) (e .args .words .now) (e .args .supports .now) (change e) (sound (two d)) (enough (two d)) (final d) (strikes d) (counts d .count .result) (lived (counts d)),
-      struck-fewer (instance e) (e .args .words .now) (e .args .supports .now) (change e) (sound (two d)) (enough (two d)) (final d) (strikes d) (counts d .count .result) (lived (counts d)),
-    )
+    changed-ready (asked (entry (laid (two d)))) (final d) (counts d .count .result) (done d)
 
 same-length : tie.Need-same-length
 same-length c = search needs
@@ -154,9 +147,7 @@ returns-3 : tie.Need-returns-3
 returns-3 c =
     let ended = c .before .before .before .before in
     let d = ended .before .before .before .before .before in
-    let e = entry (two d) in
-    ended .finish .ensures
-    ∙ struck-reply (instance e) (e .args .words .now) (e .args .supports .now) (change e) (sound (two d)) (enough (two d)) (final d) (strikes d) (counts d .count .result) (lived (counts d)) (own (tables (counts d) .before))
+    ended .finish .ensures ∙ changed-reply (asked (entry (laid (two d)))) (final d) (counts d .count .result) (done d)
 
 pub choose-spec : {M : Type 1} → statement M
 choose-spec =

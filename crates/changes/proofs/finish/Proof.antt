@@ -1,15 +1,17 @@
 -- `finish` counts what lives, filters it and answers.
 -- From what the checks give, and what the tables, the counts, the filter and the answer ensure.
-use mathlib.Core.Path.{_≡_, sym, ap, _∙_}
+use mathlib.Core.Path.{_≡_}
 use mathlib.Core.List.{List}
 use Prim.Native.Nat.{ℕ, _≤_}
 use native.Mathlib.Omega.{arith}
-use lib.ListN.{getD}
+use lib.ListN.{length, getD}
 use Rattle.model.specs.TupleSet.{count}
 use Rattle.model.specs.Network.{Network, total}
 use Rattle.model.specs.LiveWords.{living}
-use Rattle.network.specs.Shape.{networkOf}
-use Rattle.changes.proofs.Ready.{Filtered, checked-few, checked-bounded, checked-proper, checked-total, checked-ids, checked-sound, final-table, final-fewer, final-reply, counted-all}
+use Rattle.model.specs.Request.{Instance}
+use Rattle.calls.specs.Checks.{instanceOf}
+use Rattle.calls.specs.Tables.{TupleTable}
+use Rattle.changes.proofs.Ready.{checked-few, checked-bounded, checked-proper, checked-total, checked-ids, checked-sound, final-table, final-fewer, final-reply, counted-all}
 use borrow.Author.Needs.{needs}
 use Rattle.changes.proofs.finish.Statement.{statement}
 use Rattle.changes.proofs.finish.Tie as tie
@@ -26,8 +28,11 @@ ready c = c .before .before
 abbrev counts : tie.After-filter → tie.After-count
 counts c = c .before .before .before .before .before .before
 
+abbrev instance : tie.Start → Instance
+instance c = instanceOf (c .args .shape) (c .args .variables .now) (c .args .values .now) (c .args .m) (c .args .members .now)
+
 abbrev network : tie.Start → Network
-network c = networkOf (c .args .shape) (c .args .variables .now) (c .args .values .now)
+network c = instance c .network
 
 -- the live words and the support list once the filter is done
 abbrev final : tie.After-filter → List ℕ
@@ -47,6 +52,21 @@ struck : (c : tie.After-count) → (let entry = start (laid (ready c)) in c .cou
 struck c =
     let entry = start (laid (ready c)) in
     counted-all (total (network entry)) _ (c .count .result) (entry .args .words .now) (all-ids (laid (ready c))) (c .count .ensures)
+
+-- the tables serve the answer, which counts no more than were counted before the filter
+table : (c : tie.After-filter) → (let o = laid (ready (counts c)) in TupleTable (network (start o)) (o .offsets .result .tuples) (start o .args .shape .count) (length (final c)))
+table c =
+    let o = laid (ready (counts c)) .offsets in
+    let entry = start (laid (ready (counts c))) in
+    let a = entry .args in
+    final-table (a .shape) (a .variables .now) (a .values .now) (a .m) (a .members .now) (a .words .now) (a .supports .now) (entry .pre .0) (o .result .variables) (o .result .tuples) (o .result .values) (o .ensures .0) (o .ensures .1 .0) (o .ensures .1 .1) (final c) (numbers c) (c .filter .ensures)
+
+fewer : (c : tie.After-filter) → count (living (total (network (start (laid (ready (counts c)))))) (final c)) ≤ counts c .count .result
+fewer c =
+    let o = laid (ready (counts c)) .offsets in
+    let entry = start (laid (ready (counts c))) in
+    let a = entry .args in
+    final-fewer (a .shape) (a .variables .now) (a .values .now) (a .m) (a .members .now) (a .words .now) (a .supports .now) (entry .pre .0) (o .result .variables) (o .result .tuples) (o .result .values) (o .ensures .0) (o .ensures .1 .0) (o .ensures .1 .1) (final c) (numbers c) (c .filter .ensures) (counts c .count .result) (struck (counts c))
 
 offsets-requires : tie.Need-offsets-requires
 offsets-requires c κs =
@@ -69,7 +89,7 @@ count-requires : tie.Need-count-requires
 count-requires c κs =
     let entry = start (laid (c .before)) in
     let a = entry .args in
-    checked-ids (a .shape) (a .variables .now) (a .values .now) (a .m) (a .members .now) (a .words .now) (a .supports .now) (entry .pre .0) _ (all-ids (laid (c .before)))
+    checked-ids (instance entry) (a .words .now) (a .supports .now) (entry .pre .0) _ (all-ids (laid (c .before)))
 
 filter-requires : tie.Need-filter-requires
 filter-requires c κs =
@@ -89,16 +109,8 @@ cast-answer-for c =
 answer-for-requires : tie.Need-answer-for-requires
 answer-for-requires c κs =
     let passed = c .before .before .before .before .before .before .before in
-    let o = laid (ready (counts passed)) .offsets in
     let entry = start (laid (ready (counts passed))) in
-    let a = entry .args in (
-      (
-        network entry,
-        final-table (a .shape) (a .variables .now) (a .values .now) (a .m) (a .members .now) (a .words .now) (a .supports .now) (entry .pre .0) (o .result .variables) (o .result .tuples) (o .result .values) (o .ensures .0) (o .ensures .1 .0) (o .ensures .1 .1) (final passed) (numbers passed) (passed .filter .ensures),
-        final-fewer (a .shape) (a .variables .now) (a .values .now) (a .m) (a .members .now) (a .words .now) (a .supports .now) (entry .pre .0) (o .result .variables) (o .result .tuples) (o .result .values) (o .ensures .0) (o .ensures .1 .0) (o .ensures .1 .1) (final passed) (numbers passed) (passed .filter .ensures) (counts passed .count .result) (struck (counts passed)),
-      ),
-      omega (arith, struck (counts passed), entry .pre .1),
-    )
+    ((network entry, table passed, fewer passed), omega (arith, struck (counts passed), entry .pre .1))
 
 same-length : tie.Need-same-length
 same-length c = search needs
@@ -113,7 +125,7 @@ returns c =
     let entry = start (laid (ready (counts passed))) in
     let a = entry .args in
     final-reply (a .shape) (a .variables .now) (a .values .now) (a .m) (a .members .now) (a .words .now) (a .supports .now) (entry .pre .0) (o .result .variables) (o .result .tuples) (o .result .values) (o .ensures .0) (o .ensures .1 .0) (o .ensures .1 .1) (final passed) (numbers passed) (passed .filter .ensures) (counts passed .count .result) (struck (counts passed)) (a .before) (c .answer-for .result)
-    (c .answer-for .ensures (network entry) (final-table (a .shape) (a .variables .now) (a .values .now) (a .m) (a .members .now) (a .words .now) (a .supports .now) (entry .pre .0) (o .result .variables) (o .result .tuples) (o .result .values) (o .ensures .0) (o .ensures .1 .0) (o .ensures .1 .1) (final passed) (numbers passed) (passed .filter .ensures)))
+    (c .answer-for .ensures (network entry) (table passed))
 
 pub finish-spec : {M : Type 1} → statement M
 finish-spec =
