@@ -33,7 +33,7 @@ fn instance_fault(shape: Shape, variables: &[u16], values: &[u16], m: u16, membe
 }
 
 // How many tuples the records call for.
-fn total_of(shape: Shape) -> u16
+pub fn total_of(shape: Shape) -> u16
     requires { ⌜ Bounded (relationsOf shape) ⌝ }
     ensures { λ n. ⌜ n ≡ sum (map tuplesIn (relationsOf shape)) ⌝ }
 {

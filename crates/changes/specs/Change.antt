@@ -1,0 +1,32 @@
+-- What a change call is given and what it leaves.
+use mathlib.Core.Path.{_≡_}
+use mathlib.Core.List.{List}
+use Prim.Native.Nat.{ℕ, _-_}
+use lib.ListN.{length}
+use Rattle.model.specs.declared.Answer.{Answer}
+use Rattle.model.specs.TupleSet.{count}
+use Rattle.model.specs.Network.{total}
+use Rattle.model.specs.Consistency.{filtered}
+use Rattle.model.specs.LiveWords.{living}
+use Rattle.model.specs.Request.{Change, filter, Instance, combinationsOf, Request}
+use Rattle.model.specs.Fault.{firstFault, refusal, faultsOn}
+use Rattle.model.specs.Reply.{Reply, answerNumbers, leaving}
+
+-- the request: an instance, the live words and the support list lent, and the change
+abbrev pub request : Instance → List ℕ → List ℕ → Change → Request
+request I words supports change = record { given = I; words = words; supports = supports; change = change }
+
+-- the reply: the answer, and the live words and the support list at the end
+abbrev pub replied : Answer → List ℕ → List ℕ → Reply
+replied a words supports = record { answer = answerNumbers a; words = words; supports = supports }
+
+-- none of the faults 2 to 12, with these live words and this support list
+abbrev pub Checked : Instance → List ℕ → List ℕ → Type 0
+Checked I words supports = 0 ≡ refusal (firstFault (faultsOn I (length words) (length supports) filter))
+
+-- what a call leaves of the words once its change is struck, where so many tuples lived before
+unfoldable pub finished : Instance → List ℕ → List ℕ → ℕ → Reply
+finished I words supports before =
+    let S = living (total (I .network)) words in
+    let L = filtered (I .network) (combinationsOf I) S in
+    leaving I L (record { left = count L; withdrawn = before - count S; deleted = count S - count L }) words supports

@@ -1,0 +1,199 @@
+// The change calls: filter, withdraw and choose.
+ghost use mathlib.Core.Path.{_≡_};
+ghost use Prim.Native.Nat.{_≤_};
+ghost use Rattle.model.specs.TupleSet.{count};
+ghost use Rattle.model.specs.Network.{total};
+ghost use Rattle.model.specs.LiveWords.{living};
+ghost use Rattle.model.specs.Request.{filter, withdraw, choose};
+ghost use Rattle.model.specs.Reply.{reply};
+ghost use Rattle.network.specs.Shape.{networkOf};
+ghost use Rattle.calls.specs.Checks.{instanceOf};
+ghost use Rattle.changes.specs.Change.{request, replied, Checked, finished};
+use calls::answer::answer_for;
+use calls::checks::checked;
+use calls::checks::ids_fault;
+use calls::checks::total_of;
+use calls::checks::variable_fault;
+use calls::strike::choose_value;
+use calls::strike::withdraw_ids;
+use combination::needed;
+use live::count;
+use model::Answer;
+use model::MAX_RELATIONS;
+use network::Shape;
+use network::tables::offsets;
+
+// The filter on what lives after the change is struck, and the answer where before tuples lived at entry.
+fn finish(
+    shape: Shape,
+    variables: &[u16],
+    values: &[u16],
+    m: u16,
+    members: &[u16],
+    words: &mut [u64],
+    supports: &mut [u16],
+    before: u16,
+) -> Answer
+    requires { ⌜ Checked (instanceOf shape (now variables) (now values) m (now members)) (now words) (now supports) ⌝ }
+    requires { ⌜ count (living (total (networkOf shape (now variables) (now values))) (now words)) ≤ before ⌝ }
+    ensures { λ a. ⌜ replied a (now (words .exit)) (now (supports .exit)) ≡ finished (instanceOf shape (now (variables .entry)) (now (values .entry)) m (now (members .entry))) (now (words .entry)) (now (supports .entry)) before ⌝ }
+{
+    let tables = offsets(shape);
+    let variable_starts = tables.variables;
+    let tuple_starts = tables.tuples;
+    let value_starts = tables.values;
+    let wanted = needed(shape, members, m);
+    let struck = count(words, 0, tuple_starts[MAX_RELATIONS]);
+    engine::filter::filter(
+        variables,
+        values,
+        &variable_starts,
+        &tuple_starts,
+        &value_starts,
+        members,
+        m,
+        wanted,
+        words,
+        supports,
+    );
+    answer_for(&tuple_starts, shape.count as u16, words, before, struck)
+}
+
+// Filters what lives.
+pub fn filter(
+    shape: Shape,
+    variables: &[u16],
+    values: &[u16],
+    m: u16,
+    members: &[u16],
+    words: &mut [u64],
+    supports: &mut [u16],
+) -> Answer
+    ensures { λ a. ⌜ replied a (now (words .exit)) (now (supports .exit)) ≡ reply (request (instanceOf shape (now (variables .entry)) (now (values .entry)) m (now (members .entry))) (now (words .entry)) (now (supports .entry)) filter) ⌝ }
+{
+    let f = checked(
+        shape,
+        variables,
+        values,
+        m,
+        members,
+        words.len(),
+        supports.len(),
+    );
+    if f != 0 {
+        return Answer::Refused(f);
+    }
+    let before = count(words, 0, total_of(shape));
+    finish(
+        shape,
+        variables,
+        values,
+        m,
+        members,
+        words,
+        supports,
+        before,
+    )
+}
+
+// Withdraws the tuples listed, live or dead, and filters what then lives.
+pub fn withdraw(
+    shape: Shape,
+    variables: &[u16],
+    values: &[u16],
+    m: u16,
+    members: &[u16],
+    words: &mut [u64],
+    supports: &mut [u16],
+    ids: &[u16],
+) -> Answer
+    ensures { λ a. ⌜ replied a (now (words .exit)) (now (supports .exit)) ≡ reply (request (instanceOf shape (now (variables .entry)) (now (values .entry)) m (now (members .entry))) (now (words .entry)) (now (supports .entry)) (withdraw (now (ids .entry)))) ⌝ }
+{
+    let f = checked(
+        shape,
+        variables,
+        values,
+        m,
+        members,
+        words.len(),
+        supports.len(),
+    );
+    if f != 0 {
+        return Answer::Refused(f);
+    }
+    let tuples = total_of(shape);
+    let of_ids = ids_fault(tuples, ids);
+    if of_ids != 0 {
+        return Answer::Refused(of_ids);
+    }
+    let before = count(words, 0, tuples);
+    withdraw_ids(words, ids);
+    finish(
+        shape,
+        variables,
+        values,
+        m,
+        members,
+        words,
+        supports,
+        before,
+    )
+}
+
+// Withdraws every tuple that has another value than v under variable x, and filters what then lives.
+pub fn choose(
+    shape: Shape,
+    variables: &[u16],
+    values: &[u16],
+    m: u16,
+    members: &[u16],
+    words: &mut [u64],
+    supports: &mut [u16],
+    x: u16,
+    v: u16,
+) -> Answer
+    ensures { λ a. ⌜ replied a (now (words .exit)) (now (supports .exit)) ≡ reply (request (instanceOf shape (now (variables .entry)) (now (values .entry)) m (now (members .entry))) (now (words .entry)) (now (supports .entry)) (choose x v)) ⌝ }
+{
+    let f = checked(
+        shape,
+        variables,
+        values,
+        m,
+        members,
+        words.len(),
+        supports.len(),
+    );
+    if f != 0 {
+        return Answer::Refused(f);
+    }
+    let of_variable = variable_fault(x);
+    if of_variable != 0 {
+        return Answer::Refused(of_variable);
+    }
+    let tables = offsets(shape);
+    let variable_starts = tables.variables;
+    let tuple_starts = tables.tuples;
+    let value_starts = tables.values;
+    let before = count(words, 0, tuple_starts[MAX_RELATIONS]);
+    choose_value(
+        variables,
+        values,
+        &variable_starts,
+        &tuple_starts,
+        &value_starts,
+        shape.count as u16,
+        words,
+        x,
+        v,
+    );
+    finish(
+        shape,
+        variables,
+        values,
+        m,
+        members,
+        words,
+        supports,
+        before,
+    )
+}
