@@ -70,7 +70,7 @@ module _ (I : Instance) (words supports : List ℕ) (ok : Checked I words suppor
   lists-sound : firstFault ofLists ≡ none
   lists-sound = firstFault-back ofInstance ofLists none-found
 
-  network-sound : firstFault (networkFaults (I .network)) ≡ none
+  pub network-sound : firstFault (networkFaults (I .network)) ≡ none
   network-sound = firstFault-front (networkFaults (I .network)) (combinationFaults I) (firstFault-front ofInstance ofLists none-found)
 
   combinations-sound : firstFault (combinationFaults I) ≡ none
@@ -122,7 +122,7 @@ module _ (S : Shape) (variables values : List ℕ) (m : ℕ) (members words supp
     -- ---- The tables
 
     module _ (vs ts ws : List ℕ) (ev : vs ≡ starts variablesIn (relationsOf S)) (et : ts ≡ starts tuplesIn (relationsOf S)) (ew : ws ≡ starts valuesIn (relationsOf S)) where
-      pub checked-tables : Tables N vs ts ws (S .count) (length words)
+      checked-tables : Tables N vs ts ws (S .count) (length words)
       checked-tables = tables-given S variables values vs ts ws (length words) (network-sound I words supports ok) (checked-words I words supports ok) ev et ew
 
       pub checked-total : getD ts 64 0 ≡ total N

@@ -1,13 +1,18 @@
 // The change calls: filter, withdraw and choose.
 ghost use mathlib.Core.Path.{_≡_};
-ghost use Prim.Native.Nat.{_≤_};
+ghost use mathlib.Core.Option.{none};
+ghost use Prim.Native.Nat.{_*_, _≤_};
+ghost use lib.ListN.{length};
+ghost use Rattle.model.specs.Limits.{wordBits};
 ghost use Rattle.model.specs.TupleSet.{count};
 ghost use Rattle.model.specs.Network.{total};
 ghost use Rattle.model.specs.LiveWords.{living};
-ghost use Rattle.model.specs.Request.{filter, withdraw, choose};
+ghost use Rattle.model.specs.Request.{filter, withdraw, choose, removes};
+ghost use Rattle.model.specs.Fault.{networkFaults, firstFault};
 ghost use Rattle.model.specs.Reply.{reply};
 ghost use Rattle.network.specs.Shape.{networkOf};
 ghost use Rattle.calls.specs.Checks.{instanceOf};
+ghost use Rattle.calls.specs.Struck.{struck};
 ghost use Rattle.changes.specs.Change.{request, replied, Checked, finished};
 use calls::answer::answer_for;
 use calls::checks::checked;
@@ -140,6 +145,28 @@ pub fn withdraw(
     )
 }
 
+// Each tuple with another value than v under variable x is dead, and every other bit stays.
+fn strike_value(shape: Shape, variables: &[u16], values: &[u16], words: &mut [u64], x: u16, v: u16)
+    requires { ⌜ (let N = networkOf shape (now variables) (now values) in (firstFault (networkFaults N) ≡ none) × (total N ≤ wordBits * length (now words))) ⌝ }
+    ensures { λ _. ⌜ (let N = networkOf shape (now (variables .entry)) (now (values .entry)) in now (words .exit) ≡ struck (total N) (removes N (choose x v)) (now (words .entry))) ⌝ }
+{
+    let tables = offsets(shape);
+    let variable_starts = tables.variables;
+    let tuple_starts = tables.tuples;
+    let value_starts = tables.values;
+    choose_value(
+        variables,
+        values,
+        &variable_starts,
+        &tuple_starts,
+        &value_starts,
+        shape.count as u16,
+        words,
+        x,
+        v,
+    );
+}
+
 // Withdraws every tuple that has another value than v under variable x, and filters what then lives.
 pub fn choose(
     shape: Shape,
@@ -170,22 +197,8 @@ pub fn choose(
     if of_variable != 0 {
         return Answer::Refused(of_variable);
     }
-    let tables = offsets(shape);
-    let variable_starts = tables.variables;
-    let tuple_starts = tables.tuples;
-    let value_starts = tables.values;
-    let before = count(words, 0, tuple_starts[MAX_RELATIONS]);
-    choose_value(
-        variables,
-        values,
-        &variable_starts,
-        &tuple_starts,
-        &value_starts,
-        shape.count as u16,
-        words,
-        x,
-        v,
-    );
+    let before = count(words, 0, total_of(shape));
+    strike_value(shape, variables, values, words, x, v);
     finish(
         shape,
         variables,

@@ -3,16 +3,13 @@
 use mathlib.Core.Path.{_≡_, sym, _∙_}
 use mathlib.Core.List.{List}
 use Prim.Native.Nat.{ℕ}
-use native.Mathlib.Omega.{arith}
-use lib.ListN.{length, getD}
 use Rattle.model.specs.Network.{Network, total}
 use Rattle.model.specs.Request.{Change, choose, Instance, Request}
 use Rattle.model.specs.Fault.{firstFault, refusal, changeFaults}
 use Rattle.model.proofs.Reply.{reply-shared, reply-own}
 use Rattle.calls.specs.Checks.{instanceOf}
-use Rattle.calls.specs.Tables.{Tables}
 use Rattle.changes.specs.Change.{request, Checked}
-use Rattle.changes.proofs.Ready.{checked-few, checked-bounded, checked-ids, checked-tables, checked-total, counted-all, Changed, changed-ready, changed-reply}
+use Rattle.changes.proofs.Ready.{network-sound, checked-words, checked-bounded, checked-ids, counted-all, Changed, changed-ready, changed-reply}
 use borrow.Author.Needs.{needs}
 use Rattle.changes.proofs.choose.Statement.{statement}
 use Rattle.changes.proofs.choose.Tie as tie
@@ -52,47 +49,28 @@ one c = c .before .before
 own : (c : tie.Else2) → 0 ≡ refusal (firstFault (changeFaults (network (one c)) (change (entry (one c)))))
 own c = sym (c .if2 .left) ∙ tested (c .before)
 
--- ---- The tables
-
-module _ (c : tie.After-offsets) where
-  abbrev laid : tie.Else1
-  laid = one (c .before)
-
-  given : (let o = c .offsets .result in Tables (network laid) (o .variables) (o .tuples) (o .values) (entry laid .args .shape .count) (length (entry laid .args .words .now)))
-  given =
-      let o = c .offsets in
-      let a = entry laid .args in
-      checked-tables (a .shape) (a .variables .now) (a .values .now) (a .m) (a .members .now) (a .words .now) (a .supports .now) (sound laid) (o .result .variables) (o .result .tuples) (o .result .values) (o .ensures .0) (o .ensures .1 .0) (o .ensures .1 .1)
-
-  all-ids : getD (c .offsets .result .tuples) 64 0 ≡ total (network laid)
-  all-ids =
-      let o = c .offsets in
-      let a = entry laid .args in
-      checked-total (a .shape) (a .variables .now) (a .values .now) (a .m) (a .members .now) (a .words .now) (a .supports .now) (sound laid) (o .result .variables) (o .result .tuples) (o .result .values) (o .ensures .0) (o .ensures .1 .0) (o .ensures .1 .1)
-
-abbrev tables : tie.After-count → tie.After-offsets
-tables c = c .before .before .before .before .before
-
 -- ---- Struck
 
-abbrev counts : tie.After-choose-value → tie.After-count
-counts c = c .before .before .before .before .before .before
+abbrev counts : tie.After-strike-value → tie.After-count
+counts c = c .before .before
 
-module _ (c : tie.After-choose-value) where
-  abbrev two : tie.After-offsets
-  two = tables (counts c)
+abbrev passed : tie.After-count → tie.Else2
+passed c = c .before .before .before
+
+module _ (c : tie.After-strike-value) where
+  abbrev two : tie.Else2
+  two = passed (counts c)
 
   abbrev final : List ℕ
-  final = c .choose-value .last .1 .1 .1 .1 .1 .1 .0
+  final = c .strike-value .last .1 .1 .1 .0
 
-  done : Changed (asked (entry (laid two))) final (counts c .count .result)
+  done : Changed (asked (entry (one two))) final (counts c .count .result)
   done =
-      let a = entry (laid two) .args in
       record {
-        checked = sound (laid two);
-        own = own (two .before);
-        strikes = c .choose-value .ensures (a .shape) (given two);
-        lived = counted-all (total (network (laid two))) _ (counts c .count .result) (a .words .now) (all-ids two) (counts c .count .ensures);
+        checked = sound (one two);
+        own = own two;
+        strikes = c .strike-value .ensures;
+        lived = counted-all (total (network (one two))) _ (counts c .count .result) (entry (one two) .args .words .now) (counts c .before .total-of .ensures) (counts c .count .ensures);
       }
 
 checked-requires : tie.Need-checked-requires
@@ -109,33 +87,29 @@ returns-2 c =
     let one = c .before .before in
     sym (reply-own (asked (entry one)) (sound one) (c .before .variable-fault .result) (tested (c .before)) (c .if2 .taken))
 
-offsets-requires : tie.Need-offsets-requires
-offsets-requires c κs = let a = entry (one c) .args in checked-bounded (a .shape) (a .variables .now) (a .values .now) (a .m) (a .members .now) (a .words .now) (a .supports .now) (sound (one c))
-
-array-read-count : tie.Need-array-read-count
-array-read-count c = search needs
+total-of-requires : tie.Need-total-of-requires
+total-of-requires c κs =
+    let a = entry (one (c .before)) .args in
+    checked-bounded (a .shape) (a .variables .now) (a .values .now) (a .m) (a .members .now) (a .words .now) (a .supports .now) (sound (one (c .before)))
 
 count-requires : tie.Need-count-requires
 count-requires c κs =
-    let o = c .before .before .before .before in
-    let e = entry (laid o) in
-    checked-ids (instance e) (e .args .words .now) (e .args .supports .now) (sound (laid o)) _ (all-ids o)
+    let three = one (c .before .before) in
+    let e = entry three in
+    checked-ids (instance e) (e .args .words .now) (e .args .supports .now) (sound three) _ (c .total-of .ensures)
 
-cast-choose-value : tie.Need-cast-choose-value
-cast-choose-value c =
-    let one = laid (tables (c .before .before .before .before)) in
-    let a = entry one .args in
-    omega (arith, checked-few (a .shape) (a .variables .now) (a .values .now) (a .m) (a .members .now) (a .words .now) (a .supports .now) (sound one))
-
-choose-value-requires : tie.Need-choose-value-requires
-choose-value-requires c κs =
-    let o = tables (c .before .before .before .before .before) in
-    (entry (laid o) .args .shape, given o)
+strike-value-requires : tie.Need-strike-value-requires
+strike-value-requires c κs =
+    let three = one (passed (c .before)) in
+    let e = entry three in (
+      network-sound (instance e) (e .args .words .now) (e .args .supports .now) (sound three),
+      checked-words (instance e) (e .args .words .now) (e .args .supports .now) (sound three),
+    )
 
 finish-requires : tie.Need-finish-requires
 finish-requires c κs =
     let d = c .before .before .before .before in
-    changed-ready (asked (entry (laid (two d)))) (final d) (counts d .count .result) (done d)
+    changed-ready (asked (entry (one (two d)))) (final d) (counts d .count .result) (done d)
 
 same-length : tie.Need-same-length
 same-length c = search needs
@@ -147,7 +121,7 @@ returns-3 : tie.Need-returns-3
 returns-3 c =
     let ended = c .before .before .before .before in
     let d = ended .before .before .before .before .before in
-    ended .finish .ensures ∙ changed-reply (asked (entry (laid (two d)))) (final d) (counts d .count .result) (done d)
+    ended .finish .ensures ∙ changed-reply (asked (entry (one (two d)))) (final d) (counts d .count .result) (done d)
 
 pub choose-spec : {M : Type 1} → statement M
 choose-spec =
@@ -157,11 +131,9 @@ choose-spec =
     returns
     variable-fault-requires
     returns-2
-    offsets-requires
-    array-read-count
+    total-of-requires
     count-requires
-    cast-choose-value
-    choose-value-requires
+    strike-value-requires
     finish-requires
     same-length
     same-length-2
