@@ -13,5 +13,8 @@ pub mod Request
 pub mod Fault
 pub mod Reply
 pub mod Calls
+pub mod Text
+pub mod Reading
+pub mod Listing
 pub mod Promises
 pub mod Examples
