@@ -13,6 +13,7 @@ pub mod Request
 pub mod Fault
 pub mod Reply
 pub mod Calls
+pub mod Edges
 pub mod Text
 pub mod Reading
 pub mod Listing

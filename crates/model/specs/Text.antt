@@ -4,12 +4,11 @@ use mathlib.Core.List.{List, [], _∷_, _++_, map}
 use Prim.Native.Nat.{ℕ, zero, suc, _+_, _/_, _%_}
 use lib.Dec.{leb, ltb, eqb}
 use lib.ListN.{length}
-use Rattle.model.specs.declared.Relation.{Relation}
-use Rattle.model.specs.Limits.{maxRelations, maxWidth, maxTuples, minMembers, maxMembers, maxCombinations}
+use Rattle.model.specs.Limits.{maxRelations, maxTuples, minMembers, maxMembers, maxCombinations}
 use Rattle.model.specs.Lists.{from, all, each}
 use Rattle.model.specs.Network.{Network, width, size, total, idsOf, scopeOf, tupleOf}
 use Rattle.model.specs.Request.{Instance, combinationsOf}
-use Rattle.model.specs.Fault.{within, properLengths}
+use Rattle.model.specs.Fault.{within, properWidth, properLengths}
 
 -- "each at most 65,535"
 abbrev pub maxField : ℕ
@@ -73,7 +72,7 @@ writable I =
     within 1 maxRelations (length (I .network .relations))
     && within minMembers maxMembers (I .m)
     && (eqb (length (I .members) % (I .m)) 0 && leb (length (combinationsOf I)) maxCombinations)
-    && all (λ (R : Relation). within 1 maxWidth (R .width)) (I .network .relations)
+    && all properWidth (I .network .relations)
     && leb (total (I .network)) maxTuples
     && properLengths (I .network)
     && smallFields (instanceLines I)
