@@ -18,4 +18,6 @@ pub mod Locality
 pub mod Reply
 pub mod Calls
 pub mod Mission
+pub mod Text
+pub mod Reading
 pub mod Examples

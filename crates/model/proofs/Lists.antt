@@ -2,7 +2,7 @@
 use mathlib.Core.Path.{_≡_, refl, sym, _∙_, ap, subst}
 use mathlib.Core.Bool.{Bool, true, false, _&&_, _||_, false≢true, and-false}
 use mathlib.Core.Option.{none, some, orElse, Option·getD, Option·some-injective, Option·none-ne-some, Option·some-ne-none}
-use mathlib.Core.List.{List, [], _∷_, _++_, map, map-append, head?, List·Memᴰ, List·Memᴰ·head, List·Memᴰ·tail, List·Memᴰ·eq-of-singleton, List·Memᴰ·cases-cons, List·Memᴰ·append-cases, Memᴰ·append-left, Memᴰ·append-right, Memᴰ·map, Memᴰ·of-map, Memᴰ·cast, List·Memᴰ·not-nil}
+use mathlib.Core.List.{List, [], _∷_, _++_, map, map-append, append-assoc, head?, List·Memᴰ, List·Memᴰ·head, List·Memᴰ·tail, List·Memᴰ·eq-of-singleton, List·Memᴰ·cases-cons, List·Memᴰ·append-cases, Memᴰ·append-left, Memᴰ·append-right, Memᴰ·map, Memᴰ·of-map, Memᴰ·cast, List·Memᴰ·not-nil}
 use mathlib.Core.Logic.{⊎-elim}
 use Prim.Native.Nat.{ℕ, zero, suc, _+_, _-_, _≤_, _<_}
 use native.Mathlib.Numerals.{add-one}
@@ -13,7 +13,7 @@ use lib.Dec.{ltb, eqb}
 use lib.ListN.{length, getD, take, drop}
 use lib.Seq.{drop-cons}
 use borrow.Author.Tests.{eqb-true, eq-eqb, ltb-true, lt-ltb, ne-eqb, le-ltb}
-use Rattle.model.specs.Lists.{all, any, elem, from, sum, select, keepIf, firstOr, pairwise, choices, prefixed, earlier}
+use Rattle.model.specs.Lists.{all, any, elem, from, sum, select, keepIf, firstOr, pairwise, choices, prefixed, earlier, each}
 use Rattle.model.proofs.Bools.{and-left, and-right, and-intro, or-left, or-right, or-cases, iff-eq, not-both}
 
 module _ {ℓ} {A : Type ℓ} where
@@ -515,6 +515,21 @@ map-places f xs zero i h = refl
 map-places {A = A} f xs (suc n) i h =
     ap {B = List A} (λ t. f (getD xs i 0) ∷ t) (map-places f xs n (suc i) (omega arith))
     ∙ ap (λ (t : List ℕ). map f (take (suc n) t)) (sym (drop-cons xs i 0 (omega arith)))
+
+-- ---- Lists laid end to end
+
+module _ {A : Type 0} where
+  pub each-append : {B : Type 0} (f : A → List B) (xs ys : List A) → each f (xs ++ ys) ≡ each f xs ++ each f ys
+  each-append f [] ys = refl
+  each-append {B} f (x ∷ xs) ys = ap (λ (t : List B). f x ++ t) (each-append f xs ys) ∙ sym (append-assoc (f x) (each f xs) (each f ys))
+
+  pub each-cong : {B : Type 0} (f g : A → List B) (xs : List A) → ((x : A) → List·Memᴰ x xs → f x ≡ g x) → each f xs ≡ each g xs
+  each-cong f g [] h = refl
+  each-cong {B} f g (x ∷ xs) h = ap (λ (t : List B). t ++ each f xs) (h x here) ∙ ap (λ (t : List B). g x ++ t) (each-cong f g xs (λ y m. h y (List·Memᴰ·tail m)))
+
+  pub each-map : {B C : Type 0} (f : A → List B) (h : C → A) (xs : List C) → each f (map h xs) ≡ each (λ (x : C). f (h x)) xs
+  each-map f h [] = refl
+  each-map {B} f h (x ∷ xs) = ap (λ (t : List B). f (h x) ++ t) (each-map f h xs)
 
 -- ---- Sums
 
