@@ -3,27 +3,32 @@
 use mathlib.Core.Path.{_≡_, refl, sym, _∙_, ap, ap₂, subst}
 use mathlib.Core.Bool.{Bool, true, false, _&&_, cond, false≢true}
 use mathlib.Core.Option.{Option, none, some, Option·some-injective, Option·none-ne-some}
-use mathlib.Core.List.{List, [], _∷_, _++_, append-assoc}
+use mathlib.Core.List.{List, [], _∷_, _++_, map, map-id, append-assoc}
 use mathlib.Core.Logic.{_⊎_, inl, inr, ⊎-elim}
 use Prim.Native.Nat.{ℕ, zero, suc, _+_, _*_, _-_, _/_, _%_, _^_, _≤_, _<_}
-use native.Mathlib.Nat.{pow-zero, pow-succ'}
+use native.Mathlib.Nat.{pow-zero, pow-succ', suc-mul, mul-comm}
 use native.Mathlib.Omega.{arith}
 use lib.Dec.{leb, ltb, eqb}
-use lib.ListN.{length}
+use lib.ListN.{length, getD, take, drop, length-append, length-drop, take-append-drop}
+use lib.Seq.{take-all, length-take-le}
 use borrow.Author.Tests.{lt-ltb, le-leb, ltb-true, leb-true, eqb-true, ne-eqb, eq-eqb}
-use Rattle.model.specs.Lists.{all}
-use Rattle.model.specs.Text.{maxField, newline, comma, nought, digitsOf, decimal, lineText, textOf, smallFields}
-use Rattle.model.specs.Reading.{Read, andThen, isDigit, readDigits, readField, readLine}
+use Rattle.model.specs.declared.Relation.{Relation}
+use Rattle.model.specs.Limits.{maxWidth}
+use Rattle.model.specs.Lists.{from, sum, all}
+use Rattle.model.specs.Network.{Network, variablesIn, valuesIn, total}
+use Rattle.model.specs.Fault.{within}
+use Rattle.model.specs.Text.{maxField, newline, comma, nought, digitsOf, decimal, lineText, textOf, networkLines, smallFields}
+use Rattle.model.specs.Reading.{Read, andThen, isDigit, readDigits, readField, readLine, readLines, joined, readRelations}
 use Rattle.model.proofs.Bools.{and-left, and-right, and-intro, not-both}
-use Rattle.model.proofs.Text.{digitsOf-small, digitsOf-large, small-or-large, digit-isDigit, decimal-digit, decimal-more, lineText-cons}
+use Rattle.model.proofs.Lists.{map-places, pieces, pieces-cons}
+use Rattle.model.proofs.Text.{digitsOf-small, digitsOf-large, small-or-large, digit-isDigit, decimal-digit, decimal-more, lineText-cons, textOf-cons, joined-fields, joined-text}
 
 -- ---- One after the other
 
-module _ {A B : Type 0} where
-  -- what was read second, was read behind what was read first
-  andThen-some : (r : Read A) (next : A → List ℕ → Read B) {y : B × List ℕ} → andThen r next ≡ some y → (x : A) × (rest : List ℕ) × (r ≡ some (x, rest)) × (next x rest ≡ some y)
-  andThen-some none next {y} e = absurd (Option·none-ne-some y e)
-  andThen-some (some r) next e = (r .0, r .1, refl, e)
+-- what was read second was read behind what was read first
+andThen-some : {A B C : Type 0} (r : Read A) (next : A → List ℕ → Read B) {y : B × List ℕ} → andThen r next ≡ some y → ((x : A) (rest : List ℕ) → r ≡ some (x, rest) → next x rest ≡ some y → C) → C
+andThen-some none next {y} e f = absurd (Option·none-ne-some y e)
+andThen-some (some r) next e f = f (r .0) (r .1) refl e
 
 cond-some : {A : Type 0} (b : Bool) (r : Option A) {y : A} → cond b r none ≡ some y → (b ≡ true) × (r ≡ some y)
 cond-some true r e = (refl, e)
@@ -142,24 +147,21 @@ pub record LineRead (n : ℕ) (t : List ℕ) (r : List ℕ × List ℕ) : Type 0
 pub readLine-sound : (n : ℕ) (t : List ℕ) {r : List ℕ × List ℕ} → readLine n t ≡ some r → LineRead n t r
 readLine-sound zero t {r} e = absurd (Option·none-ne-some r e)
 readLine-sound (suc zero) t e =
-    let a = andThen-some (readField newline t) (λ v. λ rest. some (v ∷ [], rest)) e in
-    let v = a .0 in
-    let f = readField-sound newline t (a .2) in
-    of-some (LineRead 1 t) (a .3)
+    andThen-some (readField newline t) _ e (λ v rest a e₁.
+    let f = readField-sound newline t a in
+    of-some (LineRead 1 t) e₁
     (record {
       some-field = omega arith;
       count = refl;
       fields = and-intro (le-leb v maxField (f .0)) refl;
-      text = f .1 ∙ sym (append-assoc (decimal v) (newline ∷ []) (a .1));
-    })
+      text = f .1 ∙ sym (append-assoc (decimal v) (newline ∷ []) rest);
+    }))
 readLine-sound (suc (suc n)) t e =
-    let a = andThen-some (readField comma t) (λ v. λ rest. andThen (readLine (suc n) rest) (λ vs. λ rest'. some (v ∷ vs, rest'))) e in
-    let v = a .0 in
-    let f = readField-sound comma t (a .2) in
-    let b = andThen-some (readLine (suc n) (a .1)) (λ vs. λ rest'. some (v ∷ vs, rest')) (a .3) in
-    let vs = b .0 in
-    let l = readLine-sound (suc n) (a .1) (b .2) in
-    of-some (LineRead (suc (suc n)) t) (b .3)
+    andThen-some (readField comma t) _ e (λ v t₁ a e₁.
+    andThen-some (readLine (suc n) t₁) _ e₁ (λ vs rest b e₂.
+    let f = readField-sound comma t a in
+    let l = readLine-sound (suc n) t₁ b in
+    of-some (LineRead (suc (suc n)) t) e₂
     (record {
       some-field = omega arith;
       count = ap suc (l .count);
@@ -167,9 +169,9 @@ readLine-sound (suc (suc n)) t e =
       text =
           f .1
           ∙ ap (λ (u : List ℕ). decimal v ++ (comma ∷ u)) (l .text)
-          ∙ sym (append-assoc (decimal v) (comma ∷ lineText vs) (b .1))
-          ∙ sym (ap (λ (u : List ℕ). u ++ b .1) (lineText-cons v vs (omega (arith, l .count))));
-    })
+          ∙ sym (append-assoc (decimal v) (comma ∷ lineText vs) rest)
+          ∙ sym (ap (λ (u : List ℕ). u ++ rest) (lineText-cons v vs (omega (arith, l .count))));
+    })))
 
 line-complete : (n : ℕ) (ns rest : List ℕ) → small (n ∷ ns) ≡ true → readLine (suc (length ns)) (lineText (n ∷ ns) ++ rest) ≡ some (n ∷ ns, rest)
 line-complete n [] rest e =
@@ -183,3 +185,205 @@ line-complete n (k ∷ ks) rest e =
 pub readLine-complete : (n : ℕ) (ns rest : List ℕ) → 1 ≤ n → length ns ≡ n → small ns ≡ true → readLine n (lineText ns ++ rest) ≡ some (ns, rest)
 readLine-complete n [] rest h l e = absurd (omega arith)
 readLine-complete n (v ∷ vs) rest h l e = ap (λ (k : ℕ). readLine k (lineText (v ∷ vs) ++ rest)) (sym l) ∙ line-complete v vs rest e
+
+-- ---- Lines of equally many fields
+
+-- What is read as k lines of n fields each: that many numbers in range, whose lines stand before the rest.
+pub record LinesRead (k n : ℕ) (t : List ℕ) (r : List ℕ × List ℕ) : Type 0 where
+  pub count : length (r .0) ≡ k * n
+  pub fields : smallFields (pieces k n (r .0)) ≡ true
+  pub text : t ≡ textOf (pieces k n (r .0)) ++ r .1
+
+pub readLines-sound : (k n : ℕ) (t : List ℕ) {r : List ℕ × List ℕ} → readLines k n t ≡ some r → LinesRead k n t r
+unfolding textOf
+readLines-sound zero n t e = of-some (LinesRead 0 n t) e (record { count = omega arith; fields = refl; text = refl })
+readLines-sound (suc k) n t e =
+    andThen-some (readLine n t) _ e (λ vs t₁ a e₁.
+    andThen-some (readLines k n t₁) _ e₁ (λ us rest b e₂.
+    let l = readLine-sound n t a in
+    let ls = readLines-sound k n t₁ b in
+    let p = pieces-cons k n vs us (l .count) in
+    of-some (LinesRead (suc k) n t) e₂
+    (record {
+      count = length-append vs us ∙ omega (arith, l .count, ls .count, suc-mul k n);
+      fields = ap smallFields p ∙ and-intro (l .fields) (ls .fields);
+      text =
+          l .text
+          ∙ ap (λ (u : List ℕ). lineText vs ++ u) (ls .text)
+          ∙ sym (textOf-cons vs (pieces k n us) rest)
+          ∙ sym (ap (λ (ps : List (List ℕ)). textOf ps ++ rest) p);
+    })))
+
+module _ (n : ℕ) (pos : 1 ≤ n) where
+  lines-cons : (k : ℕ) (vs us rest : List ℕ) → length vs ≡ n → smallFields (pieces (suc k) n (vs ++ us)) ≡ true → (smallFields (pieces k n us) ≡ true → readLines k n (textOf (pieces k n us) ++ rest) ≡ some (us, rest)) → readLines (suc k) n (textOf (pieces (suc k) n (vs ++ us)) ++ rest) ≡ some (vs ++ us, rest)
+  lines-cons k vs us rest l e f =
+      let p = pieces-cons k n vs us l in
+      let g : smallFields (vs ∷ pieces k n us) ≡ true = sym (ap smallFields p) ∙ e in
+      let line = readLine-complete n vs (textOf (pieces k n us) ++ rest) pos l (and-left (small vs) (smallFields (pieces k n us)) g) in
+      let lines = f (and-right (small vs) (smallFields (pieces k n us)) g) in
+      rw (p, textOf-cons, line, lines)
+
+  pub readLines-complete : (k : ℕ) (ns rest : List ℕ) → length ns ≡ k * n → smallFields (pieces k n ns) ≡ true → readLines k n (textOf (pieces k n ns) ++ rest) ≡ some (ns, rest)
+  unfolding textOf
+  readLines-complete zero [] rest l e = refl
+  readLines-complete zero (v ∷ vs) rest l e = absurd (omega arith)
+  readLines-complete (suc k) ns rest l e =
+      let p = take-append-drop n ns in
+      let m = suc-mul k n in
+      subst (λ (xs : List ℕ). readLines (suc k) n (textOf (pieces (suc k) n xs) ++ rest) ≡ some (xs, rest)) p
+      (lines-cons k (take n ns) (drop n ns) rest (length-take-le n ns (omega arith)) (ap (λ (xs : List ℕ). smallFields (pieces (suc k) n xs)) p ∙ e)
+      (readLines-complete k (drop n ns) rest (omega (arith, length-drop n ns))))
+
+-- ---- Relations
+
+abbrev properWidths : List Relation → Bool
+properWidths = all (λ (R : Relation). within 1 maxWidth (R .width))
+
+-- A network in range, with room for so many tuples.
+pub record Fits (room : ℕ) (N : Network) : Type 0 where
+  pub widths : properWidths (N .relations) ≡ true
+  pub tuples : total N ≤ room
+  pub variables : length (N .variables) ≡ sum (map variablesIn (N .relations))
+  pub values : length (N .values) ≡ sum (map valuesIn (N .relations))
+  pub fields : smallFields (networkLines N) ≡ true
+
+-- What is read as k relations: a network in range of that many, whose lines stand before the rest.
+pub record RelationsRead (k room : ℕ) (t : List ℕ) (r : Network × List ℕ) : Type 0 where
+  pub count : length (r .0 .relations) ≡ k
+  pub fits : Fits room (r .0)
+  pub text : t ≡ textOf (networkLines (r .0)) ++ r .1
+
+module _ (R : Relation) (scope values : List ℕ) (N : Network) (scoped : length scope ≡ R .width) (valued : length values ≡ R .tuples * R .width) (room : ℕ) where
+  abbrev J : Network
+  J = joined R scope values N
+
+  -- the first relation is in range
+  record First : Type 0 where
+    pub width-in : within 1 maxWidth (R .width) ≡ true
+    pub room-left : R .tuples ≤ room
+    pub head : small (R .width ∷ R .tuples ∷ []) ≡ true
+    pub scope-in : small scope ≡ true
+    pub values-in : smallFields (pieces (R .tuples) (R .width) values) ≡ true
+
+  joined-fits : First → Fits (room - R .tuples) N → Fits room J
+  joined-fits f n =
+      record {
+        widths = and-intro (f .width-in) (n .widths);
+        tuples = omega (arith, f .room-left, n .tuples);
+        variables = length-append scope (N .variables) ∙ ap₂ (λ (a b : ℕ). a + b) scoped (n .variables);
+        values = length-append values (N .values) ∙ ap₂ (λ (a b : ℕ). a + b) (valued ∙ mul-comm (R .tuples) (R .width)) (n .values);
+        fields = joined-fields R scope values N scoped valued ∙ and-intro (and-intro (f .head) (and-intro (f .scope-in) (f .values-in))) (n .fields);
+      }
+
+  fits-first : Fits room J → First
+  fits-first j =
+      let head = small (R .width ∷ R .tuples ∷ []) in
+      let tuples = smallFields (pieces (R .tuples) (R .width) values) in
+      let first = and-left (head && (small scope && tuples)) (smallFields (networkLines N)) (sym (joined-fields R scope values N scoped valued) ∙ j .fields) in
+      let behind = and-right head (small scope && tuples) first in
+      record {
+        width-in = and-left (within 1 maxWidth (R .width)) (properWidths (N .relations)) (j .widths);
+        room-left = omega (arith, j .tuples);
+        head = and-left head (small scope && tuples) first;
+        scope-in = and-left (small scope) tuples behind;
+        values-in = and-right (small scope) tuples behind;
+      }
+
+  fits-others : Fits room J → Fits (room - R .tuples) N
+  fits-others j =
+      record {
+        widths = and-right (within 1 maxWidth (R .width)) (properWidths (N .relations)) (j .widths);
+        tuples = omega (arith, j .tuples);
+        variables = omega (arith, length-append scope (N .variables), j .variables);
+        values = omega (arith, length-append values (N .values), j .values, mul-comm (R .tuples) (R .width));
+        fields = and-right (smallFields ((R .width ∷ R .tuples ∷ []) ∷ scope ∷ pieces (R .tuples) (R .width) values)) (smallFields (networkLines N)) (sym (joined-fields R scope values N scoped valued) ∙ j .fields);
+      }
+
+  -- sound, for a relation before others
+  joined-sound : (k : ℕ) (t t₁ t₂ t₃ rest : List ℕ) → LineRead 2 t (R .width ∷ R .tuples ∷ [], t₁) → (within 1 maxWidth (R .width) && leb (R .tuples) room) ≡ true → LineRead (R .width) t₁ (scope, t₂) → LinesRead (R .tuples) (R .width) t₂ (values, t₃) → RelationsRead k (room - R .tuples) t₃ (N, rest) → RelationsRead (suc k) room t (J, rest)
+  joined-sound k t t₁ t₂ t₃ rest a test b c d =
+      record {
+        count = ap suc (d .count);
+        fits =
+            joined-fits
+            (record {
+              width-in = and-left (within 1 maxWidth (R .width)) (leb (R .tuples) room) test;
+              room-left = leb-true (R .tuples) room (and-right (within 1 maxWidth (R .width)) (leb (R .tuples) room) test);
+              head = a .fields;
+              scope-in = b .fields;
+              values-in = c .fields;
+            })
+            (d .fits);
+        text =
+            a .text
+            ∙ ap (λ (u : List ℕ). lineText (R .width ∷ R .tuples ∷ []) ++ u)
+            (b .text ∙ ap (λ (u : List ℕ). lineText scope ++ u) (c .text ∙ ap (λ (u : List ℕ). textOf (pieces (R .tuples) (R .width) values) ++ u) (d .text)))
+            ∙ sym (joined-text R scope values N scoped valued rest);
+      }
+
+  -- complete, for a relation before others
+  joined-complete : (k : ℕ) (rest : List ℕ) → Fits room J → readRelations k (room - R .tuples) (textOf (networkLines N) ++ rest) ≡ some (N, rest) → readRelations (suc k) room (textOf (networkLines J) ++ rest) ≡ some (J, rest)
+  joined-complete k rest j others =
+      let f = fits-first j in
+      let w = R .width in
+      let some-field = leb-true 1 w (and-left (leb 1 w) (leb w maxWidth) (f .width-in)) in
+      let behind = textOf (networkLines N) ++ rest in
+      let tuples = textOf (pieces (R .tuples) w values) ++ behind in
+      let test : (within 1 maxWidth w && leb (R .tuples) room) ≡ true = and-intro (f .width-in) (le-leb (R .tuples) room (f .room-left)) in
+      rw (
+      joined-text R scope values N scoped valued rest,
+      readLine-complete 2 (w ∷ R .tuples ∷ []) (lineText scope ++ tuples) (omega arith) refl (f .head),
+      test,
+      readLine-complete w scope tuples some-field scoped (f .scope-in),
+      readLines-complete w some-field (R .tuples) values behind valued (f .values-in),
+      others,
+      )
+
+-- the fields of a line, each by its place
+fields-places : (n : ℕ) (ns : List ℕ) → length ns ≡ n → ns ≡ map (λ (k : ℕ). getD ns k 0) (from 0 n)
+fields-places n ns e = sym (map-places (λ (x : ℕ). x) ns n 0 (omega arith) ∙ map-id (take n ns) ∙ take-all n ns (omega arith))
+
+pub readRelations-sound : (k room : ℕ) (t : List ℕ) {r : Network × List ℕ} → readRelations k room t ≡ some r → RelationsRead k room t r
+unfolding textOf
+readRelations-sound zero room t e =
+    of-some (RelationsRead 0 room t) e
+    (record { count = refl; fits = record { widths = refl; tuples = omega arith; variables = refl; values = refl; fields = refl }; text = refl })
+readRelations-sound (suc k) room t e =
+    andThen-some (readLine 2 t) _ e (λ head t₁ a e₁.
+    let R : Relation = record { width = getD head 0 0; tuples = getD head 1 0 } in
+    let test = cond-some (within 1 maxWidth (R .width) && leb (R .tuples) room) _ e₁ in
+    andThen-some (readLine (R .width) t₁) _ (test .1) (λ scope t₂ b e₂.
+    andThen-some (readLines (R .tuples) (R .width) t₂) _ e₂ (λ values t₃ c e₃.
+    andThen-some (readRelations k (room - R .tuples) t₃) _ e₃ (λ N rest d e₄.
+    let line = readLine-sound 2 t a in
+    let scope-line = readLine-sound (R .width) t₁ b in
+    let tuple-lines = readLines-sound (R .tuples) (R .width) t₂ c in
+    of-some (RelationsRead (suc k) room t) e₄
+    (joined-sound R scope values N (scope-line .count) (tuple-lines .count) room k t t₁ t₂ t₃ rest
+    (subst (λ (ns : List ℕ). LineRead 2 t (ns, t₁)) (fields-places 2 head (line .count)) line)
+    (test .0) scope-line tuple-lines (readRelations-sound k (room - R .tuples) t₃ d))))))
+
+abbrev networkOf : List Relation → List ℕ → List ℕ → Network
+networkOf Rs variables values = record { relations = Rs; variables = variables; values = values }
+
+relations-complete : (Rs : List Relation) (vs us : List ℕ) (room : ℕ) (rest : List ℕ) → Fits room (networkOf Rs vs us) → readRelations (length Rs) room (textOf (networkLines (networkOf Rs vs us)) ++ rest) ≡ some (networkOf Rs vs us, rest)
+unfolding textOf
+relations-complete [] [] [] room rest f = refl
+relations-complete [] [] (u ∷ us) room rest f = absurd (omega (arith, f .values))
+relations-complete [] (v ∷ vs) us room rest f = absurd (omega (arith, f .variables))
+relations-complete (R ∷ Rs) vs us room rest f =
+    let a = R .width in
+    let b = R .tuples * R .width in
+    let scope = take a vs in
+    let values = take b us in
+    let others = networkOf Rs (drop a vs) (drop b us) in
+    let scoped : length scope ≡ a = length-take-le a vs (omega (arith, f .variables)) in
+    let valued : length values ≡ b = length-take-le b us (omega (arith, f .values, mul-comm (R .tuples) (R .width))) in
+    let e : joined R scope values others ≡ networkOf (R ∷ Rs) vs us = ap₂ (networkOf (R ∷ Rs)) (take-append-drop a vs) (take-append-drop b us) in
+    let j : Fits room (joined R scope values others) = subst (Fits room) (sym e) f in
+    subst (λ (N : Network). readRelations (suc (length Rs)) room (textOf (networkLines N) ++ rest) ≡ some (N, rest)) e
+    (joined-complete R scope values others scoped valued room (length Rs) rest j
+    (relations-complete Rs (drop a vs) (drop b us) (room - R .tuples) rest (fits-others R scope values others scoped valued room j)))
+
+pub readRelations-complete : (N : Network) (room : ℕ) (rest : List ℕ) → Fits room N → readRelations (length (N .relations)) room (textOf (networkLines N) ++ rest) ≡ some (N, rest)
+readRelations-complete N = relations-complete (N .relations) (N .variables) (N .values)

@@ -1,20 +1,23 @@
 -- Laws of the desk's text: the digits of a decimal, one digit more, and how long fields and lines are.
 -- From the definitions alone.
-use mathlib.Core.Path.{_≡_, refl, sym, _∙_, ap}
-use mathlib.Core.Bool.{Bool, true, false}
-use mathlib.Core.List.{List, [], _∷_, _++_}
+use mathlib.Core.Path.{_≡_, refl, sym, _∙_, ap, ap₂}
+use mathlib.Core.Bool.{Bool, true, false, _&&_}
+use mathlib.Core.List.{List, [], _∷_, _++_, map, append-assoc}
 use mathlib.Core.Logic.{_⊎_, inl, inr, ⊎-elim}
-use Prim.Native.Nat.{ℕ, zero, suc, _+_, _*_, _/_, _%_, _^_, _≤_, _<_}
-use native.Mathlib.Nat.{pow-zero, pow-succ'}
+use Prim.Native.Nat.{ℕ, zero, suc, _+_, _*_, _-_, _/_, _%_, _^_, _≤_, _<_}
+use native.Mathlib.Nat.{pow-zero, pow-succ', zero-add, add-assoc, mul-comm}
 use native.Mathlib.Omega.{arith}
-use lib.Dec.{ltb}
-use lib.ListN.{length, length-append}
+use lib.Dec.{leb, ltb}
+use lib.ListN.{length, take, drop, length-append}
+use lib.Seq.{take-at}
 use borrow.Author.Tests.{lt-ltb, le-ltb, ltb-true, ltb-false, le-leb}
-use Rattle.model.specs.Lists.{all}
-use Rattle.model.specs.Text.{maxField, newline, comma, nought, digitsOf, decimal, lineText, textOf}
-use Rattle.model.specs.Reading.{isDigit}
+use Rattle.model.specs.declared.Relation.{Relation}
+use Rattle.model.specs.Lists.{from, all, each}
+use Rattle.model.specs.Network.{Network, width, size, variablesIn, valuesIn, before, firstId, relationOf, indexOf, scopeOf, valuesAt, tupleOf}
+use Rattle.model.specs.Text.{maxField, newline, comma, nought, digitsOf, decimal, lineText, textOf, relationLines, networkLines, smallFields}
+use Rattle.model.specs.Reading.{isDigit, joined}
 use Rattle.model.proofs.Bools.{and-intro}
-use Rattle.model.proofs.Lists.{all-append, each-append}
+use Rattle.model.proofs.Lists.{all-append, all-of-append, map-from-shift, map-from-same, each-append, each-cong, each-from-shift, drop-behind, pieces, pieces-front}
 
 -- ---- Digits
 
@@ -120,10 +123,90 @@ pub lineText-length : (n : ℕ) (ns : List ℕ) → length (lineText (n ∷ ns))
 lineText-length n [] = let h = decimal-length n in rw length-append (omega arith)
 lineText-length n (k ∷ ks) = let h = decimal-length n in let l = lineText-length k ks in rw length-append (omega arith)
 
-pub textOf-cons : (line : List ℕ) (lines : List (List ℕ)) → textOf (line ∷ lines) ≡ lineText line ++ textOf lines
+-- the text of lines before more text: of the first line and the others, and of lines and more lines
+pub textOf-cons : (line : List ℕ) (lines : List (List ℕ)) (rest : List ℕ) → textOf (line ∷ lines) ++ rest ≡ lineText line ++ (textOf lines ++ rest)
 unfolding textOf
-textOf-cons line lines = refl
+textOf-cons line lines rest = append-assoc (lineText line) (textOf lines) rest
 
-pub textOf-append : (xs ys : List (List ℕ)) → textOf (xs ++ ys) ≡ textOf xs ++ textOf ys
+pub textOf-append : (xs ys : List (List ℕ)) (rest : List ℕ) → textOf (xs ++ ys) ++ rest ≡ textOf xs ++ (textOf ys ++ rest)
 unfolding textOf
-textOf-append xs ys = each-append lineText xs ys
+textOf-append xs ys rest = ap (λ (t : List ℕ). t ++ rest) (each-append lineText xs ys) ∙ append-assoc (textOf xs) (textOf ys) rest
+
+-- ---- A network's lines
+
+-- a relation before others
+module _ (R : Relation) (scope values : List ℕ) (N : Network) (scoped : length scope ≡ R .width) (valued : length values ≡ R .tuples * R .width) where
+  abbrev J : Network
+  J = joined R scope values N
+
+  joined-scopeOf : (r : ℕ) → scopeOf J (suc r) ≡ scopeOf N r
+  unfolding scopeOf
+  joined-scopeOf r = ap (take (width N r)) (drop-behind scope (N .variables) (R .width) (before variablesIn (N .relations) r) scoped)
+
+  joined-valuesAt : (r i : ℕ) → valuesAt J (suc r) i ≡ valuesAt N r i
+  unfolding valuesAt
+  joined-valuesAt r i =
+      ap (λ (k : ℕ). take (width N r) (drop k (values ++ N .values))) (add-assoc (R .width * R .tuples) (before valuesIn (N .relations) r) (i * width N r))
+      ∙ ap (take (width N r)) (drop-behind values (N .values) (R .width * R .tuples) (before valuesIn (N .relations) r + i * width N r) (valued ∙ mul-comm (R .tuples) (R .width)))
+
+  joined-relationOf : (g : ℕ) → relationOf J (R .tuples + g) ≡ suc (relationOf N g)
+  unfolding relationOf
+  joined-relationOf g =
+      let e : R .tuples + g - R .tuples ≡ g = omega arith in
+      rw (le-ltb (R .tuples + g) (R .tuples) (omega arith), e)
+
+  joined-indexOf : (g : ℕ) → indexOf J (R .tuples + g) ≡ indexOf N g
+  unfolding indexOf
+  joined-indexOf g = rw (joined-relationOf g) (omega arith)
+
+  joined-tupleOf : (g : ℕ) → tupleOf J (R .tuples + g) ≡ tupleOf N g
+  unfolding tupleOf
+  joined-tupleOf g = ap₂ (valuesAt J) (joined-relationOf g) (joined-indexOf g) ∙ joined-valuesAt (relationOf N g) (indexOf N g)
+
+  joined-relationLines : (r : ℕ) → relationLines J (suc r) ≡ relationLines N r
+  joined-relationLines r =
+      ap₂ {C = List (List ℕ)} (λ scope tuples. (width N r ∷ size N r ∷ []) ∷ scope ∷ tuples) (joined-scopeOf r)
+      (map-from-shift (tupleOf J) (R .tuples) (firstId N r) (size N r)
+      ∙ map-from-same (λ (g : ℕ). tupleOf J (R .tuples + g)) (tupleOf N) (firstId N r) (size N r) (λ g h l. joined-tupleOf g))
+
+  joined-scope : scopeOf J 0 ≡ scope
+  unfolding scopeOf
+  joined-scope = take-at scope (N .variables) (R .width) scoped
+
+  joined-tuple : (g : ℕ) → g < R .tuples → tupleOf J g ≡ take (R .width) (drop (g * R .width) (values ++ N .values))
+  unfolding tupleOf indexOf relationOf valuesAt
+  joined-tuple g h =
+      let z : g - 0 ≡ g = omega arith in
+      let e : 0 + (g - 0) * R .width ≡ g * R .width = zero-add ((g - 0) * R .width) ∙ ap (λ (k : ℕ). k * R .width) z in
+      rw (lt-ltb g (R .tuples) h, e)
+
+  joined-tuples : map (tupleOf J) (from 0 (R .tuples)) ≡ pieces (R .tuples) (R .width) values
+  joined-tuples =
+      map-from-same (tupleOf J) (λ (g : ℕ). take (R .width) (drop (g * R .width) (values ++ N .values))) 0 (R .tuples) (λ g h l. joined-tuple g (omega arith))
+      ∙ pieces-front (R .tuples) (R .width) values (N .values) valued
+
+  joined-others : each (relationLines J) (from 1 (length (N .relations))) ≡ networkLines N
+  joined-others =
+      each-from-shift (relationLines J) 1 0 (length (N .relations))
+      ∙ each-cong (λ (r : ℕ). relationLines J (1 + r)) (relationLines N) (from 0 (length (N .relations)))
+      (λ r m. let e : 1 + r ≡ suc r = omega arith in ap (relationLines J) e ∙ joined-relationLines r)
+
+  abbrev firstLines : List (List ℕ)
+  firstLines = (R .width ∷ R .tuples ∷ []) ∷ scope ∷ pieces (R .tuples) (R .width) values
+
+  -- the first relation's lines, and those of the others
+  pub joined-lines : networkLines J ≡ firstLines ++ networkLines N
+  joined-lines =
+      ap₂ {C = List (List ℕ)} (λ first rest. (R .width ∷ R .tuples ∷ []) ∷ first ∷ rest) joined-scope
+      (ap₂ {C = List (List ℕ)} (λ tuples others. tuples ++ others) joined-tuples joined-others)
+
+  pub joined-fields : smallFields (networkLines J) ≡ (smallFields firstLines && smallFields (networkLines N))
+  joined-fields = ap smallFields joined-lines ∙ all-of-append (all (λ (n : ℕ). leb n maxField)) firstLines (networkLines N)
+
+  pub joined-text : (rest : List ℕ) → textOf (networkLines J) ++ rest ≡ lineText (R .width ∷ R .tuples ∷ []) ++ (lineText scope ++ (textOf (pieces (R .tuples) (R .width) values) ++ (textOf (networkLines N) ++ rest)))
+  joined-text rest =
+      let behind = textOf (networkLines N) ++ rest in
+      ap (λ (lines : List (List ℕ)). textOf lines ++ rest) joined-lines
+      ∙ textOf-append firstLines (networkLines N) rest
+      ∙ textOf-cons (R .width ∷ R .tuples ∷ []) (scope ∷ pieces (R .tuples) (R .width) values) behind
+      ∙ ap (λ (t : List ℕ). lineText (R .width ∷ R .tuples ∷ []) ++ t) (textOf-cons scope (pieces (R .tuples) (R .width) values) behind)

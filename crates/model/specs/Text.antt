@@ -54,11 +54,14 @@ textOf lines = each lineText lines
 abbrev pub relationLines : Network → ℕ → List (List ℕ)
 relationLines N r = (width N r ∷ size N r ∷ []) ∷ scopeOf N r ∷ map (tupleOf N) (idsOf N r)
 
+abbrev pub networkLines : Network → List (List ℕ)
+networkLines N = each (relationLines N) (from 0 (length (N .relations)))
+
 -- how many relations, m, how many combinations; each relation; each combination
 unfoldable pub instanceLines : Instance → List (List ℕ)
 instanceLines I =
     (length (I .network .relations) ∷ I .m ∷ length (combinationsOf I) ∷ [])
-    ∷ (each (relationLines (I .network)) (from 0 (length (I .network .relations))) ++ combinationsOf I)
+    ∷ (networkLines (I .network) ++ combinationsOf I)
 
 unfoldable pub instanceText : Instance → List ℕ
 instanceText I = textOf (instanceLines I)
