@@ -3,25 +3,27 @@
 use mathlib.Core.Path.{_≡_, refl, sym, _∙_, ap, ap₂, subst}
 use mathlib.Core.Bool.{Bool, true, false, _&&_, cond, false≢true}
 use mathlib.Core.Option.{Option, none, some, Option·some-injective, Option·none-ne-some}
-use mathlib.Core.List.{List, [], _∷_, _++_, map, map-id, append-assoc}
+use mathlib.Core.List.{List, [], _∷_, _++_, map, map-id, append-nil, append-assoc}
 use mathlib.Core.Logic.{_⊎_, inl, inr, ⊎-elim}
 use Prim.Native.Nat.{ℕ, zero, suc, _+_, _*_, _-_, _/_, _%_, _^_, _≤_, _<_}
-use native.Mathlib.Nat.{pow-zero, pow-succ', suc-mul, mul-comm}
+use native.Mathlib.Nat.{pow-zero, pow-succ', suc-mul, mul-comm, mul-mod-left, div-add-mod'}
 use native.Mathlib.Omega.{arith}
 use lib.Dec.{leb, ltb, eqb}
 use lib.ListN.{length, getD, take, drop, length-append, length-drop, take-append-drop}
 use lib.Seq.{take-all, length-take-le}
 use borrow.Author.Tests.{lt-ltb, le-leb, ltb-true, leb-true, eqb-true, ne-eqb, eq-eqb}
 use Rattle.model.specs.declared.Relation.{Relation}
-use Rattle.model.specs.Limits.{maxWidth}
+use Rattle.model.specs.Limits.{maxRelations, maxWidth, maxTuples, minMembers, maxMembers, maxCombinations}
 use Rattle.model.specs.Lists.{from, sum, all}
 use Rattle.model.specs.Network.{Network, variablesIn, valuesIn, total}
-use Rattle.model.specs.Fault.{within}
-use Rattle.model.specs.Text.{maxField, newline, comma, nought, digitsOf, decimal, lineText, textOf, networkLines, smallFields}
-use Rattle.model.specs.Reading.{Read, andThen, isDigit, readDigits, readField, readLine, readLines, joined, readRelations}
+use Rattle.model.specs.Request.{Instance, combinationsOf}
+use Rattle.model.specs.Fault.{within, properLengths, properList}
+use Rattle.model.specs.Text.{maxField, maxText, newline, comma, nought, digitsOf, decimal, lineText, textOf, networkLines, instanceLines, instanceText, smallFields, properSizes, writable}
+use Rattle.model.specs.Reading.{Read, andThen, isDigit, readDigits, readField, readLine, readLines, joined, readRelations, readInstance, whole, read}
 use Rattle.model.proofs.Bools.{and-left, and-right, and-intro, not-both}
-use Rattle.model.proofs.Lists.{map-places, pieces, pieces-cons}
-use Rattle.model.proofs.Text.{digitsOf-small, digitsOf-large, small-or-large, digit-isDigit, decimal-digit, decimal-more, lineText-cons, textOf-cons, joined-fields, joined-text}
+use Rattle.model.proofs.Lists.{all-of-append, map-places, pieces, pieces-cons, pieces-length}
+use Rattle.model.proofs.Combination.{combination-count, combinations-pieces}
+use Rattle.model.proofs.Text.{digitsOf-small, digitsOf-large, small-or-large, digit-isDigit, decimal-digit, decimal-more, lineText-cons, textOf-cons, textOf-append, joined-fields, joined-text}
 
 -- ---- One after the other
 
@@ -387,3 +389,185 @@ relations-complete (R ∷ Rs) vs us room rest f =
 
 pub readRelations-complete : (N : Network) (room : ℕ) (rest : List ℕ) → Fits room N → readRelations (length (N .relations)) room (textOf (networkLines N) ++ rest) ≡ some (N, rest)
 readRelations-complete N = relations-complete (N .relations) (N .variables) (N .values)
+
+-- ---- Instances
+
+-- the first line
+abbrev headLine : Instance → List ℕ
+headLine I = length (I .network .relations) ∷ I .m ∷ length (combinationsOf I) ∷ []
+
+-- An instance in range.
+pub record InRange (I : Instance) : Type 0 where
+  pub relations : within 1 maxRelations (length (I .network .relations)) ≡ true
+  pub members : within minMembers maxMembers (I .m) ≡ true
+  pub list : properList (I .m) (I .members) ≡ true
+  pub fits : Fits maxTuples (I .network)
+  pub head : small (headLine I) ≡ true
+  pub listed : smallFields (combinationsOf I) ≡ true
+
+instance-text : (I : Instance) (rest : List ℕ) → instanceText I ++ rest ≡ lineText (headLine I) ++ (textOf (networkLines (I .network)) ++ (textOf (combinationsOf I) ++ rest))
+unfolding instanceText instanceLines
+instance-text I rest =
+    textOf-cons (headLine I) (networkLines (I .network) ++ combinationsOf I) rest
+    ∙ ap (λ (t : List ℕ). lineText (headLine I) ++ t) (textOf-append (networkLines (I .network)) (combinationsOf I) rest)
+
+members-some : (m : ℕ) → within minMembers maxMembers m ≡ true → 0 < m
+members-some m e = let l = leb-true minMembers m (and-left (leb minMembers m) (leb m maxMembers) e) in omega arith
+
+abbrev limits : ℕ → ℕ → ℕ → Bool
+limits relations m combinations = within 1 maxRelations relations && (within minMembers maxMembers m && leb combinations maxCombinations)
+
+instance-sound : (n m k : ℕ) (N : Network) (members t t₁ t₂ rest : List ℕ) → LineRead 3 t (n ∷ m ∷ k ∷ [], t₁) → limits n m k ≡ true → RelationsRead n maxTuples t₁ (N, t₂) → LinesRead k m t₂ (members, rest) → InRange (record { network = N; m = m; members = members }) × (t ≡ instanceText (record { network = N; m = m; members = members }) ++ rest)
+instance-sound n m k N members t t₁ t₂ rest a test b c =
+    let I : Instance = record { network = N; m = m; members = members } in
+    let behind = and-right (within 1 maxRelations n) (within minMembers maxMembers m && leb k maxCombinations) test in
+    let m-in = and-left (within minMembers maxMembers m) (leb k maxCombinations) behind in
+    let cs : combinationsOf I ≡ pieces k m members = combinations-pieces m members k (members-some m m-in) (c .count) in
+    let count : length (combinationsOf I) ≡ k = ap length cs ∙ pieces-length k m members in
+    let line : headLine I ≡ n ∷ m ∷ k ∷ [] = ap₂ {C = List ℕ} (λ x y. x ∷ m ∷ y ∷ []) (b .count) count in (
+      record {
+        relations = ap (within 1 maxRelations) (b .count) ∙ and-left (within 1 maxRelations n) (within minMembers maxMembers m && leb k maxCombinations) test;
+        members = m-in;
+        list =
+            and-intro
+            (eq-eqb (length members % m) 0 (ap (λ (l : ℕ). l % m) (c .count) ∙ mul-mod-left k m))
+            (ap (λ (x : ℕ). leb x maxCombinations) (sym (combination-count m members) ∙ count) ∙ and-right (within minMembers maxMembers m) (leb k maxCombinations) behind);
+        fits = b .fits;
+        head = ap small line ∙ a .fields;
+        listed = ap smallFields cs ∙ c .fields;
+      },
+      a .text
+          ∙ ap (λ (u : List ℕ). lineText (n ∷ m ∷ k ∷ []) ++ u) (b .text ∙ ap (λ (u : List ℕ). textOf (networkLines N) ++ u) (c .text))
+          ∙ sym (instance-text I rest ∙ ap₂ (λ (h : List ℕ) (ls : List (List ℕ)). lineText h ++ (textOf (networkLines N) ++ (textOf ls ++ rest))) line cs),
+    )
+
+pub readInstance-sound : (t : List ℕ) {r : Instance × List ℕ} → readInstance t ≡ some r → InRange (r .0) × (t ≡ instanceText (r .0) ++ r .1)
+unfolding readInstance
+readInstance-sound t e =
+    andThen-some (readLine 3 t) _ e (λ head t₁ a e₁.
+    let n = getD head 0 0 in
+    let m = getD head 1 0 in
+    let k = getD head 2 0 in
+    let test = cond-some (limits n m k) _ e₁ in
+    andThen-some (readRelations n maxTuples t₁) _ (test .1) (λ N t₂ b e₂.
+    andThen-some (readLines k m t₂) _ e₂ (λ members rest c e₃.
+    let line = readLine-sound 3 t a in
+    of-some (λ (r : Instance × List ℕ). InRange (r .0) × (t ≡ instanceText (r .0) ++ r .1)) e₃
+    (instance-sound n m k N members t t₁ t₂ rest
+    (subst (λ (ns : List ℕ). LineRead 3 t (ns, t₁)) (fields-places 3 head (line .count)) line)
+    (test .0) (readRelations-sound n maxTuples t₁ b) (readLines-sound k m t₂ c)))))
+
+pub readInstance-complete : (I : Instance) (rest : List ℕ) → InRange I → readInstance (instanceText I ++ rest) ≡ some (I, rest)
+unfolding readInstance
+readInstance-complete I rest r =
+    let N = I .network in
+    let m = I .m in
+    let k = length (I .members) / m in
+    let pos = members-some m (r .members) in
+    let whole = eqb-true (length (I .members) % m) 0 (and-left (eqb (length (I .members) % m) 0) (leb k maxCombinations) (r .list)) in
+    let count : length (I .members) ≡ k * m = omega (arith, div-add-mod' (length (I .members)) m) in
+    let cs = combinations-pieces m (I .members) k pos count in
+    let combinations : readLines (length (combinationsOf I)) m (textOf (combinationsOf I) ++ rest) ≡ some (I .members, rest) =
+    ap₂ (λ (x : ℕ) (ls : List (List ℕ)). readLines x m (textOf ls ++ rest)) (ap length cs ∙ pieces-length k m (I .members)) cs
+    ∙ readLines-complete m pos k (I .members) rest count (sym (ap smallFields cs) ∙ r .listed)
+    in
+    let few : leb (length (combinationsOf I)) maxCombinations ≡ true =
+    ap (λ (x : ℕ). leb x maxCombinations) (combination-count m (I .members)) ∙ and-right (eqb (length (I .members) % m) 0) (leb k maxCombinations) (r .list)
+    in
+    let test : limits (length (N .relations)) m (length (combinationsOf I)) ≡ true = and-intro (r .relations) (and-intro (r .members) few) in
+    rw (
+    instance-text I rest,
+    readLine-complete 3 (headLine I) (textOf (networkLines N) ++ (textOf (combinationsOf I) ++ rest)) (omega arith) refl (r .head),
+    test,
+    readRelations-complete N maxTuples (textOf (combinationsOf I) ++ rest) (r .fits),
+    combinations,
+    )
+
+-- ---- Texts
+
+-- an instance can be written exactly if it is in range and its text is short
+module _ (I : Instance) where
+  abbrev N : Network
+  N = I .network
+
+  abbrev counted : Bool
+  counted = within 1 maxRelations (length (N .relations))
+
+  abbrev formed : Bool
+  formed = properSizes N && within minMembers maxMembers (I .m) && properList (I .m) (I .members)
+
+  fields-split : smallFields (instanceLines I) ≡ (small (headLine I) && (smallFields (networkLines N) && smallFields (combinationsOf I)))
+  unfolding instanceLines
+  fields-split = ap (λ (b : Bool). small (headLine I) && b) (all-of-append small (networkLines N) (combinationsOf I))
+
+  writable-in : writable I ≡ true → InRange I × (length (instanceText I) ≤ maxText)
+  unfolding writable
+  writable-in e =
+      let fields = smallFields (instanceLines I) in
+      let short = leb (length (instanceText I)) maxText in
+      let a = and-left (formed && fields) short e in
+      let b = and-left formed fields a in
+      let members = within minMembers maxMembers (I .m) in
+      let list = properList (I .m) (I .members) in
+      let c = and-left (properSizes N && members) list b in
+      let sizes = and-left (properSizes N) members c in
+      let widths = properWidths (N .relations) in
+      let d = and-left (counted && widths && leb (total N) maxTuples) (properLengths N) sizes in
+      let lengths = and-right (counted && widths && leb (total N) maxTuples) (properLengths N) sizes in
+      let f = and-left (counted && widths) (leb (total N) maxTuples) d in
+      let variables = eqb (length (N .variables)) (sum (map variablesIn (N .relations))) in
+      let values = eqb (length (N .values)) (sum (map valuesIn (N .relations))) in
+      let g = sym fields-split ∙ and-right formed fields a in
+      let behind = and-right (small (headLine I)) (smallFields (networkLines N) && smallFields (combinationsOf I)) g in (
+        record {
+          relations = and-left counted widths f;
+          members = and-right (properSizes N) members c;
+          list = and-right (properSizes N && members) list b;
+          fits =
+              record {
+                widths = and-right counted widths f;
+                tuples = leb-true (total N) maxTuples (and-right (counted && widths) (leb (total N) maxTuples) d);
+                variables = eqb-true _ _ (and-left variables values lengths);
+                values = eqb-true _ _ (and-right variables values lengths);
+                fields = and-left (smallFields (networkLines N)) (smallFields (combinationsOf I)) behind;
+              };
+          head = and-left (small (headLine I)) (smallFields (networkLines N) && smallFields (combinationsOf I)) g;
+          listed = and-right (smallFields (networkLines N)) (smallFields (combinationsOf I)) behind;
+        },
+        leb-true (length (instanceText I)) maxText (and-right (formed && fields) short e),
+      )
+
+  in-writable : InRange I → length (instanceText I) ≤ maxText → writable I ≡ true
+  unfolding writable
+  in-writable r l =
+      let f = r .fits in
+      let lengths : properLengths N ≡ true = and-intro (eq-eqb _ _ (f .variables)) (eq-eqb _ _ (f .values)) in
+      let sizes : properSizes N ≡ true = and-intro (and-intro (and-intro (r .relations) (f .widths)) (le-leb (total N) maxTuples (f .tuples))) lengths in
+      let fields : smallFields (instanceLines I) ≡ true = fields-split ∙ and-intro (r .head) (and-intro (f .fields) (r .listed)) in
+      and-intro (and-intro (and-intro (and-intro sizes (r .members)) (r .list)) fields) (le-leb (length (instanceText I)) maxText l)
+
+whole-some : {A : Type 0} (r : Read A) {x : A} → whole r ≡ some x → r ≡ some (x, [])
+whole-some none {x} e = absurd (Option·none-ne-some x e)
+whole-some {A = A} (some (y, [])) e = of-some (λ (z : A). _≡_ {A = Read A} (some (y, [])) (some (z, []))) e refl
+whole-some (some (y, b ∷ bs)) {x} e = absurd (Option·none-ne-some x e)
+
+-- A text that is read is the text of the instance read, and that instance is in range.
+pub read-sound : (t : List ℕ) (I : Instance) → read t ≡ some I → (writable I ≡ true) × (instanceText I ≡ t)
+unfolding read
+read-sound t I e =
+    let h = cond-some (leb (length t) maxText) (whole (readInstance t)) e in
+    let r = readInstance-sound t (whole-some (readInstance t) (h .1)) in
+    let text : instanceText I ≡ t = sym (r .1 ∙ append-nil (instanceText I)) in
+    (in-writable I (r .0) (subst (λ (u : List ℕ). length u ≤ maxText) (sym text) (leb-true (length t) maxText (h .0))), text)
+
+-- The text of every instance in range is read, as that instance.
+pub read-complete : (I : Instance) → writable I ≡ true → read (instanceText I) ≡ some I
+unfolding read
+read-complete I e =
+    let w = writable-in I e in
+    let r : readInstance (instanceText I) ≡ some (I, []) = ap readInstance (sym (append-nil (instanceText I))) ∙ readInstance-complete I [] (w .0) in
+    rw (le-leb (length (instanceText I)) maxText (w .1), r)
+
+-- Two instances in range do not have one text.
+pub instanceText-injective : (I J : Instance) → writable I ≡ true → writable J ≡ true → instanceText I ≡ instanceText J → I ≡ J
+instanceText-injective I J p q e = Option·some-injective I J (sym (read-complete I p) ∙ ap read e ∙ read-complete J q)

@@ -2,14 +2,14 @@
 use mathlib.Core.Bool.{Bool, _&&_, cond}
 use mathlib.Core.List.{List, [], _∷_, _++_, map}
 use Prim.Native.Nat.{ℕ, zero, suc, _+_, _/_, _%_}
-use lib.Dec.{leb, ltb, eqb}
+use lib.Dec.{leb, ltb}
 use lib.ListN.{length}
 use Rattle.model.specs.declared.Relation.{Relation}
-use Rattle.model.specs.Limits.{maxRelations, maxWidth, maxTuples, minMembers, maxMembers, maxCombinations}
+use Rattle.model.specs.Limits.{maxRelations, maxWidth, maxTuples, minMembers, maxMembers}
 use Rattle.model.specs.Lists.{from, all, each}
 use Rattle.model.specs.Network.{Network, width, size, total, idsOf, scopeOf, tupleOf}
 use Rattle.model.specs.Request.{Instance, combinationsOf}
-use Rattle.model.specs.Fault.{within, properLengths}
+use Rattle.model.specs.Fault.{within, properLengths, properList}
 
 -- "each at most 65,535"
 abbrev pub maxField : ℕ
@@ -69,15 +69,20 @@ instanceText I = textOf (instanceLines I)
 abbrev pub smallFields : List (List ℕ) → Bool
 smallFields lines = all (all (λ (n : ℕ). leb n maxField)) lines
 
--- the instance can be written as a text: its numbers are in range, its lists as long as its records call for, and the text is
+-- the records are in range, and the lists as long as they call for (no fault 2 to 5)
+abbrev pub properSizes : Network → Bool
+properSizes N =
+    within 1 maxRelations (length (N .relations))
+    && all (λ (R : Relation). within 1 maxWidth (R .width)) (N .relations)
+    && leb (total N) maxTuples
+    && properLengths N
+
+-- the instance can be written as a text: its sizes are in range (no fault 7 or 8 either), its numbers small, and the text
 -- not too long
 unfoldable pub writable : Instance → Bool
 writable I =
-    within 1 maxRelations (length (I .network .relations))
+    properSizes (I .network)
     && within minMembers maxMembers (I .m)
-    && (eqb (length (I .members) % (I .m)) 0 && leb (length (combinationsOf I)) maxCombinations)
-    && all (λ (R : Relation). within 1 maxWidth (R .width)) (I .network .relations)
-    && leb (total (I .network)) maxTuples
-    && properLengths (I .network)
+    && properList (I .m) (I .members)
     && smallFields (instanceLines I)
     && leb (length (instanceText I)) maxText
