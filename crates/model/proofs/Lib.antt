@@ -19,5 +19,6 @@ pub mod Reply
 pub mod Calls
 pub mod Mission
 pub mod Text
+pub mod ReadLines
 pub mod Reading
 pub mod Examples

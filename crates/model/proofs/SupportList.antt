@@ -1,7 +1,7 @@
 -- Laws of the support list by pairs of combination and member: where each tuple's numbers stand, and that a list with all of
 -- them is the support list. From the laws of lists laid end to end.
 use mathlib.Core.Path.{_≡_, refl, sym, _∙_, ap, subst}
-use mathlib.Core.List.{List, [], _∷_, _++_, map, append-assoc, List·Memᴰ, List·Memᴰ·tail}
+use mathlib.Core.List.{List, [], _++_, map}
 use Prim.Native.Nat.{ℕ, zero, suc, _+_, _*_, _/_, _≤_, _<_}
 use native.Mathlib.Nat.{add-zero, zero-add, add-suc, suc-add, zero-mul, add-mul, mul-le-mul-right, div-eq-of-lt-le}
 use native.Mathlib.Omega.{arith}

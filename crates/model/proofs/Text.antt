@@ -14,7 +14,7 @@ use borrow.Author.Tests.{lt-ltb, le-ltb, ltb-true, ltb-false, le-leb}
 use Rattle.model.specs.declared.Relation.{Relation}
 use Rattle.model.specs.Lists.{from, all, each}
 use Rattle.model.specs.Network.{Network, width, size, variablesIn, valuesIn, before, firstId, relationOf, indexOf, scopeOf, valuesAt, tupleOf}
-use Rattle.model.specs.Text.{maxField, newline, comma, nought, digitsOf, decimal, lineText, textOf, relationLines, networkLines, smallFields}
+use Rattle.model.specs.Text.{maxField, comma, nought, digitsOf, decimal, lineText, textOf, relationLines, networkLines, smallFields}
 use Rattle.model.specs.Reading.{isDigit, joined}
 use Rattle.model.proofs.Bools.{and-intro}
 use Rattle.model.proofs.Lists.{all-append, all-of-append, map-from-shift, map-from-same, each-append, each-cong, each-from-shift, drop-behind, pieces, pieces-front}
