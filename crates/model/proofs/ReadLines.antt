@@ -17,7 +17,7 @@ use Rattle.model.specs.Text.{maxField, newline, comma, nought, digitsOf,
 use Rattle.model.specs.Reading.{Read, andThen, isDigit, readDigits, readField, readLine, readLines}
 use Rattle.model.proofs.Bools.{and-left, and-right, and-intro, not-both}
 use Rattle.model.proofs.Lists.{pieces, pieces-cons}
-use Rattle.model.proofs.Text.{digitsOf-small, digitsOf-large, small-or-large, digit-isDigit, decimal-digit, decimal-more, lineText-cons, textOf-cons}
+use Rattle.model.proofs.Text.{digitsOf-small, digitsOf-large, small-or-large, digit-isDigit, decimal-digit, decimal-more, lineText-cons, textOf-cons-rest}
 
 -- ---- One after the other
 
@@ -87,20 +87,24 @@ module _ (end : ℕ) where
   abbrev pub FieldRead : List ℕ → ℕ × List ℕ → Type 0
   FieldRead t r = (r .0 ≤ maxField) × (t ≡ decimal (r .0) ++ (end ∷ r .1))
 
-  -- a digit more
-  readDigits-more : (v b : ℕ) (bs : List ℕ) (r : ℕ × List ℕ) → (isDigit b && (ltb 0 v && leb (10 * v + (b - nought)) maxField)) ≡ true → FieldRead (decimal (10 * v + (b - nought)) ++ bs) r → FieldRead (decimal v ++ (b ∷ bs)) r
-  readDigits-more v b bs r e h =
-      let digit = and-left (isDigit b) (ltb 0 v && leb (10 * v + (b - nought)) maxField) e in
-      let behind = and-right (isDigit b) (ltb 0 v && leb (10 * v + (b - nought)) maxField) e in
+  -- the field read as far as v goes on with byte b, as the number `more v b`
+  abbrev more : ℕ → ℕ → ℕ
+  more v b = 10 * v + (b - nought)
+
+  abbrev goesOn : ℕ → ℕ → Bool
+  goesOn v b = isDigit b && (ltb 0 v && leb (more v b) maxField)
+
+  goesOn-small : (v b : ℕ) → goesOn v b ≡ true → more v b ≤ maxField
+  goesOn-small v b e = leb-true (more v b) maxField (and-right (ltb 0 v) (leb (more v b) maxField) (and-right (isDigit b) (ltb 0 v && leb (more v b) maxField) e))
+
+  goesOn-decimal : (v b : ℕ) → goesOn v b ≡ true → decimal (more v b) ≡ decimal v ++ (b ∷ [])
+  goesOn-decimal v b e =
+      let digit = and-left (isDigit b) (ltb 0 v && leb (more v b) maxField) e in
+      let pos = and-left (ltb 0 v) (leb (more v b) maxField) (and-right (isDigit b) (ltb 0 v && leb (more v b) maxField) e) in
       let low = isDigit-low b digit in
       let high = isDigit-high b digit in
       let x : nought + (b - nought) ≡ b = omega arith in
-      let more : decimal (10 * v + (b - nought)) ≡ decimal v ++ (b ∷ []) =
-      decimal-more v (b - nought) (ltb-true 0 v (and-left (ltb 0 v) (leb (10 * v + (b - nought)) maxField) behind)) (omega arith)
-      (leb-true (10 * v + (b - nought)) maxField (and-right (ltb 0 v) (leb (10 * v + (b - nought)) maxField) behind))
-      ∙ ap (λ (y : ℕ). decimal v ++ (y ∷ [])) x
-      in
-      (h .0, sym (ap (λ (t : List ℕ). t ++ bs) more ∙ append-assoc (decimal v) (b ∷ []) bs) ∙ h .1)
+      decimal-more v (b - nought) (ltb-true 0 v pos) (omega arith) (goesOn-small v b e) ∙ ap (λ (y : ℕ). decimal v ++ (y ∷ [])) x
 
   readDigits-sound : (v : ℕ) (t : List ℕ) {r : ℕ × List ℕ} → v ≤ maxField → readDigits end v t ≡ some r → FieldRead (decimal v ++ t) r
   readDigits-sound v [] {r} m e = absurd (Option·none-ne-some r e)
@@ -110,11 +114,11 @@ module _ (end : ℕ) where
       of-some (FieldRead (decimal v ++ (b ∷ bs))) (h .1)
       (m, ap (λ (x : ℕ). decimal v ++ (x ∷ bs)) (eqb-true b end (h .0))))
       (λ h.
-      let k = cond-some (isDigit b && (ltb 0 v && leb (10 * v + (b - nought)) maxField)) (readDigits end (10 * v + (b - nought)) bs) (h .1) in
-      let l = and-right (isDigit b) (ltb 0 v && leb (10 * v + (b - nought)) maxField) (k .0) in
-      readDigits-more v b bs r (k .0)
-      (readDigits-sound (10 * v + (b - nought)) bs (leb-true (10 * v + (b - nought)) maxField (and-right (ltb 0 v) (leb (10 * v + (b - nought)) maxField) l)) (k .1)))
-      (cond-cases (eqb b end) (some (v, bs)) (cond (isDigit b && (ltb 0 v && leb (10 * v + (b - nought)) maxField)) (readDigits end (10 * v + (b - nought)) bs) none) e)
+      let k = cond-some (goesOn v b) (readDigits end (more v b) bs) (h .1) in
+      subst (λ (t : List ℕ). FieldRead t r)
+      (ap (λ (t : List ℕ). t ++ bs) (goesOn-decimal v b (k .0)) ∙ append-assoc (decimal v) (b ∷ []) bs)
+      (readDigits-sound (more v b) bs (goesOn-small v b (k .0)) (k .1)))
+      (cond-cases (eqb b end) (some (v, bs)) (cond (goesOn v b) (readDigits end (more v b) bs) none) e)
 
   -- sound
   pub readField-sound : (t : List ℕ) {r : ℕ × List ℕ} → readField end t ≡ some r → FieldRead t r
@@ -206,7 +210,7 @@ readLines-sound (suc k) n t e =
       text =
           l .text
           ∙ ap (λ (u : List ℕ). lineText vs ++ u) (ls .text)
-          ∙ sym (textOf-cons vs (pieces k n us) rest)
+          ∙ sym (textOf-cons-rest vs (pieces k n us) rest)
           ∙ sym (ap (λ (ps : List (List ℕ)). textOf ps ++ rest) p);
     })))
 
@@ -217,7 +221,7 @@ module _ (n : ℕ) (pos : 1 ≤ n) where
       let g : smallFields (vs ∷ pieces k n us) ≡ true = sym (ap smallFields p) ∙ e in
       let line = readLine-complete n vs (textOf (pieces k n us) ++ rest) pos l (and-left (small vs) (smallFields (pieces k n us)) g) in
       let lines = f (and-right (small vs) (smallFields (pieces k n us)) g) in
-      rw (p, textOf-cons, line, lines)
+      rw (p, textOf-cons-rest, line, lines)
 
   pub readLines-complete : (k : ℕ) (ns rest : List ℕ) → length ns ≡ k * n → smallFields (pieces k n ns) ≡ true → readLines k n (textOf (pieces k n ns) ++ rest) ≡ some (ns, rest)
   unfolding textOf

@@ -22,7 +22,7 @@ use Rattle.model.specs.Reading.{Read, readLine, readLines, joined, readR
 use Rattle.model.proofs.Bools.{and-left, and-right, and-intro}
 use Rattle.model.proofs.Lists.{all-of-append, map-places, pieces, pieces-length}
 use Rattle.model.proofs.Combination.{combination-count, combinations-pieces}
-use Rattle.model.proofs.Text.{textOf-cons, textOf-append, joined-fields, joined-text}
+use Rattle.model.proofs.Text.{textOf-cons-rest, textOf-append-rest, joined-fields, joined-text}
 use Rattle.model.proofs.ReadLines.{andThen-some, cond-some, of-some, small, LineRead, readLine-sound, readLine-complete, LinesRead, readLines-sound, readLines-complete}
 
 -- ---- Relations
@@ -197,8 +197,8 @@ pub record InRange (I : Instance) : Type 0 where
 instance-text : (I : Instance) (rest : List ℕ) → instanceText I ++ rest ≡ lineText (headLine I) ++ (textOf (networkLines (I .network)) ++ (textOf (combinationsOf I) ++ rest))
 unfolding instanceText instanceLines
 instance-text I rest =
-    textOf-cons (headLine I) (networkLines (I .network) ++ combinationsOf I) rest
-    ∙ ap (λ (t : List ℕ). lineText (headLine I) ++ t) (textOf-append (networkLines (I .network)) (combinationsOf I) rest)
+    textOf-cons-rest (headLine I) (networkLines (I .network) ++ combinationsOf I) rest
+    ∙ ap (λ (t : List ℕ). lineText (headLine I) ++ t) (textOf-append-rest (networkLines (I .network)) (combinationsOf I) rest)
 
 members-some : (m : ℕ) → within minMembers maxMembers m ≡ true → 0 < m
 members-some m e = let l = leb-true minMembers m (and-left (leb minMembers m) (leb m maxMembers) e) in omega arith

@@ -123,14 +123,20 @@ pub lineText-length : (n : ℕ) (ns : List ℕ) → length (lineText (n ∷ ns))
 lineText-length n [] = let h = decimal-length n in rw length-append (omega arith)
 lineText-length n (k ∷ ks) = let h = decimal-length n in let l = lineText-length k ks in rw length-append (omega arith)
 
--- the text of lines before more text: of the first line and the others, and of lines and more lines
-pub textOf-cons : (line : List ℕ) (lines : List (List ℕ)) (rest : List ℕ) → textOf (line ∷ lines) ++ rest ≡ lineText line ++ (textOf lines ++ rest)
+pub textOf-cons : (line : List ℕ) (lines : List (List ℕ)) → textOf (line ∷ lines) ≡ lineText line ++ textOf lines
 unfolding textOf
-textOf-cons line lines rest = append-assoc (lineText line) (textOf lines) rest
+textOf-cons line lines = refl
 
-pub textOf-append : (xs ys : List (List ℕ)) (rest : List ℕ) → textOf (xs ++ ys) ++ rest ≡ textOf xs ++ (textOf ys ++ rest)
+pub textOf-append : (xs ys : List (List ℕ)) → textOf (xs ++ ys) ≡ textOf xs ++ textOf ys
 unfolding textOf
-textOf-append xs ys rest = ap (λ (t : List ℕ). t ++ rest) (each-append lineText xs ys) ∙ append-assoc (textOf xs) (textOf ys) rest
+textOf-append xs ys = each-append lineText xs ys
+
+-- .. and the same with more text behind
+pub textOf-cons-rest : (line : List ℕ) (lines : List (List ℕ)) (rest : List ℕ) → textOf (line ∷ lines) ++ rest ≡ lineText line ++ (textOf lines ++ rest)
+textOf-cons-rest line lines rest = ap (λ (t : List ℕ). t ++ rest) (textOf-cons line lines) ∙ append-assoc (lineText line) (textOf lines) rest
+
+pub textOf-append-rest : (xs ys : List (List ℕ)) (rest : List ℕ) → textOf (xs ++ ys) ++ rest ≡ textOf xs ++ (textOf ys ++ rest)
+textOf-append-rest xs ys rest = ap (λ (t : List ℕ). t ++ rest) (textOf-append xs ys) ∙ append-assoc (textOf xs) (textOf ys) rest
 
 -- ---- A network's lines
 
@@ -207,6 +213,6 @@ module _ (R : Relation) (scope values : List ℕ) (N : Network) (scoped : length
   joined-text rest =
       let behind = textOf (networkLines N) ++ rest in
       ap (λ (lines : List (List ℕ)). textOf lines ++ rest) joined-lines
-      ∙ textOf-append firstLines (networkLines N) rest
-      ∙ textOf-cons (R .width ∷ R .tuples ∷ []) (scope ∷ pieces (R .tuples) (R .width) values) behind
-      ∙ ap (λ (t : List ℕ). lineText (R .width ∷ R .tuples ∷ []) ++ t) (textOf-cons scope (pieces (R .tuples) (R .width) values) behind)
+      ∙ textOf-append-rest firstLines (networkLines N) rest
+      ∙ textOf-cons-rest (R .width ∷ R .tuples ∷ []) (scope ∷ pieces (R .tuples) (R .width) values) behind
+      ∙ ap (λ (t : List ℕ). lineText (R .width ∷ R .tuples ∷ []) ++ t) (textOf-cons-rest scope (pieces (R .tuples) (R .width) values) behind)

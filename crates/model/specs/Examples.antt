@@ -204,7 +204,7 @@ input-A : listing (textOf linesA) ≡ textOf listedA
 unfolding linesA listedA Text.decimal Text.textOf Reading.readField Reading.readInstance Reading.read Listing.allLive Listing.fresh Listing.tupleLines Listing.replyLines Listing.listing relation asked numbers TupleSet.closure Network.relationOf Network.indexOf Network.scopeOf Network.valuesAt Network.tupleOf Agreement.fit Agreement.clash Agreement.agreeing Agreement.cellsOf Agreement.agree Agreement.share Combination.combinations Combination.connected Support.candidates Support.isSupport Support.supports Support.firstSupport Consistency.supported Consistency.filtered Consistency.supportList Consistency.needed LiveWords.bit LiveWords.isSet LiveWords.isLive LiveWords.living LiveWords.word LiveWords.written Request.removes Fault.faultsOn Fault.faults Reply.lowestEmpty Reply.answerFor Reply.remainder Reply.countsFor Reply.leaving Reply.accepted Reply.reply
 input-A = refl
 
--- k combinations of m; n sheets of w columns and h rows, whose codes are v
+-- the text of n relations of w variables and h tuples, whose values are all v, and of k combinations of m
 book : ℕ → ℕ → ℕ → ℕ → ℕ → ℕ → List ℕ
 book n m k w h v =
     textOf ((n ∷ m ∷ k ∷ []) ∷ (each (λ (r : ℕ). (w ∷ h ∷ []) ∷ replicate w 0 ∷ replicate h (replicate w v)) (from 0 n) ++ replicate k (replicate m 0)))
@@ -215,7 +215,7 @@ short = book 1 2 0 1 1 7
 
 damagedTexts : List (List ℕ)
 damagedTexts =
-    -- 0 and 65 sheets, m 1 and 5, 257 combinations, 0 and 9 columns, 4,097 rows, a code 65,536, over 65,536 bytes
+    -- 0 and 65 relations, m 1 and 5, 257 combinations, 0 and 9 variables, 4,097 tuples, a value 65,536, over 65,536 bytes
     book 0 2 0 1 1 7
     ∷ book 65 2 0 1 1 7
     ∷ book 1 1 1 1 1 7
@@ -223,7 +223,7 @@ damagedTexts =
     ∷ book 1 2 257 1 1 7
     ∷ book 1 2 0 0 1 7
     ∷ book 1 2 0 9 1 7
-    ∷ book 1 2 0 1 4097 7
+    ∷ book 17 2 0 1 241 7
     ∷ book 1 2 0 1 1 65536
     ∷ book 1 2 0 8 1365 65535
     -- a leading nought, an empty field, a letter, no last newline, a byte behind the last line
@@ -234,6 +234,7 @@ damagedTexts =
     ∷ (short ++ (10 ∷ []))
     ∷ []
 
+-- each is refused
 texts-refused : map read damagedTexts ≡ map (λ (t : List ℕ). none) damagedTexts
 unfolding damagedTexts book short Text.decimal Text.textOf Reading.readField Reading.readInstance Reading.read
 texts-refused = refl
@@ -242,7 +243,7 @@ isRead : Option Instance → Bool
 isRead none = false
 isRead (some I) = true
 
--- .. and the same with the last numbers in range are read
-texts-read : all (λ (t : List ℕ). isRead (read t)) (short ∷ book 64 4 256 8 1 65535 ∷ book 1 2 0 1 4096 7 ∷ []) ≡ true
+-- the largest numbers in range are read: 64 relations, m 4, 256 combinations, 8 variables, values 65,535; 4,096 tuples
+texts-read : all (λ (t : List ℕ). isRead (read t)) (short ∷ book 64 4 256 8 1 65535 ∷ book 16 2 0 1 256 7 ∷ []) ≡ true
 unfolding isRead book short Text.decimal Text.textOf Reading.readField Reading.readInstance Reading.read
 texts-read = refl
