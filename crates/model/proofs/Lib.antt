@@ -19,4 +19,7 @@ pub mod Reply
 pub mod Calls
 pub mod Edges
 pub mod Mission
+pub mod Text
+pub mod ReadLines
+pub mod Reading
 pub mod Examples
