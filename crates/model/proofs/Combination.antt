@@ -12,7 +12,6 @@ use lib.ListN.{length, getD, take, drop, length-map, length-drop}
 use lib.Seq.{take-all, take-add, drop-drop, drop-cons, getD-take, getD-drop, length-take-le}
 use borrow.Author.Tests.{leb-true, not-true}
 use Rattle.model.specs.Limits.{maxWidth}
-use Rattle.model.specs.declared.Relation.{Relation}
 use Rattle.model.specs.Lists.{from, sum, all, any, select, keepIf, empty, elem}
 use Rattle.model.specs.Network.{Network, noRelation, width, size, variablesIn, before, scopeOf}
 use Rattle.model.specs.Agreement.{share}
