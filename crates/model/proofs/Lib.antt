@@ -16,6 +16,7 @@ pub mod Work
 pub mod Solution
 pub mod Locality
 pub mod Reply
+pub mod Edges
 pub mod Calls
 pub mod Mission
 pub mod Examples
