@@ -68,15 +68,8 @@ pub fn filter(
 ) -> Answer
     ensures { λ a. ⌜ replied a (now (words .exit)) (now (supports .exit)) ≡ reply (request (instance (now (relations .entry)) (now (variables .entry)) (now (values .entry)) m (now (members .entry))) (now (words .entry)) (now (supports .entry)) filter) ⌝ }
 {
-    changes::filter(
-        shape_of(relations),
-        variables,
-        values,
-        m,
-        members,
-        words,
-        supports,
-    )
+    let shape = shape_of(relations);
+    changes::filter(shape, variables, values, m, members, words, supports)
 }
 
 // Withdraws the tuples listed, live or dead, and filters what then lives.
@@ -92,16 +85,8 @@ pub fn withdraw(
 ) -> Answer
     ensures { λ a. ⌜ replied a (now (words .exit)) (now (supports .exit)) ≡ reply (request (instance (now (relations .entry)) (now (variables .entry)) (now (values .entry)) m (now (members .entry))) (now (words .entry)) (now (supports .entry)) (withdraw (now (ids .entry)))) ⌝ }
 {
-    changes::withdraw(
-        shape_of(relations),
-        variables,
-        values,
-        m,
-        members,
-        words,
-        supports,
-        ids,
-    )
+    let shape = shape_of(relations);
+    changes::withdraw(shape, variables, values, m, members, words, supports, ids)
 }
 
 // Withdraws every tuple that has another value than v under variable x, and filters what then lives.
@@ -118,17 +103,8 @@ pub fn choose(
 ) -> Answer
     ensures { λ a. ⌜ replied a (now (words .exit)) (now (supports .exit)) ≡ reply (request (instance (now (relations .entry)) (now (variables .entry)) (now (values .entry)) m (now (members .entry))) (now (words .entry)) (now (supports .entry)) (choose x v)) ⌝ }
 {
-    changes::choose(
-        shape_of(relations),
-        variables,
-        values,
-        m,
-        members,
-        words,
-        supports,
-        x,
-        v,
-    )
+    let shape = shape_of(relations);
+    changes::choose(shape, variables, values, m, members, words, supports, x, v)
 }
 
 // Whether the live tuples are consistent: each has a support in every combination that holds its relation.
@@ -142,7 +118,8 @@ pub fn test(
 ) -> Verdict
     ensures { λ v. ⌜ verdictNumbers v ≡ testReply (instance (now (relations .entry)) (now (variables .entry)) (now (values .entry)) m (now (members .entry))) (now (words .entry)) ⌝ }
 {
-    testing::test(shape_of(relations), variables, values, m, members, words)
+    let shape = shape_of(relations);
+    testing::test(shape, variables, values, m, members, words)
 }
 
 // Compares the tuples with ids g and h.
@@ -155,5 +132,6 @@ pub fn compare(
 ) -> Comparison
     ensures { λ a. ⌜ comparisonNumbers a ≡ compareReply (network (now (relations .entry)) (now (variables .entry)) (now (values .entry))) g h ⌝ }
 {
-    network::comparison::compare(shape_of(relations), variables, values, g, h)
+    let shape = shape_of(relations);
+    network::comparison::compare(shape, variables, values, g, h)
 }
