@@ -14,7 +14,6 @@ use Rattle.model.specs.Network.{Network, noRelation, variablesIn, tuplesIn}
 use Rattle.model.specs.Request.{Change, Instance, Request}
 use Rattle.model.specs.Reply.{refused, reply, testReply, compareReply}
 use Rattle.model.proofs.Edges.{reply-many, testReply-many, compareReply-many}
-use Rattle.network.specs.declared.Shape.{Shape}
 use Rattle.network.specs.Shape.{padded, shapeOf, recordAt, relationsOf, networkOf}
 use Rattle.network.proofs.Relations.{relation-count, relation-at}
 

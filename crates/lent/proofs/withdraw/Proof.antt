@@ -22,7 +22,8 @@ use Rattle.changes.proofs.withdraw.Symbol.{name as #changes·withdraw}
 use Rattle.changes.proofs.withdraw.Met as work-thm
 use Rattle.lent.specs.Records.{instance}
 use Rattle.lent.proofs.Walk.{URA, named, w16, vint, vptr, SProp, ent, id⊢, flft, Memory, Routine, Heap, WpFn, Tables, Atoms, sem, Lfts, Shares, Fun, givenOf, tables, tablesOf, Given, ‵, raw, _⊛_, _$_, _∵_, !, qed, move, whole, sub, look-in, agg, look, hop, fld, load, addr, and-then, assigns, init, stop, from, no-more, land, enter, params1, pass1, pass0, fmOf, owns, flat, Are, Ises, RefT, now, ptr, slice-vals, uint-vals, uint-tells, shr-slice-tells, mut-slice-tells, typesAt, u16, u64, Contract, Triple, Args, Vals, alive, onEntry, Meets, tripleOf, entered, cited, ensured, lasts}
-use Rattle.lent.proofs.Pass.{sv, list-typed, others, allocated, operand, ShapeOf, records, takes-apart, answers, met, retold}
+use Rattle.lent.proofs.Locals.{sv, list-typed, others, allocated, operand, met, retold}
+use Rattle.lent.proofs.Pass.{ShapeOf, records, takes-apart, answers}
 use Rattle.lent.proofs.shape_of.Symbol as shape-of-def
 use Rattle.lent.proofs.shape_of.Symbol.{name as #lent·shape-of}
 use Rattle.lent.proofs.shape_of.Met as shape-of-thm
