@@ -1,0 +1,45 @@
+-- What a position that code gives says of what was read; and what was read behind other things.
+-- From the definitions of `foundAt`, `behind` and `append`.
+use mathlib.Core.Path.{_≡_, refl, sym, ap, ap₂, _∙_}
+use mathlib.Core.Bool.{Bool, true, false, cond}
+use mathlib.Core.Option.{none, some, Option·some-injective, Option·none-ne-some, Option·some-ne-none}
+use mathlib.Core.List.{List, [], _∷_, _++_, append-assoc}
+use Prim.Native.Nat.{ℕ, zero, suc, _+_, _<_}
+use native.Mathlib.Omega.{arith}
+use borrow.Author.Tests.{eq-eqb, ne-eqb}
+use lib.Dec.{eqb}
+use lib.ListN.{drop}
+use Rattle.model.specs.Reading.{Read, andThen}
+use Rattle.reading.specs.Parts.{foundAt, mapRead, behind}
+
+pub positive : (n : ℕ) → (n ≡ 0 → ⊥) → 0 < n
+positive zero h = absurd (h refl)
+positive (suc n) h = omega arith
+
+module _ {A : Type 0} (t : List ℕ) where
+  -- a position that is not nought
+  pub found-at : (next : ℕ) (x : A) → (next ≡ 0 → ⊥) → foundAt next x t ≡ some (x, drop next t)
+  found-at next x n = ap (λ (b : Bool). cond b none (some (x, drop next t))) (ne-eqb next 0 n)
+
+  pub found-none : (next : ℕ) (x : A) → next ≡ 0 → foundAt next x t ≡ none
+  found-none next x e = ap (λ (b : Bool). cond b none (some (x, drop next t))) (eq-eqb next 0 e)
+
+  pub found-past : (i : ℕ) (x : A) → foundAt (i + 1) x t ≡ some (x, drop (i + 1) t)
+  found-past i x = found-at (i + 1) x (λ (e : i + 1 ≡ 0). omega arith)
+
+-- what stands behind us and vs stands behind both
+pub behind-behind : (us vs : List ℕ) (R : Read (List ℕ)) → behind us (behind vs R) ≡ behind (us ++ vs) R
+behind-behind us vs none = refl
+behind-behind us vs (some r) = ap (λ (xs : List ℕ). some (xs, r .1)) (sym (append-assoc us vs (r .0)))
+
+module _ {A B : Type 0} (f : A → B) (t : List ℕ) (next : ℕ) (x : B) where
+  -- a position that is not nought: something was read, and x is what f makes of it
+  pub map-split : (R : Read A) → foundAt next x t ≡ mapRead f R → (next ≡ 0 → ⊥) → (y : A) × (R ≡ some (y, drop next t)) × (x ≡ f y)
+  map-split none h n = absurd (Option·some-ne-none (x, drop next t) (sym (found-at t next x n) ∙ h))
+  map-split (some r) h n =
+      let e : _≡_ {A = B × List ℕ} (x, drop next t) (f (r .0), r .1) = Option·some-injective (x, drop next t) (f (r .0), r .1) (sym (found-at t next x n) ∙ h) in
+      (r .0, ap (λ (rest : List ℕ). some (r .0, rest)) (sym (ap (λ (p : B × List ℕ). p .1) e)), ap (λ (p : B × List ℕ). p .0) e)
+
+  pub map-none : (R : Read A) → foundAt next x t ≡ mapRead f R → next ≡ 0 → R ≡ none
+  map-none none h z = refl
+  map-none (some r) h z = absurd (Option·none-ne-some (f (r .0), r .1) (sym (found-none t next x z) ∙ h))

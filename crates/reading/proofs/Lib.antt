@@ -1,0 +1,4 @@
+-- The laws of the crate's definitions.
+pub mod Found
+pub mod Bytes
+pub mod Lines
