@@ -32,14 +32,22 @@ pub behind-behind : (us vs : List ℕ) (R : Read (List ℕ)) → behind us (behi
 behind-behind us vs none = refl
 behind-behind us vs (some r) = ap (λ (xs : List ℕ). some (xs, r .1)) (sym (append-assoc us vs (r .0)))
 
-module _ {A B : Type 0} (f : A → B) (t : List ℕ) (next : ℕ) (x : B) where
+module _ {A B : Type 0} (f : A → B) (t : List ℕ) (next : ℕ) where
+  -- what f makes of what was found
+  pub map-found : (y : A) → mapRead f (foundAt next y t) ≡ foundAt next (f y) t
+  map-found y = go (eqb next 0)
+    where
+      go : (b : Bool) → mapRead f (cond b none (some (y, drop next t))) ≡ cond b none (some (f y, drop next t))
+      go true = refl
+      go false = refl
+
   -- a position that is not nought: something was read, and x is what f makes of it
-  pub map-split : (R : Read A) → foundAt next x t ≡ mapRead f R → (next ≡ 0 → ⊥) → (y : A) × (R ≡ some (y, drop next t)) × (x ≡ f y)
-  map-split none h n = absurd (Option·some-ne-none (x, drop next t) (sym (found-at t next x n) ∙ h))
-  map-split (some r) h n =
+  pub map-split : (x : B) (R : Read A) → foundAt next x t ≡ mapRead f R → (next ≡ 0 → ⊥) → (y : A) × (R ≡ some (y, drop next t)) × (x ≡ f y)
+  map-split x none h n = absurd (Option·some-ne-none (x, drop next t) (sym (found-at t next x n) ∙ h))
+  map-split x (some r) h n =
       let e : _≡_ {A = B × List ℕ} (x, drop next t) (f (r .0), r .1) = Option·some-injective (x, drop next t) (f (r .0), r .1) (sym (found-at t next x n) ∙ h) in
       (r .0, ap (λ (rest : List ℕ). some (r .0, rest)) (sym (ap (λ (p : B × List ℕ). p .1) e)), ap (λ (p : B × List ℕ). p .0) e)
 
-  pub map-none : (R : Read A) → foundAt next x t ≡ mapRead f R → next ≡ 0 → R ≡ none
-  map-none none h z = refl
-  map-none (some r) h z = absurd (Option·none-ne-some (f (r .0), r .1) (sym (found-none t next x z) ∙ h))
+  pub map-none : (x : B) (R : Read A) → foundAt next x t ≡ mapRead f R → next ≡ 0 → R ≡ none
+  map-none x none h z = refl
+  map-none x (some r) h z = absurd (Option·none-ne-some (f (r .0), r .1) (sym (found-none t next x z) ∙ h))

@@ -2,3 +2,4 @@
 pub mod Found
 pub mod Bytes
 pub mod Lines
+pub mod Networks

@@ -37,6 +37,10 @@ append N M =
 abbrev pub single : Relation → List ℕ → List ℕ → Network
 single R scope values = record { relations = R ∷ []; variables = scope; values = values }
 
+-- lists without a record
+abbrev pub unlisted : List ℕ → List ℕ → Network
+unlisted variables values = record { relations = []; variables = variables; values = values }
+
 -- a relation's record that allows at most `room` tuples
 unfoldable pub readRecord : ℕ → List ℕ → Read Relation
 readRecord room t =

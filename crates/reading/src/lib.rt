@@ -2,6 +2,7 @@
 use network::Shape;
 
 pub mod fields; // a field, a line of fields, and lines
+pub mod relations; // a relation, and all relations
 
 // What was read of a text: the records, m, and how many entries of each list were filled.
 pub struct Book {
