@@ -32,6 +32,10 @@ pub behind-behind : (us vs : List ℕ) (R : Read (List ℕ)) → behind us (behi
 behind-behind us vs none = refl
 behind-behind us vs (some r) = ap (λ (xs : List ℕ). some (xs, r .1)) (sym (append-assoc us vs (r .0)))
 
+pub behind-nil : (R : Read (List ℕ)) → behind [] R ≡ R
+behind-nil none = refl
+behind-nil (some r) = refl
+
 module _ {A B : Type 0} (f : A → B) (t : List ℕ) (next : ℕ) where
   -- what f makes of what was found
   pub map-found : (y : A) → mapRead f (foundAt next y t) ≡ foundAt next (f y) t
@@ -51,3 +55,13 @@ module _ {A B : Type 0} (f : A → B) (t : List ℕ) (next : ℕ) where
   pub map-none : (x : B) (R : Read A) → foundAt next x t ≡ mapRead f R → next ≡ 0 → R ≡ none
   map-none x none h z = refl
   map-none x (some r) h z = absurd (Option·none-ne-some (f (r .0), r .1) (sym (found-none t next x z) ∙ h))
+
+-- a line that was read and passed a test
+pub passed-test : {A : Type 0} (p : List ℕ → Bool) (f : List ℕ → A) (L : Read (List ℕ)) (x : A) (rest : List ℕ)
+    → andThen L (λ (head : List ℕ) (rest' : List ℕ). cond (p head) (some (f head, rest')) none) ≡ some (x, rest) → (head : List ℕ) × (p head ≡ true) × (f head ≡ x)
+passed-test p f none x rest h = absurd (Option·none-ne-some (x, rest) h)
+passed-test {A} p f (some r) x rest h = go (p (r .0)) refl h
+  where
+    go : (b : Bool) → p (r .0) ≡ b → _≡_ {A = Read A} (cond b (some (f (r .0), r .1)) none) (some (x, rest)) → (head : List ℕ) × (p head ≡ true) × (f head ≡ x)
+    go false q e = absurd (Option·none-ne-some (x, rest) e)
+    go true q e = (r .0, q, ap (λ (y : A × List ℕ). y .0) (Option·some-injective (f (r .0), r .1) (x, rest) e))

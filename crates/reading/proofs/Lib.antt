@@ -3,3 +3,4 @@ pub mod Found
 pub mod Bytes
 pub mod Lines
 pub mod Networks
+pub mod Whole

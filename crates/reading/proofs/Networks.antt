@@ -2,7 +2,7 @@
 -- From the definitions of `readRecord`, `readRelation` and `readRelations`.
 use mathlib.Core.Path.{_≡_, refl, sym, ap, ap₂, _∙_}
 use mathlib.Core.Bool.{Bool, true, false, _&&_, cond}
-use mathlib.Core.Option.{none, some, Option·some-injective, Option·none-ne-some}
+use mathlib.Core.Option.{none, some}
 use mathlib.Core.List.{List, [], _∷_, _++_, append-assoc, append-nil, map, map-append}
 use Prim.Native.Nat.{ℕ, zero, suc, _+_, _*_, _-_, _≤_, _<_}
 use native.Mathlib.Nat.{zero-add, sub-zero}
@@ -23,11 +23,7 @@ use Rattle.model.proofs.Lists.{from-append, map-from-same}
 use Rattle.network.specs.declared.Shape.{Shape}
 use Rattle.network.specs.Shape.{recordAt, relationsOf, networkOf}
 use Rattle.reading.specs.Parts.{foundAt, mapRead, behind, append, single, unlisted, readRecord, readRelation}
-use Rattle.reading.proofs.Found.{found-at, map-split, map-found}
-
-behind-nil : (R : Read (List ℕ)) → behind [] R ≡ R
-behind-nil none = refl
-behind-nil (some r) = refl
+use Rattle.reading.proofs.Found.{found-at, behind-nil, map-split, map-found, passed-test}
 
 -- a line read into a list of its own
 pub line-alone : (n : ℕ) (t T xs : List ℕ) (next : ℕ) → length xs ≡ n → foundAt next (take (0 + n) xs) t ≡ behind [] (readLine n T) → foundAt next xs t ≡ readLine n T
@@ -61,17 +57,11 @@ module _ (room : ℕ) (T : List ℕ) where
 -- a record that was read has a width
 pub record-width : (room : ℕ) (T : List ℕ) (R : Relation) (rest : List ℕ) → readRecord room T ≡ some (R, rest) → 0 < R .width
 unfolding readRecord
-record-width room T R rest h = line (readLine 2 T) h
-  where
-    go : (head rest' : List ℕ) (b : Bool) → (within 1 maxWidth (getD head 0 0) && leb (getD head 1 0) room) ≡ b → _≡_ {A = Read Relation} (cond b (some (record { width = getD head 0 0; tuples = getD head 1 0 }, rest')) none) (some (R, rest)) → 0 < R .width
-    go head rest' false q e = absurd (Option·none-ne-some (R, rest) e)
-    go head rest' true q e =
-        let same = ap (λ (p : Relation × List ℕ). p .0 .width) (Option·some-injective _ (R, rest) e) in
-        let broad = leb-true 1 (getD head 0 0) (and-left _ _ (and-left _ _ q)) in
-        omega arith
-    line : (L : Read (List ℕ)) → andThen L (λ (head : List ℕ) (rest' : List ℕ). cond (within 1 maxWidth (getD head 0 0) && leb (getD head 1 0) room) (some (record { width = getD head 0 0; tuples = getD head 1 0 }, rest')) none) ≡ some (R, rest) → 0 < R .width
-    line none e = absurd (Option·none-ne-some (R, rest) e)
-    line (some r) e = go (r .0) (r .1) _ refl e
+record-width room T R rest h =
+    let s = passed-test (λ (head : List ℕ). within 1 maxWidth (getD head 0 0) && leb (getD head 1 0) room) (λ (head : List ℕ). record { width = getD head 0 0; tuples = getD head 1 0 }) (readLine 2 T) R rest h in
+    let width : getD (s .0) 0 0 ≡ R .width = ap (λ (Q : Relation). Q .width) (s .2) in
+    let broad : 1 ≤ getD (s .0) 0 0 = leb-true 1 (getD (s .0) 0 0) (and-left _ _ (and-left _ _ (s .1))) in
+    omega arith
 
 -- a relation, once its record is read
 module _ (room : ℕ) (T : List ℕ) where

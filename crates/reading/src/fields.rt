@@ -20,7 +20,10 @@ fn digits(text: &[u8], from: usize, first: u16, end: u8) -> Decimal
     while i < text.len() {
         let b = text[i];
         if b == end {
-            return Decimal { value: v, next: i + 1 };
+            return Decimal {
+                value: v,
+                next: i + 1,
+            };
         }
         if b < 48 {
             return Decimal { value: 0, next: 0 };

@@ -22,7 +22,11 @@ pub struct Record {
 fn record_at(text: &[u8], at: usize, room: u16) -> Record
     ensures { λ r. ⌜ (foundAt (r .next) (record { width = r .width; tuples = r .tuples }) (now (text .entry)) ≡ readRecord room (drop at (now (text .entry)))) × ((r .width ≤ maxWidth) × (r .tuples ≤ room)) ⌝ }
 {
-    let none = Record { next: 0, width: 0, tuples: 0 };
+    let none = Record {
+        next: 0,
+        width: 0,
+        tuples: 0,
+    };
     let mut numbers = [0u16; 2];
     let next = line(text, at, 2, &mut numbers, 0);
     if next == 0 {
@@ -39,7 +43,11 @@ fn record_at(text: &[u8], at: usize, room: u16) -> Record
     if room < tuples {
         return none;
     }
-    Record { next, width, tuples }
+    Record {
+        next,
+        width,
+        tuples,
+    }
 }
 
 // Reads a relation of at most the given number of tuples: its scope and its values go into the lists from the given places on.
@@ -63,10 +71,18 @@ fn relation_at(
     let width = wide(r.width);
     let scope_end = line(text, record_end, width, variables, variable);
     if scope_end == 0 {
-        return Record { next: 0, width: 0, tuples: 0 };
+        return Record {
+            next: 0,
+            width: 0,
+            tuples: 0,
+        };
     }
     let next = lines(text, scope_end, wide(r.tuples), width, values, value);
-    Record { next, width: r.width, tuples: r.tuples }
+    Record {
+        next,
+        width: r.width,
+        tuples: r.tuples,
+    }
 }
 
 // The records of the relations, how many entries of each list were filled, and the position behind what was read; position 0
@@ -111,7 +127,11 @@ pub fn relations_at(
     }
     Listed {
         next: from,
-        shape: Shape { count, widths, tuples },
+        shape: Shape {
+            count,
+            widths,
+            tuples,
+        },
         variables: variable,
         values: value,
     }
