@@ -1,20 +1,25 @@
 -- What a position that code gives says of what was read; and what was read behind other things.
 -- From the definitions of `foundAt`, `behind` and `append`.
-use mathlib.Core.Path.{_≡_, refl, sym, ap, ap₂, _∙_}
+use mathlib.Core.Path.{_≡_, refl, sym, ap, _∙_}
 use mathlib.Core.Bool.{Bool, true, false, cond}
 use mathlib.Core.Option.{none, some, Option·some-injective, Option·none-ne-some, Option·some-ne-none}
-use mathlib.Core.List.{List, [], _∷_, _++_, append-assoc}
-use Prim.Native.Nat.{ℕ, zero, suc, _+_, _<_}
+use mathlib.Core.List.{List, [], _++_, append-assoc}
+use Prim.Native.Nat.{ℕ, zero, suc, _+_, _≤_, _<_}
 use native.Mathlib.Omega.{arith}
-use borrow.Author.Tests.{eq-eqb, ne-eqb}
-use lib.Dec.{eqb}
+use borrow.Author.Tests.{eq-eqb, ne-eqb, leb-true}
+use lib.Dec.{eqb, leb}
 use lib.ListN.{drop}
+use Rattle.model.specs.Fault.{within}
 use Rattle.model.specs.Reading.{Read, andThen}
+use Rattle.model.proofs.Bools.{and-right}
 use Rattle.reading.specs.Parts.{foundAt, mapRead, behind}
 
 pub positive : (n : ℕ) → (n ≡ 0 → ⊥) → 0 < n
 positive zero h = absurd (h refl)
 positive (suc n) h = omega arith
+
+pub within-high : (low high n : ℕ) → within low high n ≡ true → n ≤ high
+within-high low high n h = leb-true n high (and-right (leb low n) (leb n high) h)
 
 module _ {A : Type 0} (t : List ℕ) where
   -- a position that is not nought

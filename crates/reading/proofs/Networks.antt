@@ -4,12 +4,12 @@ use mathlib.Core.Path.{_≡_, refl, sym, ap, ap₂, _∙_}
 use mathlib.Core.Bool.{Bool, true, false, _&&_, cond}
 use mathlib.Core.Option.{none, some}
 use mathlib.Core.List.{List, [], _∷_, _++_, append-assoc, append-nil, map, map-append}
-use Prim.Native.Nat.{ℕ, zero, suc, _+_, _*_, _-_, _≤_, _<_}
+use Prim.Native.Nat.{ℕ, suc, _+_, _-_, _≤_, _<_}
 use native.Mathlib.Nat.{zero-add, sub-zero}
 use native.Mathlib.Numerals.{add-one}
 use native.Mathlib.Omega.{arith}
 use borrow.Author.Tests.{le-leb, lt-leb, leb-true}
-use lib.Dec.{leb, eqb}
+use lib.Dec.{leb}
 use lib.ListN.{length, getD, take, drop, set}
 use lib.Seq.{take-all, getD-set-same, getD-set-other}
 use Rattle.model.specs.declared.Relation.{Relation}
@@ -36,23 +36,20 @@ module _ (room : ℕ) (T : List ℕ) where
   unfolding readRecord
   record-none e = rw e
 
-  module _ (head rest : List ℕ) (e : readLine 2 T ≡ some (head, rest)) where
-    record-read : readRecord room T ≡ cond (within 1 maxWidth (getD head 0 0) && leb (getD head 1 0) room) (some (record { width = getD head 0 0; tuples = getD head 1 0 }, rest)) none
+  module _ (head rest : List ℕ) (e : readLine 2 T ≡ some (head, rest)) (w n : ℕ) (p : w ≡ getD head 0 0) (q : n ≡ getD head 1 0) where
+    record-read : readRecord room T ≡ cond (within 1 maxWidth w && leb n room) (some (record { width = w; tuples = n }, rest)) none
     unfolding readRecord
-    record-read = rw e
+    record-read = rw (e, p, q)
 
-    pub record-narrow : getD head 0 0 < 1 → readRecord room T ≡ none
-    record-narrow h = record-read ∙ rw (lt-leb 1 (getD head 0 0) h)
+    pub record-wrong : within 1 maxWidth w ≡ false → readRecord room T ≡ none
+    record-wrong h = record-read ∙ rw h
 
-    pub record-broad : 1 ≤ getD head 0 0 → 8 < getD head 0 0 → readRecord room T ≡ none
-    record-broad l h = record-read ∙ rw (le-leb 1 (getD head 0 0) l, lt-leb (getD head 0 0) 8 h)
+    module _ (h : within 1 maxWidth w ≡ true) where
+      pub record-many : room < n → readRecord room T ≡ none
+      record-many m = record-read ∙ rw (h, lt-leb n room m)
 
-    module _ (l : 1 ≤ getD head 0 0) (h : getD head 0 0 ≤ 8) where
-      pub record-many : room < getD head 1 0 → readRecord room T ≡ none
-      record-many m = record-read ∙ rw (le-leb 1 (getD head 0 0) l, le-leb (getD head 0 0) 8 h, lt-leb (getD head 1 0) room m)
-
-      pub record-proper : getD head 1 0 ≤ room → readRecord room T ≡ some (record { width = getD head 0 0; tuples = getD head 1 0 }, rest)
-      record-proper m = record-read ∙ rw (le-leb 1 (getD head 0 0) l, le-leb (getD head 0 0) 8 h, le-leb (getD head 1 0) room m)
+      pub record-proper : n ≤ room → readRecord room T ≡ some (record { width = w; tuples = n }, rest)
+      record-proper m = record-read ∙ rw (h, le-leb n room m)
 
 -- a record that was read has a width
 pub record-width : (room : ℕ) (T : List ℕ) (R : Relation) (rest : List ℕ) → readRecord room T ≡ some (R, rest) → 0 < R .width

@@ -9,7 +9,7 @@ use native.Mathlib.Nat.{zero-add}
 use native.Mathlib.Omega.{arith}
 use borrow.Author.Tests.{le-leb, lt-leb, leb-true}
 use lib.Dec.{leb}
-use lib.ListN.{length, getD, take, drop, drop-of-length-le}
+use lib.ListN.{length, getD, take, drop-of-length-le}
 use lib.Seq.{drop-cons, length-take-le}
 use Rattle.model.specs.Limits.{maxRelations, maxTuples, minMembers, maxMembers, maxCombinations}
 use Rattle.model.specs.Network.{Network}
@@ -36,32 +36,24 @@ module _ (T : List ℕ) where
   unfolding readHeading
   heading-none e = rw e
 
-  module _ (head rest : List ℕ) (e : readLine 3 T ≡ some (head, rest)) where
-    heading-read : readHeading T ≡ cond (allowed head) (some (numbersOf head, rest)) none
+  module _ (head rest : List ℕ) (e : readLine 3 T ≡ some (head, rest)) (r m k : ℕ) (p : r ≡ getD head 0 0) (q : m ≡ getD head 1 0) (s : k ≡ getD head 2 0) where
+    heading-read : readHeading T ≡ cond (within 1 maxRelations r && (within minMembers maxMembers m && leb k maxCombinations)) (some (record { relations = r; m = m; combinations = k }, rest)) none
     unfolding readHeading
-    heading-read = rw e
+    heading-read = rw (e, p, q, s)
 
-    pub heading-few : getD head 0 0 < 1 → readHeading T ≡ none
-    heading-few h = heading-read ∙ rw (lt-leb 1 (getD head 0 0) h)
+    pub heading-relations : within 1 maxRelations r ≡ false → readHeading T ≡ none
+    heading-relations h = heading-read ∙ rw h
 
-    module _ (a : 1 ≤ getD head 0 0) where
-      pub heading-many : 64 < getD head 0 0 → readHeading T ≡ none
-      heading-many h = heading-read ∙ rw (le-leb 1 (getD head 0 0) a, lt-leb (getD head 0 0) 64 h)
+    module _ (h : within 1 maxRelations r ≡ true) where
+      pub heading-m : within minMembers maxMembers m ≡ false → readHeading T ≡ none
+      heading-m l = heading-read ∙ rw (h, l)
 
-      module _ (b : getD head 0 0 ≤ 64) where
-        pub heading-small : getD head 1 0 < 2 → readHeading T ≡ none
-        heading-small h = heading-read ∙ rw (le-leb 1 (getD head 0 0) a, le-leb (getD head 0 0) 64 b, lt-leb 2 (getD head 1 0) h)
+      module _ (l : within minMembers maxMembers m ≡ true) where
+        pub heading-many : maxCombinations < k → readHeading T ≡ none
+        heading-many c = heading-read ∙ rw (h, l, lt-leb k maxCombinations c)
 
-        module _ (c : 2 ≤ getD head 1 0) where
-          pub heading-large : 4 < getD head 1 0 → readHeading T ≡ none
-          heading-large h = heading-read ∙ rw (le-leb 1 (getD head 0 0) a, le-leb (getD head 0 0) 64 b, le-leb 2 (getD head 1 0) c, lt-leb (getD head 1 0) 4 h)
-
-          module _ (d : getD head 1 0 ≤ 4) where
-            pub heading-over : 256 < getD head 2 0 → readHeading T ≡ none
-            heading-over h = heading-read ∙ rw (le-leb 1 (getD head 0 0) a, le-leb (getD head 0 0) 64 b, le-leb 2 (getD head 1 0) c, le-leb (getD head 1 0) 4 d, lt-leb (getD head 2 0) 256 h)
-
-            pub heading-proper : getD head 2 0 ≤ 256 → readHeading T ≡ some (numbersOf head, rest)
-            heading-proper h = heading-read ∙ rw (le-leb 1 (getD head 0 0) a, le-leb (getD head 0 0) 64 b, le-leb 2 (getD head 1 0) c, le-leb (getD head 1 0) 4 d, le-leb (getD head 2 0) 256 h)
+        pub heading-proper : k ≤ maxCombinations → readHeading T ≡ some (record { relations = r; m = m; combinations = k }, rest)
+        heading-proper c = heading-read ∙ rw (h, l, le-leb k maxCombinations c)
 
 -- a heading that was read has members
 pub heading-members : (T : List ℕ) (H : Numbers) (rest : List ℕ) → readHeading T ≡ some (H, rest) → 0 < H .m
@@ -145,12 +137,12 @@ pub filled : (n : ℕ) (xs : List ℕ) → n ≤ length xs → Filled n xs
 filled n xs h = record { within = h; count = sym (length-take-le n xs h) }
 
 -- nothing was read
-pub stands-none : (t : List ℕ) (b : Book) (vs xs ms : List ℕ) → read t ≡ none → b .ok ≡ false → b .variables ≡ 0 → b .values ≡ 0 → b .members ≡ 0 → Stands t b vs xs ms
-stands-none t b vs xs ms e o v x m =
-    let absent : found b vs xs ms ≡ none = rw o in
+pub stands-none : (t : List ℕ) (b : Book) (vs xs ms : List ℕ) → read t ≡ none → (b .ok ≡ false) × ((b .variables ≡ 0) × ((b .values ≡ 0) × (b .members ≡ 0))) → Stands t b vs xs ms
+stands-none t b vs xs ms e h =
+    let absent : found b vs xs ms ≡ none = rw (h .0) in
     record {
       is-read = absent ∙ sym e;
-      variables-filled = filled (b .variables) vs (omega arith);
-      values-filled = filled (b .values) xs (omega arith);
-      members-filled = filled (b .members) ms (omega arith);
+      variables-filled = filled (b .variables) vs (omega (arith, h .1 .0));
+      values-filled = filled (b .values) xs (omega (arith, h .1 .1 .0));
+      members-filled = filled (b .members) ms (omega (arith, h .1 .1 .1));
     }

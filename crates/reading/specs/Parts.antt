@@ -1,5 +1,4 @@
 -- The parts of a text, and what the code finds of them: a position in the text, and nought where there is no such part.
-use mathlib.Core.Path.{_≡_}
 use mathlib.Core.Bool.{_&&_, cond}
 use mathlib.Core.Option.{none, some}
 use mathlib.Core.List.{List, [], _∷_, _++_}

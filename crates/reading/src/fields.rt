@@ -5,13 +5,23 @@ ghost use lib.ListN.{length, take, drop};
 ghost use Rattle.model.specs.Reading.{readDigits, readField, readLine, readLines};
 ghost use Rattle.reading.specs.Parts.{foundAt, behind};
 
+const NEWLINE: u8 = 10;
+
+const COMMA: u8 = 44;
+
+const NOUGHT: u8 = 48;
+
+const NINE: u8 = 57;
+
+const MAX_FIELD: u32 = 65535;
+
 // A number, and the position behind the byte that ends it; position 0 where there is no field.
 pub struct Decimal {
     pub value: u16,
     pub next: usize,
 }
 
-// The field of which v was read up to the given position.
+// The field of which `first` was read before the given position.
 fn digits(text: &[u8], from: usize, first: u16, end: u8) -> Decimal
     ensures { λ f. ⌜ foundAt (f .next) (f .value) (now (text .entry)) ≡ readDigits end first (drop from (now (text .entry))) ⌝ }
 {
@@ -20,23 +30,21 @@ fn digits(text: &[u8], from: usize, first: u16, end: u8) -> Decimal
     while i < text.len() {
         let b = text[i];
         if b == end {
-            return Decimal {
-                value: v,
-                next: i + 1,
-            };
+            let next = i + 1;
+            return Decimal { value: v, next };
         }
-        if b < 48 {
-            return Decimal { value: 0, next: 0 };
+        if b < NOUGHT {
+            break;
         }
-        if 57 < b {
-            return Decimal { value: 0, next: 0 };
+        if NINE < b {
+            break;
         }
         if v == 0 {
-            return Decimal { value: 0, next: 0 };
+            break;
         }
-        let w = 10 * (v as u32) + (b - 48) as u32;
-        if 65535 < w {
-            return Decimal { value: 0, next: 0 };
+        let w = 10 * (v as u32) + (b - NOUGHT) as u32;
+        if MAX_FIELD < w {
+            break;
         }
         v = w as u16;
         i += 1;
@@ -52,13 +60,13 @@ fn field(text: &[u8], at: usize, end: u8) -> Decimal
         return Decimal { value: 0, next: 0 };
     }
     let b = text[at];
-    if b < 48 {
+    if b < NOUGHT {
         return Decimal { value: 0, next: 0 };
     }
-    if 57 < b {
+    if NINE < b {
         return Decimal { value: 0, next: 0 };
     }
-    digits(text, at + 1, (b - 48) as u16, end)
+    digits(text, at + 1, (b - NOUGHT) as u16, end)
 }
 
 // Reads a line of n fields into a list from a place on, and gives the position behind the line; 0 where there is no such line.
@@ -70,7 +78,7 @@ pub fn line(text: &[u8], at: usize, n: usize, into: &mut [u16], start: usize) ->
     let mut from = at;
     let mut to = start;
     while to < last {
-        let f = field(text, from, 44);
+        let f = field(text, from, COMMA);
         if f.next == 0 {
             return 0;
         }
@@ -78,7 +86,7 @@ pub fn line(text: &[u8], at: usize, n: usize, into: &mut [u16], start: usize) ->
         from = f.next;
         to += 1;
     }
-    let f = field(text, from, 10);
+    let f = field(text, from, NEWLINE);
     into[last] = f.value;
     f.next
 }

@@ -7,19 +7,26 @@ ghost use Rattle.reading.specs.Parts.{foundAt, readHeading};
 ghost use Rattle.reading.specs.Book.{Stands};
 use fields::line;
 use fields::lines;
+use model::MAX_COMBINATIONS;
+use model::MAX_MEMBERS;
+use model::MAX_RELATIONS;
+use model::MIN_MEMBERS;
 use network::Shape;
+use network::faults::within;
 use network::wide;
 use relations::relations_at;
 
 pub mod fields; // a field, a line of fields, and lines
 pub mod relations; // a relation, and all relations
 
+const MAX_TEXT: usize = 65536;
+
 // The numbers of the first line, and the position behind it; position 0 where it is not in the form.
 pub struct Heading {
     pub next: usize,
-    pub relations: u16,
-    pub m: u16,
-    pub combinations: u16,
+    pub relations: usize,
+    pub m: usize,
+    pub combinations: usize,
 }
 
 // What was read of a text: the records, m, and how many entries of each list were filled.
@@ -47,22 +54,16 @@ fn heading_of(text: &[u8]) -> Heading
     if next == 0 {
         return none;
     }
-    let relations = numbers[0];
-    let m = numbers[1];
-    let combinations = numbers[2];
-    if relations < 1 {
+    let relations = wide(numbers[0]);
+    let m = wide(numbers[1]);
+    let combinations = wide(numbers[2]);
+    if !within(1, MAX_RELATIONS, relations) {
         return none;
     }
-    if 64 < relations {
+    if !within(MIN_MEMBERS, MAX_MEMBERS, m) {
         return none;
     }
-    if m < 2 {
-        return none;
-    }
-    if 4 < m {
-        return none;
-    }
-    if 256 < combinations {
+    if MAX_COMBINATIONS < combinations {
         return none;
     }
     Heading {
@@ -101,7 +102,7 @@ pub fn read(
 ) -> Book
     ensures { λ b. ⌜ Stands (now (text .entry)) b (now (variables .exit)) (now (values .exit)) (now (members .exit)) ⌝ }
 {
-    if 65536 < text.len() {
+    if MAX_TEXT < text.len() {
         return nothing();
     }
     let heading = heading_of(text);
@@ -109,14 +110,13 @@ pub fn read(
     if heading_end == 0 {
         return nothing();
     }
-    let count = wide(heading.relations);
-    let listed = relations_at(text, heading_end, count, variables, values);
+    let listed = relations_at(text, heading_end, heading.relations, variables, values);
     let relations_end = listed.next;
     if relations_end == 0 {
         return nothing();
     }
-    let m = wide(heading.m);
-    let combinations = wide(heading.combinations);
+    let m = heading.m;
+    let combinations = heading.combinations;
     let end = lines(text, relations_end, combinations, m, members, 0);
     if end == 0 {
         return nothing();
@@ -125,12 +125,14 @@ pub fn read(
         return nothing();
     }
     let shape = listed.shape;
+    let each = m as u16;
+    let filled = combinations * m;
     Book {
         ok: true,
         shape,
-        m: heading.m,
+        m: each,
         variables: listed.variables,
         values: listed.values,
-        members: combinations * m,
+        members: filled,
     }
 }

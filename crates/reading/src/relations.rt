@@ -8,18 +8,21 @@ ghost use Rattle.network.specs.Shape.{networkOf};
 ghost use Rattle.reading.specs.Parts.{foundAt, mapRead, append, single, unlisted, readRecord, readRelation};
 use super::fields::line;
 use super::fields::lines;
+use model::MAX_TUPLES;
+use model::MAX_WIDTH;
 use network::Shape;
+use network::faults::within;
 use network::wide;
 
 // A relation's width and how many tuples it has, and the position behind what was read; position 0 where it is not in the form.
 pub struct Record {
     pub next: usize,
-    pub width: u16,
-    pub tuples: u16,
+    pub width: usize,
+    pub tuples: usize,
 }
 
 // The relation record at a position, which may have at most the given number of tuples.
-fn record_at(text: &[u8], at: usize, room: u16) -> Record
+fn record_at(text: &[u8], at: usize, room: usize) -> Record
     ensures { λ r. ⌜ (foundAt (r .next) (record { width = r .width; tuples = r .tuples }) (now (text .entry)) ≡ readRecord room (drop at (now (text .entry)))) × ((r .width ≤ maxWidth) × (r .tuples ≤ room)) ⌝ }
 {
     let none = Record {
@@ -32,12 +35,9 @@ fn record_at(text: &[u8], at: usize, room: u16) -> Record
     if next == 0 {
         return none;
     }
-    let width = numbers[0];
-    let tuples = numbers[1];
-    if width < 1 {
-        return none;
-    }
-    if 8 < width {
+    let width = wide(numbers[0]);
+    let tuples = wide(numbers[1]);
+    if !within(1, MAX_WIDTH, width) {
         return none;
     }
     if room < tuples {
@@ -54,7 +54,7 @@ fn record_at(text: &[u8], at: usize, room: u16) -> Record
 fn relation_at(
     text: &[u8],
     at: usize,
-    room: u16,
+    room: usize,
     variables: &mut [u16],
     variable: usize,
     values: &mut [u16],
@@ -68,8 +68,7 @@ fn relation_at(
     if record_end == 0 {
         return r;
     }
-    let width = wide(r.width);
-    let scope_end = line(text, record_end, width, variables, variable);
+    let scope_end = line(text, record_end, r.width, variables, variable);
     if scope_end == 0 {
         return Record {
             next: 0,
@@ -77,7 +76,7 @@ fn relation_at(
             tuples: 0,
         };
     }
-    let next = lines(text, scope_end, wide(r.tuples), width, values, value);
+    let next = lines(text, scope_end, r.tuples, r.width, values, value);
     Record {
         next,
         width: r.width,
@@ -107,7 +106,7 @@ pub fn relations_at(
 {
     let mut widths = [0u16; 64];
     let mut tuples = [0u16; 64];
-    let mut room = 4096;
+    let mut room = MAX_TUPLES;
     let mut from = at;
     let mut variable = 0;
     let mut value = 0;
@@ -118,11 +117,11 @@ pub fn relations_at(
         if from == 0 {
             break;
         }
-        widths[r] = found.width;
-        tuples[r] = found.tuples;
+        widths[r] = found.width as u16;
+        tuples[r] = found.tuples as u16;
         room -= found.tuples;
-        variable += wide(found.width);
-        value += wide(found.tuples) * wide(found.width);
+        variable += found.width;
+        value += found.tuples * found.width;
         r += 1;
     }
     Listed {

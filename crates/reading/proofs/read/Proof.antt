@@ -1,22 +1,20 @@
 -- `read` meets its contract.
 -- From how an instance is read from its heading, its relations and its combinations, and the contracts of `heading_of`,
 -- `relations_at` and `lines`.
-use mathlib.Core.Path.{_≡_, refl, sym, ap, ap₂, subst, _∙_}
-use mathlib.Core.Option.{none, some}
-use mathlib.Core.List.{List, []}
-use Prim.Native.Nat.{ℕ, _+_, _*_, _≤_, _<_}
+use mathlib.Core.Path.{_≡_, sym, _∙_}
+use mathlib.Core.Option.{some}
+use mathlib.Core.List.{List}
+use Prim.Native.Nat.{ℕ, _*_, _≤_, _<_}
 use native.Mathlib.Nat.{mul-le-mul}
 use native.Mathlib.Omega.{arith}
 use borrow.Author.Needs.{needs}
 use lib.ListN.{length, take, drop}
-use Rattle.model.specs.Limits.{maxTuples}
 use Rattle.model.specs.Network.{Network}
 use Rattle.model.specs.Request.{Instance}
-use Rattle.model.specs.Reading.{readLines, readRelations, readInstance}
+use Rattle.model.specs.Reading.{readInstance}
 use Rattle.network.specs.Shape.{networkOf}
-use Rattle.reading.specs.declared.Book.{Book}
 use Rattle.reading.specs.declared.Heading.{Heading}
-use Rattle.reading.specs.Parts.{foundAt, behind, Numbers, readHeading}
+use Rattle.reading.specs.Parts.{foundAt, Numbers, readHeading}
 use Rattle.reading.proofs.Found.{positive, found-at, found-none}
 use Rattle.reading.proofs.Whole.{heading-members, instanceWith, instance-none, instance-broken, instance-found, read-long, read-none, read-more, read-some, filled, stands-none}
 use Rattle.reading.proofs.read.Statement.{statement}
@@ -25,7 +23,7 @@ use Rattle.reading.proofs.read.Tie as tie
 abbrev numbersOf : Heading → Numbers
 numbersOf h = record { relations = h .relations; m = h .m; combinations = h .combinations }
 
--- the heading as it was read
+-- past the heading
 module _ (c : tie.Else2) where
   abbrev text : List ℕ
   text = c .before .before .before .before .args .text .now
@@ -33,62 +31,48 @@ module _ (c : tie.Else2) where
   abbrev heading : Heading
   heading = c .before .heading-of .result
 
-  pub heading-some : readHeading text ≡ some (numbersOf heading, drop (heading .next) text)
+  heading-some : readHeading text ≡ some (numbersOf heading, drop (heading .next) text)
   heading-some = sym (c .before .heading-of .ensures .0) ∙ found-at text (heading .next) (numbersOf heading) (c .if2 .left)
 
-  pub has-members : 0 < heading .m
+  has-members : 0 < heading .m
   has-members = heading-members text (numbersOf heading) (drop (heading .next) text) heading-some
 
--- the relations as they were read
+  few : heading .combinations * heading .m ≤ 256 * 4
+  few = let bounds = c .before .heading-of .ensures .1 .1 in mul-le-mul (bounds .1) (bounds .0)
+
+-- past the relations
 module _ (c : tie.After-relations-at) where
-  abbrev past-heading : tie.Else2
-  past-heading = c .before .before .before .before
+  abbrev headed : tie.Else2
+  headed = c .before .before .before
 
   abbrev network : Network
   network =
       let r = c .relations-at .result in
       networkOf (r .shape) (take (r .variables) (c .relations-at .last .1 .1 .1 .0)) (take (r .values) (c .relations-at .last .1 .1 .1 .1 .0))
 
-  pub relations-read : foundAt (c .relations-at .result .next) network (text past-heading) ≡ readRelations (heading past-heading .relations) maxTuples (drop (heading past-heading .next) (text past-heading))
-  relations-read =
-      c .relations-at .ensures .0
-      ∙ ap (λ (k : ℕ). readRelations k maxTuples (drop (heading past-heading .next) (text past-heading))) (c .before .before .before .wide .ensures .0)
-
-  pub long : (512 ≤ length (c .relations-at .last .1 .1 .1 .0)) × (32768 ≤ length (c .relations-at .last .1 .1 .1 .1 .0))
+  long : (512 ≤ length (c .relations-at .last .1 .1 .1 .0)) × (32768 ≤ length (c .relations-at .last .1 .1 .1 .1 .0))
   long = (search needs, search needs)
 
--- the combinations as they were read
+-- past the combinations
 module _ (c : tie.After-lines) where
-  abbrev past-relations : tie.Else3
-  past-relations = c .before .before .before .before
-
-  abbrev past : tie.Else2
-  past = past-heading (past-relations .before)
-
-  abbrev count : ℕ
-  count = c .before .before .wide3 .result * c .before .before .before .wide2 .result
+  abbrev listed : tie.After-relations-at
+  listed = c .before .before .before
 
   abbrev members : List ℕ
   members = c .lines .last .1 .1 .1 .1 .0
 
-  same-count : heading past .combinations * heading past .m ≡ count
-  same-count = sym (ap₂ (λ (i j : ℕ). i * j) (c .before .before .wide3 .ensures .0) (c .before .before .before .wide2 .ensures .0))
+  abbrev whole-instance : Instance
+  whole-instance =
+      let h = heading (headed listed) in
+      instanceWith (numbersOf h) (network listed) (take (h .combinations * h .m) members)
 
-  pub instance-read : readInstance (text past) ≡ foundAt (c .lines .result) (instanceWith (numbersOf (heading past)) (network (past-relations .before)) (take count members)) (text past)
+  instance-read : readInstance (text (headed listed)) ≡ foundAt (c .lines .result) whole-instance (text (headed listed))
   instance-read =
-      let h = heading past in
-      let after = past-relations .before in
-      let next = after .relations-at .result .next in
-      let listed = sym (relations-read after) ∙ found-at (text past) next (network after) (past-relations .if3 .left) in
-      let lines-read = subst (λ (w : ℕ). foundAt (c .lines .result) (take (0 + h .combinations * w) members) (text past) ≡ behind [] (readLines (h .combinations) w (drop next (text past)))) (c .before .before .before .wide2 .ensures .0)
-      (subst (λ (k : ℕ). foundAt (c .lines .result) (take (0 + k * c .before .before .before .wide2 .result) members) (text past) ≡ behind [] (readLines k (c .before .before .before .wide2 .result) (drop next (text past)))) (c .before .before .wide3 .ensures .0) (c .lines .ensures)) in
-      instance-found (text past) (numbersOf h) (drop (h .next) (text past)) (heading-some past) (network after) (drop next (text past)) (text past) members (c .lines .result) listed lines-read
-      ∙ ap (λ (n : ℕ). foundAt (c .lines .result) (instanceWith (numbersOf h) (network after) (take n members)) (text past)) same-count
-
-  pub few : count ≤ 256 * 4
-  few =
-      let bounds = past .before .heading-of .ensures .1 in
-      mul-le-mul {n₂ = 256} {m₂ = 4} (omega (arith, bounds .1 .1, c .before .before .wide3 .ensures .0)) (omega (arith, bounds .1 .0, c .before .before .before .wide2 .ensures .0))
+      let t = text (headed listed) in
+      let h = heading (headed listed) in
+      let next = listed .relations-at .result .next in
+      let relations = sym (listed .relations-at .ensures .0) ∙ found-at t next (network listed) (c .before .before .if3 .left) in
+      instance-found t (numbersOf h) (drop (h .next) t) (heading-some (headed listed)) (network listed) (drop next t) t members (c .lines .result) relations (c .lines .ensures)
 
 nothing-requires : tie.Need-nothing-requires
 nothing-requires c κs = search needs
@@ -96,8 +80,7 @@ nothing-requires c κs = search needs
 returns : tie.Need-returns
 returns c =
     let t = c .before .before .before .args .text .now in
-    let b = c .nothing .ensures in
-    stands-none t (c .nothing .result) _ _ _ (read-long t (c .before .if1 .taken)) (b .0) (b .1 .0) (b .1 .1 .0) (b .1 .1 .1)
+    stands-none t (c .nothing .result) _ _ _ (read-long t (c .before .if1 .taken)) (c .nothing .ensures)
 
 heading-of-requires : tie.Need-heading-of-requires
 heading-of-requires c κs = search needs
@@ -111,11 +94,7 @@ returns-2 c =
     let t = c .before .before .before .before .before .args .text .now in
     let h = after .heading-of .result in
     let absent = sym (after .heading-of .ensures .0) ∙ found-none t (h .next) (numbersOf h) (c .before .if2 .taken) in
-    let b = c .nothing2 .ensures in
-    stands-none t (c .nothing2 .result) _ _ _ (read-none t (after .before .if1 .left) (instance-none t absent)) (b .0) (b .1 .0) (b .1 .1 .0) (b .1 .1 .1)
-
-wide-requires : tie.Need-wide-requires
-wide-requires c κs = search needs
+    stands-none t (c .nothing2 .result) _ _ _ (read-none t (after .before .if1 .left) (instance-none t absent)) (c .nothing2 .ensures)
 
 relations-at-requires : tie.Need-relations-at-requires
 relations-at-requires c κs = search needs
@@ -126,25 +105,15 @@ nothing-requires-3 c κs = search needs
 returns-3 : tie.Need-returns-3
 returns-3 c =
     let after = c .before .before in
-    let headed = past-heading after in
-    let t = text headed in
-    let h = heading headed in
-    let absent = sym (relations-read after) ∙ found-none t (after .relations-at .result .next) (network after) (c .before .if3 .taken) in
-    let b = c .nothing3 .ensures in
-    stands-none t (c .nothing3 .result) _ _ _ (read-none t (headed .before .before .if1 .left) (instance-broken t (numbersOf h) (drop (h .next) t) (heading-some headed) absent)) (b .0) (b .1 .0) (b .1 .1 .0) (b .1 .1 .1)
-
-wide-requires-2 : tie.Need-wide-requires-2
-wide-requires-2 c κs = search needs
-
-wide-requires-3 : tie.Need-wide-requires-3
-wide-requires-3 c κs = search needs
+    let t = text (headed after) in
+    let h = heading (headed after) in
+    let absent = sym (after .relations-at .ensures .0) ∙ found-none t (after .relations-at .result .next) (network after) (c .before .if3 .taken) in
+    stands-none t (c .nothing3 .result) _ _ _ (read-none t (headed after .before .before .if1 .left) (instance-broken t (numbersOf h) (drop (h .next) t) (heading-some (headed after)) absent)) (c .nothing3 .ensures)
 
 lines-requires : tie.Need-lines-requires
 lines-requires c κs =
-    let headed = c .before .before .before .before .before .before .before .before in
-    let bounds = headed .before .heading-of .ensures .1 in
-    let n : c .before .wide3 .result * c .before .before .wide2 .result ≤ 256 * 4 = mul-le-mul {n₂ = 256} {m₂ = 4} (omega (arith, bounds .1 .1, c .before .wide3 .ensures .0)) (omega (arith, bounds .1 .0, c .before .before .wide2 .ensures .0)) in
-    (positive (c .before .before .before .before .relations-at .result .next) (c .before .before .before .if3 .left), (omega (arith, has-members headed, c .before .before .wide2 .ensures .0), omega arith))
+    let after = c .before .before in
+    (positive (after .relations-at .result .next) (c .before .if3 .left), (has-members (headed after), omega (arith, few (headed after))))
 
 nothing-requires-4 : tie.Need-nothing-requires-4
 nothing-requires-4 c κs = search needs
@@ -152,10 +121,9 @@ nothing-requires-4 c κs = search needs
 returns-4 : tie.Need-returns-4
 returns-4 c =
     let after = c .before .before in
-    let t = text (past after) in
-    let absent = instance-read after ∙ found-none t (after .lines .result) _ (c .before .if4 .taken) in
-    let b = c .nothing4 .ensures in
-    stands-none t (c .nothing4 .result) _ _ _ (read-none t (past after .before .before .if1 .left) absent) (b .0) (b .1 .0) (b .1 .1 .0) (b .1 .1 .1)
+    let headed = headed (listed after) in
+    let absent = instance-read after ∙ found-none (text headed) (after .lines .result) (whole-instance after) (c .before .if4 .taken) in
+    stands-none (text headed) (c .nothing4 .result) _ _ _ (read-none (text headed) (headed .before .before .if1 .left) absent) (c .nothing4 .ensures)
 
 nothing-requires-5 : tie.Need-nothing-requires-5
 nothing-requires-5 c κs = search needs
@@ -163,26 +131,28 @@ nothing-requires-5 c κs = search needs
 returns-5 : tie.Need-returns-5
 returns-5 c =
     let after = c .before .before .before in
-    let t = text (past after) in
-    let b = c .nothing5 .ensures in
-    stands-none t (c .nothing5 .result) _ _ _ (read-more t (past after .before .before .if1 .left) _ (after .lines .result) (instance-read after) (c .before .before .if4 .left) (c .before .if5 .taken)) (b .0) (b .1 .0) (b .1 .1 .0) (b .1 .1 .1)
+    let headed = headed (listed after) in
+    stands-none (text headed) (c .nothing5 .result) _ _ _ (read-more (text headed) (headed .before .before .if1 .left) (whole-instance after) (after .lines .result) (instance-read after) (c .before .before .if4 .left) (c .before .if5 .taken)) (c .nothing5 .ensures)
 
-mul-t14 : tie.Need-mul-t14
-mul-t14 c = let after = c .before .before .before in omega (arith, few after)
+cast-each : tie.Need-cast-each
+cast-each c = omega (arith, headed (listed (c .before .before .before)) .before .heading-of .ensures .1 .1 .0)
+
+mul-filled : tie.Need-mul-filled
+mul-filled c = omega (arith, few (headed (listed (c .before .before .before))))
 
 returns-6 : tie.Need-returns-6
 returns-6 c =
     let after = c .before .before .before in
-    let listed = past-relations after .before .relations-at in
-    let t = text (past after) in
-    let lengths = long (past-relations after .before) in
-    let variables-fit : listed .result .variables ≤ length (listed .last .1 .1 .1 .0) = omega (arith, listed .ensures .1 .0, lengths .0) in
-    let values-fit : listed .result .values ≤ length (listed .last .1 .1 .1 .1 .0) = omega (arith, listed .ensures .1 .1, lengths .1) in
+    let headed = headed (listed after) in
+    let r = listed after .relations-at in
+    let lengths = long (listed after) in
+    let variables-fit : r .result .variables ≤ length (r .last .1 .1 .1 .0) = omega (arith, r .ensures .1 .0, lengths .0) in
+    let values-fit : r .result .values ≤ length (r .last .1 .1 .1 .1 .0) = omega (arith, r .ensures .1 .1, lengths .1) in
     record {
-      is-read = sym (read-some t (past after .before .before .if1 .left) _ (after .lines .result) (instance-read after) (c .before .before .if4 .left) (c .before .if5 .left));
-      variables-filled = filled (listed .result .variables) (listed .last .1 .1 .1 .0) variables-fit;
-      values-filled = filled (listed .result .values) (listed .last .1 .1 .1 .1 .0) values-fit;
-      members-filled = filled (count after) (members after) (omega (arith, few after));
+      is-read = sym (read-some (text headed) (headed .before .before .if1 .left) (whole-instance after) (after .lines .result) (instance-read after) (c .before .before .if4 .left) (c .before .if5 .left));
+      variables-filled = filled (r .result .variables) (r .last .1 .1 .1 .0) variables-fit;
+      values-filled = filled (r .result .values) (r .last .1 .1 .1 .1 .0) values-fit;
+      members-filled = filled (heading headed .combinations * heading headed .m) (members after) (omega (arith, few headed));
     }
 
 pub read-spec : {M : Type 1} → statement M
@@ -194,16 +164,14 @@ read-spec =
     heading-of-requires
     nothing-requires-2
     returns-2
-    wide-requires
     relations-at-requires
     nothing-requires-3
     returns-3
-    wide-requires-2
-    wide-requires-3
     lines-requires
     nothing-requires-4
     returns-4
     nothing-requires-5
     returns-5
-    mul-t14
+    cast-each
+    mul-filled
     returns-6)

@@ -1,16 +1,16 @@
 -- `relations::record_at` meets its contract.
 -- From how a record is read from its line, and the contract of `fields::line`.
-use mathlib.Core.Path.{_≡_, sym, ap, _∙_}
-use mathlib.Core.Option.{none, some}
+use mathlib.Core.Path.{_≡_, sym, _∙_}
+use mathlib.Core.Option.{some}
 use mathlib.Core.List.{List}
 use Prim.Native.Nat.{ℕ}
-use native.Mathlib.Omega.{arith}
 use borrow.Author.Needs.{needs}
+use borrow.Author.Tests.{not-true, not-false}
 use lib.ListN.{length, drop}
 use Rattle.model.specs.Reading.{readLine}
 use Rattle.reading.specs.Parts.{foundAt}
-use Rattle.reading.proofs.Found.{found-at, found-none}
-use Rattle.reading.proofs.Networks.{line-alone, record-none, record-narrow, record-broad, record-many, record-proper}
+use Rattle.reading.proofs.Found.{within-high, found-at, found-none}
+use Rattle.reading.proofs.Networks.{line-alone, record-none, record-wrong, record-many, record-proper}
 use Rattle.reading.proofs.relations.record_at.Statement.{statement}
 use Rattle.reading.proofs.relations.record_at.Tie as tie
 
@@ -43,47 +43,53 @@ returns c =
     let t = a .text .now in
     (sym (record-none (a .room) (drop (a .at) t) (sym (line-read after) ∙ found-none t (after .line .result) (numbers after) (c .if1 .taken))), (search needs, search needs))
 
-array-read-width : tie.Need-array-read-width
-array-read-width c = search needs
+array-read-wide : tie.Need-array-read-wide
+array-read-wide c = search needs
 
-array-read-tuples : tie.Need-array-read-tuples
-array-read-tuples c = search needs
+wide-requires : tie.Need-wide-requires
+wide-requires c κs = search needs
+
+array-read-wide-2 : tie.Need-array-read-wide-2
+array-read-wide-2 c = search needs
+
+wide-requires-2 : tie.Need-wide-requires-2
+wide-requires-2 c κs = search needs
+
+within-requires : tie.Need-within-requires
+within-requires c κs = search needs
 
 returns-2 : tie.Need-returns-2
 returns-2 c =
-    let read = c .before in
+    let sized = c .before .before in
+    let read = sized .before .before in
     let after = read .before .before in
     let a = after .before .before .before .args in
     let t = a .text .now in
-    let rest = drop (after .line .result) t in
-    (sym (record-narrow (a .room) (drop (a .at) t) (numbers after) rest (line-some read) (c .if2 .taken)), (search needs, search needs))
+    let wrong = sym (c .before .within .ensures) ∙ not-true _ (c .if2 .taken) in
+    (sym (record-wrong (a .room) (drop (a .at) t) (numbers after) (drop (after .line .result) t) (line-some read) (sized .before .wide .result) (sized .wide2 .result) (sized .before .wide .ensures .0) (sized .wide2 .ensures .0) wrong), (search needs, search needs))
 
 returns-3 : tie.Need-returns-3
 returns-3 c =
-    let read = c .before .before in
+    let sized = c .before .before .before in
+    let read = sized .before .before in
     let after = read .before .before in
     let a = after .before .before .before .args in
     let t = a .text .now in
-    let rest = drop (after .line .result) t in
-    (sym (record-broad (a .room) (drop (a .at) t) (numbers after) rest (line-some read) (c .before .if2 .left) (c .if3 .taken)), (search needs, search needs))
+    let right = sym (c .before .before .within .ensures) ∙ not-false _ (c .before .if2 .left) in
+    (sym (record-many (a .room) (drop (a .at) t) (numbers after) (drop (after .line .result) t) (line-some read) (sized .before .wide .result) (sized .wide2 .result) (sized .before .wide .ensures .0) (sized .wide2 .ensures .0) right (c .if3 .taken)), (search needs, search needs))
 
 returns-4 : tie.Need-returns-4
 returns-4 c =
-    let read = c .before .before .before in
+    let sized = c .before .before .before in
+    let read = sized .before .before in
     let after = read .before .before in
     let a = after .before .before .before .args in
     let t = a .text .now in
-    let rest = drop (after .line .result) t in
-    (sym (record-many (a .room) (drop (a .at) t) (numbers after) rest (line-some read) (c .before .before .if2 .left) (c .before .if3 .left) (c .if4 .taken)), (search needs, search needs))
-
-returns-5 : tie.Need-returns-5
-returns-5 c =
-    let read = c .before .before .before in
-    let after = read .before .before in
-    let a = after .before .before .before .args in
-    let t = a .text .now in
-    let rest = drop (after .line .result) t in
-    (found-at t (after .line .result) _ (read .if1 .left) ∙ sym (record-proper (a .room) (drop (a .at) t) (numbers after) rest (line-some read) (c .before .before .if2 .left) (c .before .if3 .left) (c .if4 .left)), (c .before .if3 .left, c .if4 .left))
+    let right = sym (c .before .before .within .ensures) ∙ not-false _ (c .before .if2 .left) in (
+      found-at t (after .line .result) _ (read .if1 .left)
+          ∙ sym (record-proper (a .room) (drop (a .at) t) (numbers after) (drop (after .line .result) t) (line-some read) (sized .before .wide .result) (sized .wide2 .result) (sized .before .wide .ensures .0) (sized .wide2 .ensures .0) right (c .if3 .left)),
+      (within-high 1 8 (sized .before .wide .result) right, c .if3 .left),
+    )
 
 pub record-at-spec : {M : Type 1} → statement M
 record-at-spec =
@@ -92,9 +98,11 @@ record-at-spec =
     slice-aggregate-line
     line-requires
     returns
-    array-read-width
-    array-read-tuples
+    array-read-wide
+    wide-requires
+    array-read-wide-2
+    wide-requires-2
+    within-requires
     returns-2
     returns-3
-    returns-4
-    returns-5)
+    returns-4)

@@ -1,7 +1,7 @@
 -- `relations::relations_at` meets its contract. The loop's invariant: the relations still to read, behind those that stand in the
 -- lists, are all relations; the lists have room for eight variables a relation, and eight values for each tuple still allowed.
 -- From how relations are read one by one, and the contract of `relation_at`.
-use mathlib.Core.Path.{_≡_, sym, ap, ap₂, _∙_}
+use mathlib.Core.Path.{_≡_, sym, ap, _∙_}
 use mathlib.Core.Option.{none}
 use mathlib.Core.List.{List, [], _∷_, _++_}
 use Prim.Native.Nat.{ℕ, _+_, _*_, _-_, _≤_, _<_}
@@ -17,7 +17,7 @@ use Rattle.network.specs.Shape.{networkOf}
 use Rattle.reading.specs.declared.relations.Record.{Record}
 use Rattle.reading.specs.Parts.{foundAt, mapRead, append, single, unlisted, readRelation}
 use Rattle.reading.proofs.Found.{positive, found-none, map-none}
-use Rattle.reading.proofs.Networks.{network-same, relations-start, relations-stop, relations-more, relations-end, records-more}
+use Rattle.reading.proofs.Networks.{relations-start, relations-stop, relations-more, relations-end, records-more}
 use Rattle.reading.proofs.relations.relations_at.Statement.{statement}
 use Rattle.reading.proofs.relations.relations_at.Tie as tie
 
@@ -85,11 +85,9 @@ module _ (c : tie.After-relation-at Inv-loop μ-loop) where
       sym (relations-more (start .args .count - (l .r + 1)) (start .args .count - l .r) (l .room) (drop (l .from) text) (omega arith) text passed relation scopes tuple-values (found .next) (c .relation-at .ensures .0) n)
       ∙ l .inv .8
 
--- a relation's values are few
-few : (c : tie.After-wide3 Inv-loop μ-loop) → c .before .wide2 .result * c .wide3 .result ≤ c .before .wide2 .result * 8
-few c =
-    let r = c .before .before .before .before .before .before .before .before .before .relation-at .ensures .1 in
-    mul-le-mul {n₁ = c .before .wide2 .result} (omega arith) (omega (arith, r .0, c .wide3 .ensures .0))
+  -- its values are few
+  few : found .tuples * found .width ≤ found .tuples * 8
+  few = mul-le-mul {n₁ = found .tuples} (omega arith) (c .relation-at .ensures .1 .0)
 
 loop-holds : tie.Need-loop-holds Inv-loop μ-loop
 loop-holds c =
@@ -102,40 +100,35 @@ relation-at-requires c κs =
     let start = turn .before .before .before .before .before in
     (omega (arith, start .pre .0 .1, start .pre .1 .0), omega (arith, start .pre .1 .1))
 
+cast-widths : tie.Need-cast-widths Inv-loop μ-loop
+cast-widths c = omega (arith, c .before .before .before .before .before .before .relation-at .ensures .1 .0)
+
 mul-widths : tie.Need-mul-widths Inv-loop μ-loop
-mul-widths c = omega (arith, below-limit (c .before .before .before .before .before .before .before .before))
+mul-widths c = omega (arith, below-limit (c .before .before .before .before .before .before .before .before .before))
 
 array-write-widths : tie.Need-array-write-widths Inv-loop μ-loop
-array-write-widths c = below-limit (c .before .before .before .before .before .before .before .before)
+array-write-widths c = below-limit (c .before .before .before .before .before .before .before .before .before)
+
+cast-tuples : tie.Need-cast-tuples Inv-loop μ-loop
+cast-tuples c = omega (arith, c .before .before .before .before .before .before .before .relation-at .ensures .1 .1)
 
 mul-tuples : tie.Need-mul-tuples Inv-loop μ-loop
-mul-tuples c = omega (arith, below-limit (c .before .before .before .before .before .before .before .before))
+mul-tuples c = omega (arith, below-limit (c .before .before .before .before .before .before .before .before .before .before))
 
 array-write-tuples : tie.Need-array-write-tuples Inv-loop μ-loop
-array-write-tuples c = below-limit (c .before .before .before .before .before .before .before .before)
+array-write-tuples c = below-limit (c .before .before .before .before .before .before .before .before .before .before)
 
 sub-room : tie.Need-sub-room Inv-loop μ-loop
-sub-room c = c .before .before .before .before .before .before .relation-at .ensures .1 .1
-
-wide-requires : tie.Need-wide-requires Inv-loop μ-loop
-wide-requires c κs = search needs
+sub-room c = omega (arith, c .before .before .before .before .before .before .before .before .relation-at .ensures .1 .1)
 
 add-variable : tie.Need-add-variable Inv-loop μ-loop
-add-variable c =
-    let l = c .before .before .before .before .before .before .before .before .before .before .before .loop in
-    omega (arith, below-limit (c .before .before .before .before .before .before .before .before .before .before))
-
-wide-requires-2 : tie.Need-wide-requires-2 Inv-loop μ-loop
-wide-requires-2 c κs = search needs
-
-wide-requires-3 : tie.Need-wide-requires-3 Inv-loop μ-loop
-wide-requires-3 c κs = search needs
+add-variable c = omega (arith, below-limit (c .before .before .before .before .before .before .before .before .before .before .before .before), c .before .before .before .before .before .before .before .before .before .relation-at .ensures .1 .0)
 
 mul-value : tie.Need-mul-value Inv-loop μ-loop
-mul-value c = omega (arith, few c)
+mul-value c = omega (arith, few (c .before .before .before .before .before .before .before .before .before .before), c .before .before .before .before .before .before .before .before .before .before .relation-at .ensures .1 .1)
 
 add-value : tie.Need-add-value Inv-loop μ-loop
-add-value c = omega (arith, few c)
+add-value c = omega (arith, few (c .before .before .before .before .before .before .before .before .before .before), c .before .before .before .before .before .before .before .before .before .before .relation-at .ensures .1 .1)
 
 add-r : tie.Need-add-r Inv-loop μ-loop
 add-r c = search needs
@@ -145,27 +138,22 @@ loop-less c = search needs
 
 loop-again : tie.Need-loop-again Inv-loop μ-loop
 loop-again c =
-    let read = c .before .before .before .before .before .before .before .before .before in
+    let read = c .before .before .before .before .before .before .before .before .before .before in
     let l = turn read .before .loop in
     let f = found read in
     let e = read .relation-at .ensures in
-    let k = start read .args .count - (l .r + 1) in
-    let width = c .before .before .wide .ensures .0 in
-    let tuples = c .before .wide2 .ensures .0 in (
+    let k = start read .args .count - (l .r + 1) in (
       search needs,
-      positive (f .next) (c .before .before .before .before .if1 .left),
+      positive (f .next) (c .before .before .before .before .before .if1 .left),
       search needs,
       search needs,
       length-set (l .widths) (l .r) (f .width) ∙ l .inv .4,
       length-set (l .tuples) (l .r) (f .tuples) ∙ l .inv .5,
       omega (arith, e .1 .0),
-      omega (arith, few c, e .1 .1),
-      ap (λ (K : Network). mapRead (append K) (readRelations k (l .room - f .tuples) (drop (f .next) (text read))))
-          (network-same
+      omega (arith, few read, e .1 .1),
+      ap (λ (Rs : List Relation). mapRead (append (record { relations = Rs; variables = scopes read; values = tuple-values read })) (readRelations k (l .room - f .tuples) (drop (f .next) (text read))))
           (records-more (l .r) (l .widths) (l .tuples) (f .width) (f .tuples) (omega (arith, below-limit (turn read), l .inv .4)) (omega (arith, below-limit (turn read), l .inv .5)))
-          (ap (λ (i : ℕ). take (l .variable + i) (read .relation-at .last .1 .1 .1 .0)) width)
-          (ap₂ (λ (i j : ℕ). take (l .value + i * j) (read .relation-at .last .1 .1 .1 .1 .1 .0)) tuples (c .wide3 .ensures .0)))
-          ∙ goes-on read (c .before .before .before .before .if1 .left),
+          ∙ goes-on read (c .before .before .before .before .before .if1 .left),
     )
 
 same-length : tie.Need-same-length Inv-loop μ-loop
@@ -208,15 +196,14 @@ relations-at-spec =
     μ-loop
     loop-holds
     relation-at-requires
+    cast-widths
     mul-widths
     array-write-widths
+    cast-tuples
     mul-tuples
     array-write-tuples
     sub-room
-    wide-requires
     add-variable
-    wide-requires-2
-    wide-requires-3
     mul-value
     add-value
     add-r
