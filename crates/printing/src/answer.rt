@@ -1,0 +1,1 @@
+// The answer's line, and a whole reply.
