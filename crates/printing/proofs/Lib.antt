@@ -2,3 +2,5 @@
 pub mod Decimal
 pub mod Appended
 pub mod Lines
+pub mod Over
+pub mod Relations

@@ -1,23 +1,27 @@
--- The lines of a relation's tuples, by the numbers that the tables give for the relation.
+-- The lines of live tuples, by the numbers that the tables give for a relation.
 use mathlib.Core.Path.{_≡_}
+use mathlib.Core.Bool.{Bool}
+use mathlib.Core.Option.{none}
 use mathlib.Core.List.{List, _∷_, map}
 use Prim.Native.Nat.{ℕ, _+_, _-_, _*_, _≤_}
 use lib.ListN.{length, take, drop}
 use Rattle.model.specs.Limits.{wordBits}
-use Rattle.model.specs.Lists.{from, sum, select}
-use Rattle.model.specs.Network.{tuplesIn, valuesIn}
-use Rattle.model.specs.LiveWords.{isLive}
+use Rattle.model.specs.Lists.{from, select}
+use Rattle.model.specs.Network.{total}
+use Rattle.model.specs.Fault.{networkFaults, firstFault}
 use Rattle.model.specs.Text.{textOf}
 use Rattle.network.specs.declared.Shape.{Shape}
-use Rattle.network.specs.Shape.{relationsOf}
-use Rattle.network.specs.Layout.{Bounded}
+use Rattle.network.specs.Shape.{networkOf}
 
--- a relation's number, the id of its first tuple, where its first value stands, and its width
+-- A relation's number, the id of its first tuple, where its first value stands, and its width.
 pub record Part : Type 0 where
   pub relation : ℕ
   pub start : ℕ
   pub first : ℕ
   pub width : ℕ
+
+abbrev pub part : ℕ → ℕ → ℕ → ℕ → Part
+part relation start first width = record { relation = relation; start = start; first = first; width = width }
 
 -- where the values of its tuple g begin
 abbrev pub placeIn : Part → ℕ → ℕ
@@ -27,12 +31,12 @@ placeIn p g = p .first + (g - p .start) * p .width
 abbrev pub lineIn : List ℕ → Part → ℕ → List ℕ
 lineIn values p g = p .relation ∷ (g - p .start) ∷ take (p .width) (drop (placeIn p g) values)
 
--- each live one of the tuples from g on and below end
-unfoldable pub textFrom : List ℕ → List ℕ → Part → ℕ → ℕ → List ℕ
-textFrom values words p g end = textOf (map (lineIn values p) (select (isLive words) (from g (end - g))))
+-- the line of each id from g on and below end that passes the test
+unfoldable pub textOver : (ℕ → List ℕ) → (ℕ → Bool) → ℕ → ℕ → List ℕ
+textOver line p g end = textOf (map line (select p (from g (end - g))))
 
--- What the tuples of the records can be printed from: the values that they call for, and enough live words.
+-- What tuples can be printed from: with some list of variables the network has no fault, and there are enough live words.
 pub record Printable (S : Shape) (values words : List ℕ) : Type 0 where
-  pub bounded : Bounded (relationsOf S)
-  pub whole : length values ≡ sum (map valuesIn (relationsOf S))
-  pub enough : sum (map tuplesIn (relationsOf S)) ≤ wordBits * length words
+  pub variables : List ℕ
+  pub faultless : firstFault (networkFaults (networkOf S variables values)) ≡ none
+  pub enough : total (networkOf S variables values) ≤ wordBits * length words
