@@ -4,3 +4,4 @@ pub mod Appended
 pub mod Lines
 pub mod Over
 pub mod Relations
+pub mod Reply

@@ -8,11 +8,11 @@ ghost use Rattle.model.specs.Listing.{tupleLines};
 ghost use Rattle.network.specs.Shape.{networkOf};
 ghost use Rattle.printing.specs.Appended.{Appended};
 ghost use Rattle.printing.specs.Lines.{part, placeIn, lineIn, textOver, Printable};
+use super::text::tuple_line;
 use live::next;
 use network::Shape;
 use network::tables::offsets;
 use network::wide;
-use super::text::tuple_line;
 
 // Each live tuple of a relation, whose ids are those from start on and below end, and whose values stand from first on.
 fn relation_lines(
@@ -45,13 +45,7 @@ fn relation_lines(
 }
 
 // Each live tuple of each relation.
-pub fn tuple_lines(
-    shape: Shape,
-    values: &[u16],
-    words: &[u64],
-    out: &mut [u8],
-    at: usize,
-) -> usize
+pub fn tuple_lines(shape: Shape, values: &[u16], words: &[u64], out: &mut [u8], at: usize) -> usize
     requires { ⌜ Printable shape (now values) (now words) × (at + 245760 ≤ length (now out)) ⌝ }
     ensures { λ n. ⌜ ((variables : List ℕ) → Appended (textOf (tupleLines (networkOf shape variables (now (values .entry))) (now (words .entry)))) (now (out .entry)) at (now (out .exit)) n) ⌝ }
 {

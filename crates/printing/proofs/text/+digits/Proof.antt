@@ -60,7 +60,7 @@ digits-same-length t c = simp length-set
 -- src/text.rt:20:9
 digits-returns :
     (t : ℕ) → digits-lts.Need-returns (digits-below t, digits.Post) (digits-at t) digits.Post
-digits-returns t c = 
+digits-returns t c =
     let a = c .before .before .args in
     let s = one-digit (a .v) (c .if1 .taken) in
     appended-same (sym (decimal-digit (a .v) (c .if1 .taken))) (appended-byte (now (a .out)) (a .at) (48 + a .v) (omega (arith, c .before .before .pre .1)))
@@ -112,7 +112,7 @@ digits-same-length-2 t c = simp length-set (c .before .before .digits .kept .0)
 -- src/text.rt:14:1
 digits-returns-2 :
     (t : ℕ) → digits-lts.Need-returns-2 (digits-below t, digits.Post) (digits-at t) digits.Post
-digits-returns-2 t c = 
+digits-returns-2 t c =
     let v = c .before .before .before .before .before .before .args .v in
     let d = c .before .before .digits in
     appended-same (sym (decimal-large v (omega arith) (omega arith)))

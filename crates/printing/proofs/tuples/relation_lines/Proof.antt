@@ -139,7 +139,7 @@ loop-again c =
       f .passes,
       omega (arith, f .from-i, f .to-end, l .inv .3, e),
       remains-same (sym (over-first (lineIn (a .values .now) p) live (l .g + 1) (a .end) (c .next2 .result) f))
-      (remains-then (remains-same (over-cons (lineIn (a .values .now) p) live (l .g) (a .end) (turn .loop-test .taken) (l .inv .2 (turn .loop-test .taken))) (l .inv .4)) line),
+          (remains-then (remains-same (over-cons (lineIn (a .values .now) p) live (l .g) (a .end) (turn .loop-test .taken) (l .inv .2 (turn .loop-test .taken))) (l .inv .4)) line),
     )
 
 same-length : tie.Need-same-length Inv-loop μ-loop
@@ -152,7 +152,7 @@ returns c =
     let e : l .g ≡ a .end = omega (arith, l .inv .1) in (
       omega (arith, l .inv .3),
       remains-none
-      (remains-same (over-none (lineIn (a .values .now) (part (a .relation) (a .start) (a .first) (a .width))) (isLive (a .words .now)) (l .g) (a .end) (l .inv .1) (λ g low high. absurd (omega arith))) (l .inv .4)),
+          (remains-same (over-none (lineIn (a .values .now) (part (a .relation) (a .start) (a .first) (a .width))) (isLive (a .words .now)) (l .g) (a .end) (l .inv .1) (λ g low high. absurd (omega arith))) (l .inv .4)),
     )
 
 pub relation-lines-spec : {M : Type 1} → statement M

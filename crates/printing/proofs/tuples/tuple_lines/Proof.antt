@@ -157,11 +157,11 @@ loop-again c =
     let l = turn w .before .before .loop in (
       omega (arith, turn w .if1 .taken),
       (λ P.
-      let R = readable w P in
-      let m = l .inv .1 P in (
-        omega (arith, m .0, lines .ensures .0, next-first w P, R .starts, R .ends),
-        remains-then (remains-same (following w P (e .args .words .now)) (m .1)) (appended-same (R .text (e .args .words .now)) (lines .ensures .1)),
-      )),
+          let R = readable w P in
+          let m = l .inv .1 P in (
+            omega (arith, m .0, lines .ensures .0, next-first w P, R .starts, R .ends),
+            remains-then (remains-same (following w P (e .args .words .now)) (m .1)) (appended-same (R .text (e .args .words .now)) (lines .ensures .1)),
+          )),
     )
 
 same-length : tie.Need-same-length Inv-loop μ-loop
