@@ -19,13 +19,13 @@ field-end v end h a =
     let l : length (decimal v ++ (end ∷ [])) ≡ length (decimal v) + 1 = length-append (decimal v) (end ∷ []) in
     omega (arith, appended-end h a, decimal-length v)
 
-pub lineText-cons : (n : ℕ) (ns : List ℕ) → 0 < length ns → lineText (n ∷ ns) ≡ (decimal n ++ (comma ∷ [])) ++ lineText ns
-lineText-cons n [] h = absurd (omega arith)
-lineText-cons n (k ∷ ks) h = sym (append-assoc (decimal n) (comma ∷ []) (lineText (k ∷ ks)))
+pub lineText-front : (n : ℕ) (ns : List ℕ) → 0 < length ns → lineText (n ∷ ns) ≡ (decimal n ++ (comma ∷ [])) ++ lineText ns
+lineText-front n [] h = absurd (omega arith)
+lineText-front n (k ∷ ks) h = sym (append-assoc (decimal n) (comma ∷ []) (lineText (k ∷ ks)))
 
 -- a tuple's line: its relation, its index, and the line of its values
 pub lineText-tuple : (r x : ℕ) (values : List ℕ) → 0 < length values → lineText (r ∷ x ∷ values) ≡ (decimal r ++ (comma ∷ [])) ++ ((decimal x ++ (comma ∷ [])) ++ lineText values)
-lineText-tuple r x values h = lineText-cons r (x ∷ values) (omega arith) ∙ ap (λ (t : List ℕ). (decimal r ++ (comma ∷ [])) ++ t) (lineText-cons x values h)
+lineText-tuple r x values h = lineText-front r (x ∷ values) (omega arith) ∙ ap (λ (t : List ℕ). (decimal r ++ (comma ∷ [])) ++ t) (lineText-front x values h)
 
 -- where it ends
 pub tuple-end : {before after : List ℕ} {at n : ℕ} (r x : ℕ) (values : List ℕ) → length values ≤ 8 → at ≤ length before → Appended (lineText (r ∷ x ∷ values)) before at after n → n ≤ at + 60
@@ -43,7 +43,7 @@ module _ (fields : List ℕ) (i : ℕ) where
 
   -- the fields from one that is not the last
   pub lineText-drop : i + 1 < length fields → lineText (drop i fields) ≡ (decimal (getD fields i 0) ++ (comma ∷ [])) ++ lineText (drop (i + 1) fields)
-  lineText-drop h = ap lineText (at-front (omega arith)) ∙ lineText-cons (getD fields i 0) (drop (i + 1) fields) (omega (arith, length-drop (i + 1) fields))
+  lineText-drop h = ap lineText (at-front (omega arith)) ∙ lineText-front (getD fields i 0) (drop (i + 1) fields) (omega (arith, length-drop (i + 1) fields))
 
   -- the last field
   pub lineText-last : i + 1 ≡ length fields → lineText (drop i fields) ≡ decimal (getD fields i 0) ++ (newline ∷ [])

@@ -36,7 +36,7 @@ pub fn print(
     out: &mut [u8; 262144],
 ) -> usize
     requires { ⌜ (eqb (answerNumbers answer .kind) 2 ≡ false → Printable shape (now values) (now words)) ⌝ }
-    ensures count { λ n. ⌜ n ≤ 262144 ⌝ }
+    ensures count { λ n. ⌜ n ≤ length (now (out .exit)) ⌝ }
     ensures text { λ n. ⌜ ((variables supports : List ℕ) → take n (now (out .exit)) ≡ textOf (replyLines (networkOf shape variables (now (values .entry))) (replied answer (now (words .entry)) supports))) ⌝ }
 {
     let fields = answer_fields(answer);

@@ -1,9 +1,7 @@
 -- `refused` writes the one line of a text that is not in the form.
 -- From what the line's writing ensures.
-use mathlib.Core.Path.{_≡_, sym, _∙_}
+use mathlib.Core.Path.{sym, _∙_}
 use mathlib.Core.List.{[], _∷_, append-nil}
-use native.Mathlib.Omega.{arith}
-use lib.ListN.{length}
 use Rattle.model.specs.Text.{lineText, textOf}
 use borrow.Author.Needs.{needs}
 use Rattle.desk.proofs.refused.Statement.{statement}
@@ -19,8 +17,7 @@ returns : tie.Need-returns
 unfolding textOf
 returns c =
     let l = c .line .ensures in
-    let long : length (c .before .before .before .args .out .now) ≡ 262144 = search needs in
-    (omega (arith, l .fits, l .long, long), l .front ∙ sym (append-nil (lineText (2 ∷ 1 ∷ 0 ∷ 0 ∷ []))))
+    (l .fits, l .front ∙ sym (append-nil (lineText (2 ∷ 1 ∷ 0 ∷ 0 ∷ []))))
 
 pub refused-spec : {M : Type 1} → statement M
 refused-spec = tie.close (tie.spec slice-aggregate-line line-requires returns)

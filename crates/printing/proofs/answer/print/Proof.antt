@@ -60,7 +60,7 @@ returns : tie.Need-returns
 returns c =
     let e = start (c .before) in
     let l = first (c .before) in
-    (omega (arith, l .fits, l .long, long (c .before)), (λ variables supports. l .front ∙ sym (replyText-refused (networkOf (e .args .shape) variables (e .args .values .now)) (made e supports) (eq-eqb _ _ (sym (kind (c .before)) ∙ c .if1 .taken)))))
+    (l .fits, (λ variables supports. l .front ∙ sym (replyText-refused (networkOf (e .args .shape) variables (e .args .values .now)) (made e supports) (eq-eqb _ _ (sym (kind (c .before)) ∙ c .if1 .taken)))))
 
 tuple-lines-requires : tie.Need-tuple-lines-requires
 tuple-lines-requires c κs =
@@ -72,7 +72,7 @@ returns-2 c =
     let l = c .before .before .before in
     let e = start l in
     let t = c .tuple-lines in (
-      omega (arith, (t .ensures []) .fits, (t .ensures []) .long, l .line .ensures .long, long l),
+      t .ensures [] .fits,
       (λ variables supports. appended-then (first l) (t .ensures variables) .front ∙ sym (replyText-accepted (networkOf (e .args .shape) variables (e .args .values .now)) (made e supports) (accepted (c .before .before)))),
     )
 
