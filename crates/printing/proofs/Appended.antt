@@ -1,5 +1,5 @@
--- Laws of a text written behind what stands at a buffer's front: nothing, one byte, one text behind another; how far it goes.
--- From the definition alone.
+-- Laws of a text written behind what stands at a buffer's front: one byte, one text behind another, a text part by part; and
+-- how far it goes. From the definition alone.
 use mathlib.Core.Path.{_≡_, refl, sym, _∙_, ap, subst}
 use mathlib.Core.List.{List, [], _∷_, _++_, append-assoc, append-nil}
 use Prim.Native.Nat.{ℕ, _+_, _≤_, _<_}

@@ -11,7 +11,7 @@ use lib.Dec.{ltb}
 use lib.ListN.{length, length-append}
 use borrow.Author.Tests.{lt-ltb, le-ltb, ltb-true, ltb-false}
 use Rattle.model.specs.Lists.{each}
-use Rattle.model.specs.Text.{maxField, newline, comma, nought, digitsOf, decimal, lineText, textOf}
+use Rattle.model.specs.Text.{maxField, nought, digitsOf, decimal, lineText, textOf}
 
 each-append : {A B : Type 0} (f : A → List B) (xs ys : List A) → each f (xs ++ ys) ≡ each f xs ++ each f ys
 each-append f [] ys = refl

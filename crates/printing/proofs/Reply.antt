@@ -1,9 +1,8 @@
 -- The text of a reply: its answer's line, and the tuples' lines unless it is a refusal.
 -- From the definition of the reply's lines, and the laws of texts.
-use mathlib.Core.Path.{_≡_, refl, _∙_, ap}
+use mathlib.Core.Path.{_≡_, _∙_, ap}
 use mathlib.Core.Bool.{Bool, true, false, cond}
-use mathlib.Core.List.{List, [], _∷_, _++_, append-nil}
-use Prim.Native.Nat.{ℕ}
+use mathlib.Core.List.{[], _++_, append-nil}
 use lib.Dec.{eqb}
 use Rattle.model.specs.Network.{Network}
 use Rattle.model.specs.Reply.{Reply}

@@ -13,6 +13,10 @@ use Rattle.model.specs.Text.{textOf}
 use Rattle.network.specs.declared.Shape.{Shape}
 use Rattle.network.specs.Shape.{networkOf}
 
+-- A tuple's line has at most ten fields, and a field with the byte behind it at most six bytes.
+abbrev pub lineRoom : ℕ
+lineRoom = 60
+
 -- A relation's number, the id of its first tuple, where its first value stands, and its width.
 pub record Part : Type 0 where
   pub relation : ℕ

@@ -6,9 +6,12 @@ ghost use Rattle.model.specs.Text.{decimal, lineText};
 ghost use Rattle.printing.specs.Appended.{Appended};
 
 // The bytes that end a field: the last of a line, and any other.
-pub const NEWLINE: u8 = 10;
+const NEWLINE: u8 = 10;
 
-pub const COMMA: u8 = 44;
+const COMMA: u8 = 44;
+
+// The digit nought; the other nine follow it.
+const NOUGHT: u8 = 48;
 
 // The decimal digits of v at a place of the buffer, and the place behind them.
 fn digits(out: &mut [u8], at: usize, v: u16) -> usize
@@ -16,11 +19,11 @@ fn digits(out: &mut [u8], at: usize, v: u16) -> usize
     ensures { λ n. ⌜ Appended (decimal v) (now (out .entry)) at (now (out .exit)) n ⌝ }
 {
     if v < 10 {
-        out[at] = 48 + v as u8;
+        out[at] = NOUGHT + v as u8;
         return at + 1;
     }
     let n = digits(out, at, v / 10);
-    out[n] = 48 + (v % 10) as u8;
+    out[n] = NOUGHT + (v % 10) as u8;
     n + 1
 }
 

@@ -2,12 +2,13 @@
 ghost use Prim.Native.Nat.{ℕ, _+_, _-_, _*_, _≤_, _<_};
 ghost use mathlib.Core.List.{List};
 ghost use lib.ListN.{length};
+ghost use Rattle.model.specs.Limits.{maxTuples};
 ghost use Rattle.model.specs.LiveWords.{isLive};
 ghost use Rattle.model.specs.Text.{textOf};
 ghost use Rattle.model.specs.Listing.{tupleLines};
 ghost use Rattle.network.specs.Shape.{networkOf};
 ghost use Rattle.printing.specs.Appended.{Appended};
-ghost use Rattle.printing.specs.Lines.{part, placeIn, lineIn, textOver, Printable};
+ghost use Rattle.printing.specs.Lines.{lineRoom, part, placeIn, lineIn, textOver, Printable};
 use super::text::tuple_line;
 use live::next;
 use network::Shape;
@@ -28,8 +29,8 @@ fn relation_lines(
 ) -> usize
     requires { ⌜ (start ≤ end) × (end ≤ 64 * length (now words)) × (end ≤ 4096) ⌝ }
     requires { ⌜ (1 ≤ width) × (width ≤ 8) × ((g : ℕ) → start ≤ g → g < end → placeIn (part relation start first width) g + width ≤ length (now values)) ⌝ }
-    requires { ⌜ at + 60 * (end - start) ≤ length (now out) ⌝ }
-    ensures room { λ n. ⌜ n ≤ at + 60 * (end - start) ⌝ }
+    requires { ⌜ at + lineRoom * (end - start) ≤ length (now out) ⌝ }
+    ensures room { λ n. ⌜ n ≤ at + lineRoom * (end - start) ⌝ }
     ensures text { λ n. ⌜ Appended (textOver (lineIn (now (values .entry)) (part relation start first width)) (isLive (now (words .entry))) start end) (now (out .entry)) at (now (out .exit)) n ⌝ }
 {
     let mut n = at;
@@ -46,7 +47,7 @@ fn relation_lines(
 
 // Each live tuple of each relation.
 pub fn tuple_lines(shape: Shape, values: &[u16], words: &[u64], out: &mut [u8], at: usize) -> usize
-    requires { ⌜ Printable shape (now values) (now words) × (at + 245760 ≤ length (now out)) ⌝ }
+    requires { ⌜ Printable shape (now values) (now words) × (at + lineRoom * maxTuples ≤ length (now out)) ⌝ }
     ensures { λ n. ⌜ ((variables : List ℕ) → Appended (textOf (tupleLines (networkOf shape variables (now (values .entry))) (now (words .entry)))) (now (out .entry)) at (now (out .exit)) n) ⌝ }
 {
     let tables = offsets(shape);

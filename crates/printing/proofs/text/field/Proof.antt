@@ -1,10 +1,8 @@
 -- `field` writes a number's digits and one byte behind them.
 -- From the length of decimals and the laws of texts written one behind another.
-use mathlib.Core.Path.{_≡_}
-use Prim.Native.Nat.{_+_, _<_}
+use Prim.Native.Nat.{_<_}
 use native.Mathlib.Omega.{arith}
 use lib.ListN.{length}
-use Rattle.model.specs.Text.{decimal}
 use Rattle.printing.proofs.Decimal.{decimal-length}
 use Rattle.printing.proofs.Appended.{appended-byte, appended-then, appended-end}
 use borrow.Author.Needs.{needs}

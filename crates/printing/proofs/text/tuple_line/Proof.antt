@@ -1,7 +1,6 @@
 -- `tuple_line` writes two fields and then the line of the values.
 -- From the laws of texts written one behind another.
 use mathlib.Core.Path.{sym}
-use Prim.Native.Nat.{_+_, _≤_, _<_}
 use native.Mathlib.Omega.{arith}
 use Rattle.printing.proofs.Appended.{appended-then, appended-same}
 use Rattle.printing.proofs.Lines.{field-end, lineText-tuple}

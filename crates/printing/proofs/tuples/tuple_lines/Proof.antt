@@ -1,8 +1,8 @@
 -- `tuple_lines` goes from one relation to the next: what remains are the lines of the tuples from there on.
 -- From the laws of the lines relation by relation, and of texts written part by part.
-use mathlib.Core.Path.{_≡_, refl, sym, ap, subst, _∙_}
+use mathlib.Core.Path.{_≡_, refl, sym, ap, _∙_}
 use mathlib.Core.List.{List, _++_}
-use Prim.Native.Nat.{ℕ, _+_, _*_, _-_, _≤_, _<_}
+use Prim.Native.Nat.{ℕ, _+_, _*_, _-_, _≤_}
 use native.Mathlib.Omega.{arith}
 use lib.ListN.{length, getD}
 use Rattle.model.specs.Network.{Network, width, total, variablesIn, firstId}
