@@ -1,5 +1,4 @@
 -- The laws that the proofs of the functions use.
-pub mod Decimal
 pub mod Appended
 pub mod Lines
 pub mod Over

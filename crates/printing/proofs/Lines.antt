@@ -10,7 +10,7 @@ use lib.Seq.{drop-cons}
 use Rattle.model.specs.Text.{comma, newline, decimal, lineText}
 use Rattle.printing.specs.Appended.{Appended}
 use Rattle.printing.specs.Lines.{Part, placeIn, lineIn}
-use Rattle.printing.proofs.Decimal.{decimal-length, lineText-length}
+use Rattle.model.proofs.Text.{decimal-length, lineText-length}
 use Rattle.printing.proofs.Appended.{appended-end}
 
 -- where a field ends

@@ -10,7 +10,7 @@ use Rattle.model.specs.Text.{lineText, textOf}
 use Rattle.model.proofs.Bools.{not-both}
 use Rattle.model.proofs.Lists.{here, First, from-append, from-cons, from-mem, select-append, select-none, select-mem}
 use Rattle.printing.specs.Lines.{textOver}
-use Rattle.printing.proofs.Decimal.{textOf-cons, textOf-append}
+use Rattle.model.proofs.Text.{textOf-cons, textOf-append}
 
 module _ (line : ℕ → List ℕ) (p : ℕ → Bool) where
   -- two ranges, one behind the other

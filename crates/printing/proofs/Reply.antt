@@ -8,7 +8,7 @@ use Rattle.model.specs.Network.{Network}
 use Rattle.model.specs.Reply.{Reply}
 use Rattle.model.specs.Text.{lineText, textOf}
 use Rattle.model.specs.Listing.{answerLine, tupleLines, replyLines}
-use Rattle.printing.proofs.Decimal.{textOf-cons}
+use Rattle.model.proofs.Text.{textOf-cons}
 
 module _ (N : Network) (r : Reply) where
   by-kind : (b : Bool) → eqb (r .answer .kind) 2 ≡ b → textOf (replyLines N r) ≡ lineText (answerLine (r .answer)) ++ textOf (cond b [] (tupleLines N (r .words)))

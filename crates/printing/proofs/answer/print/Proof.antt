@@ -14,7 +14,7 @@ use Rattle.model.specs.Listing.{answerLine}
 use Rattle.network.specs.Shape.{networkOf}
 use Rattle.changes.specs.Change.{replied}
 use Rattle.printing.specs.Appended.{Appended}
-use Rattle.printing.proofs.Decimal.{lineText-length}
+use Rattle.model.proofs.Text.{lineText-length}
 use Rattle.printing.proofs.Appended.{appended-then, appended-same, appended-end}
 use Rattle.printing.proofs.Reply.{replyText-refused, replyText-accepted}
 use borrow.Author.Needs.{needs}

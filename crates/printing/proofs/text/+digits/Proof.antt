@@ -6,7 +6,7 @@ use native.Mathlib.Omega.{arith}
 use denote.Ref.{now}
 use lib.ListN.{length, length-append, length-set}
 use Rattle.model.specs.Text.{decimal, maxField}
-use Rattle.printing.proofs.Decimal.{decimal-digit, decimal-large}
+use Rattle.model.proofs.Text.{decimal-digit, decimal-large}
 use Rattle.printing.proofs.Appended.{appended-byte, appended-then, appended-same, appended-end}
 use borrow.Fn.Kinds.{In}
 use borrow.Fn.PlainCycle.{Measures, is, falls, and}

@@ -3,7 +3,7 @@
 use Prim.Native.Nat.{_<_}
 use native.Mathlib.Omega.{arith}
 use lib.ListN.{length}
-use Rattle.printing.proofs.Decimal.{decimal-length}
+use Rattle.model.proofs.Text.{decimal-length}
 use Rattle.printing.proofs.Appended.{appended-byte, appended-then, appended-end}
 use borrow.Author.Needs.{needs}
 use Rattle.printing.proofs.text.field.Statement.{statement}
