@@ -1,5 +1,5 @@
 -- What a position that code gives says of what was read; and what was read behind other things.
--- From the definitions of `foundAt`, `behind` and `append`.
+-- From the definitions of `foundAt`, `mapRead` and `behind`.
 use mathlib.Core.Path.{_≡_, refl, sym, ap, _∙_}
 use mathlib.Core.Bool.{Bool, true, false, cond}
 use mathlib.Core.Option.{none, some, Option·some-injective, Option·none-ne-some, Option·some-ne-none}

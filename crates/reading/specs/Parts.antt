@@ -61,6 +61,7 @@ pub record Numbers : Type 0 where
   pub m : ℕ
   pub combinations : ℕ
 
+-- the first line
 unfoldable pub readHeading : List ℕ → Read Numbers
 readHeading t =
     andThen (readLine 3 t) (λ head. λ rest.

@@ -5,6 +5,7 @@ ghost use lib.ListN.{length, take, drop};
 ghost use Rattle.model.specs.Reading.{readDigits, readField, readLine, readLines};
 ghost use Rattle.reading.specs.Parts.{foundAt, behind};
 
+// Document 01's bytes, and its largest field. The model's specs/Text.antt names the same ones.
 const NEWLINE: u8 = 10;
 
 const COMMA: u8 = 44;

@@ -19,6 +19,7 @@ use relations::relations_at;
 pub mod fields; // a field, a line of fields, and lines
 pub mod relations; // a relation, and all relations
 
+// "at most 65,536 bytes"
 const MAX_TEXT: usize = 65536;
 
 // The numbers of the first line, and the position behind it; position 0 where it is not in the form.
