@@ -19,7 +19,8 @@ use Rattle.model.proofs.Lists.{all-getD}
 use Rattle.model.proofs.Network.{relationOf-at, indexOf-at, before-past}
 use Rattle.model.proofs.Fault.{faultless}
 use Rattle.network.specs.declared.Shape.{Shape}
-use Rattle.network.specs.Shape.{networkOf, properWidth}
+use Rattle.model.specs.Fault.{properWidth}
+use Rattle.network.specs.Shape.{networkOf}
 use Rattle.network.proofs.Tabled.{value-start}
 use Rattle.network.proofs.Places.{tuple-fits}
 use Rattle.calls.specs.Tables.{Tables}
