@@ -50,10 +50,10 @@ module _ (Rs : List Relation) where
       let below : r < length Rs = subst (λ (n : ℕ). r < n) count-shapeOf l in
       relation-at (shapeOf Rs) r below ∙ recordAt-shapeOf r (omega (arith, h, below)))
 
-  -- what is said of every list that is too long, is said of the shape as of the records
-  same : {X : Type 0} (F : List Relation → X) (x : X) → ((Qs : List Relation) → maxRelations < length Qs → F Qs ≡ x) → Dec (length Rs ≤ maxRelations) → F (relationsOf (shapeOf Rs)) ≡ F Rs
-  same F x many (yes h) = ap F (relationsOf-shapeOf h)
-  same F x many (no h) =
+  -- what is the same for all lists of more than 64 is the same for the shape and for the records
+  shapeOf-same : {X : Type 0} (F : List Relation → X) (x : X) → ((Qs : List Relation) → maxRelations < length Qs → F Qs ≡ x) → Dec (length Rs ≤ maxRelations) → F (relationsOf (shapeOf Rs)) ≡ F Rs
+  shapeOf-same F x many (yes h) = ap F (relationsOf-shapeOf h)
+  shapeOf-same F x many (no h) =
       let long : maxRelations < length Rs = omega (arith, h) in
       many (relationsOf (shapeOf Rs)) (subst (λ (n : ℕ). maxRelations < n) (sym count-shapeOf) long) ∙ sym (many Rs long)
 
@@ -65,7 +65,7 @@ module _ (Rs : List Relation) where
 
     pub compareReply-shapeOf : (g h : ℕ) → compareReply (networkOf (shapeOf Rs) variables values) g h ≡ compareReply (over Rs) g h
     compareReply-shapeOf g h =
-        same (λ Qs. compareReply (over Qs) g h) (2, 2) (λ Qs long. compareReply-many (over Qs) long g h)
+        shapeOf-same (λ Qs. compareReply (over Qs) g h) (2, 2) (λ Qs long. compareReply-many (over Qs) long g h)
         (decLe (length Rs) maxRelations)
 
     module _ (m : ℕ) (members words : List ℕ) where
@@ -74,7 +74,7 @@ module _ (Rs : List Relation) where
 
       pub testReply-shapeOf : testReply (within (networkOf (shapeOf Rs) variables values)) words ≡ testReply (within (over Rs)) words
       testReply-shapeOf =
-          same (λ Qs. testReply (within (over Qs)) words) (2, 2) (λ Qs long. testReply-many (within (over Qs)) words long)
+          shapeOf-same (λ Qs. testReply (within (over Qs)) words) (2, 2) (λ Qs long. testReply-many (within (over Qs)) words long)
           (decLe (length Rs) maxRelations)
 
       module _ (supports : List ℕ) (change : Change) where
@@ -83,5 +83,5 @@ module _ (Rs : List Relation) where
 
         pub reply-shapeOf : reply (request (networkOf (shapeOf Rs) variables values)) ≡ reply (request (over Rs))
         reply-shapeOf =
-            same (λ Qs. reply (request (over Qs))) (refused 2 (request (over Rs))) (λ Qs long. reply-many (request (over Qs)) long)
+            shapeOf-same (λ Qs. reply (request (over Qs))) (refused 2 (request (over Rs))) (λ Qs long. reply-many (request (over Qs)) long)
             (decLe (length Rs) maxRelations)
