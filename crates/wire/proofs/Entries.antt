@@ -8,7 +8,7 @@ use native.Mathlib.Numerals.{add-one}
 use native.Mathlib.Omega.{arith}
 use lib.ListN.{length, take, drop, getD, set, length-append, length-drop, length-set, take-append-drop, drop-of-length-le}
 use lib.Seq.{drop-cons, take-suc, drop-drop, getD-drop, take-at, drop-at, length-take-le, set-at, drop-length, take-length, take-all}
-use Rattle.wire.specs.Entries.{value, bytesOf, entryAt, entries, bytes, Filled}
+use Rattle.wire.specs.Entries.{value, bytesOf, entryAt, entries, bytes, entries16, Filled}
 
 -- every byte of a list is one
 abbrev pub Bytes : List ℕ → Type 0
@@ -64,6 +64,14 @@ unfolding entryAt
 entries-at k zero bs i h = omega arith
 entries-at k (suc n) bs zero h = rw mul-zero
 entries-at k (suc n) bs (suc i) h = entries-at k n (drop k bs) i (omega arith) ∙ ap (λ (d : List ℕ). value (take k d)) (behind k i bs)
+
+pub entries16-length : (bs : List ℕ) → length (entries16 bs) ≡ length bs / 2
+unfolding entries16
+entries16-length bs = entries-length 2 (length bs / 2) bs
+
+pub entries16-at : (bs : List ℕ) (i : ℕ) → i < length bs / 2 → getD (entries16 bs) i 0 ≡ entryAt 2 bs i
+unfolding entries16
+entries16-at bs i h = entries-at 2 (length bs / 2) bs i h
 
 pub entries-next : (k n : ℕ) (bs : List ℕ) → entries k (n + 1) bs ≡ entries k n bs ++ (entryAt k bs n ∷ [])
 unfolding entryAt

@@ -95,7 +95,7 @@ pub fn put_u64(d: &mut [u8], i: usize, x: u64)
 }
 
 // The lesser of two numbers.
-fn least(a: usize, b: usize) -> usize
+pub fn least(a: usize, b: usize) -> usize
     ensures { λ n. ⌜ (n ≤ a) × (n ≤ b) × (n ≡ min a b) ⌝ }
 {
     if a < b { a } else { b }
