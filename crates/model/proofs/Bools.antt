@@ -31,6 +31,10 @@ pub or-false-left : (a b : Bool) → (a || b) ≡ false → a ≡ false
 or-false-left true b e = e
 or-false-left false b e = refl
 
+pub or-false-right : (a b : Bool) → (a || b) ≡ false → b ≡ false
+or-false-right true b e = absurd (true≢false e)
+or-false-right false b e = e
+
 -- an implication as a test
 pub implies-intro : (a b : Bool) → (a ≡ true → b ≡ true) → (not a || b) ≡ true
 implies-intro true b f = f refl

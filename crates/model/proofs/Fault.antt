@@ -7,17 +7,19 @@ use mathlib.Core.List.{List, [], _∷_, _++_, map, List·Memᴰ, List·Memᴰ·t
 use mathlib.Core.Logic.{⊎-elim}
 use Prim.Native.Nat.{ℕ, _*_, _≤_, _<_}
 use native.Mathlib.Omega.{arith}
+use native.Mathlib.Nat.{mul-le-mul-right}
 use lib.Dec.{leb, ltb, eqb}
 use lib.ListN.{length}
 use borrow.Author.Tests.{ltb-true, ltb-false, leb-true, eqb-true, not-false}
-use Rattle.model.specs.Limits.{maxRelations, maxWidth, maxTuples, wordBits}
+use Rattle.model.specs.Limits.{maxRelations, maxWidth, maxTuples, maxSupportNumbers, wordBits}
 use Rattle.model.specs.Lists.{from, sum, all, pairwise}
 use Rattle.model.specs.declared.Relation.{Relation}
-use Rattle.model.specs.Network.{Network, total, variablesIn, valuesIn, scopeOf}
+use Rattle.model.specs.Network.{Network, total, variablesIn, tuplesIn, valuesIn, scopeOf}
 use Rattle.model.specs.Combination.{Combination}
+use Rattle.model.specs.Consistency.{needed}
 use Rattle.model.specs.Request.{Change, filter, withdraw, choose, Instance, combinationsOf, Request}
-use Rattle.model.specs.Fault.{Fault, firstFault, refusal, within, properScope, properLengths, networkFaults, combinationFaults, wordsFault, supportsFault, changeFaults, properMembers, faultsOn, faults, isNone, accepts}
-use Rattle.model.proofs.Bools.{and-left, and-right}
+use Rattle.model.specs.Fault.{Fault, firstFault, refusal, within, properWidth, properScope, properLengths, networkFaults, combinationFaults, wordsFault, supportsFault, changeFaults, properMembers, faultsOn, faults, isNone, accepts}
+use Rattle.model.proofs.Bools.{and-left, and-right, or-false-left, or-false-right}
 use Rattle.model.proofs.Lists.{here, all-at}
 
 -- ---- Reading a table in order
@@ -157,12 +159,31 @@ module _ (I : Instance) (words numbers : ℕ) where
     pub refusal-neither : 0 ≡ refusal (firstFault (changeFaults (I .network) change)) → firstFault (faultsOn I words numbers change) ≡ none
     refusal-neither e = behind ∙ refusal-none (changeFaults (I .network) change) (numbered-change change) (sym e)
 
+-- ---- Relation records of proper width
+
+proper-narrow : (R : Relation) (Rs : List Relation) → all properWidth (R ∷ Rs) ≡ true → R .width ≤ maxWidth
+proper-narrow R Rs h = leb-true (R .width) maxWidth (and-right (leb 1 (R .width)) (leb (R .width) maxWidth) (and-left (properWidth R) (all properWidth Rs) h))
+
+pub few-variables : (Rs : List Relation) → all properWidth Rs ≡ true → sum (map variablesIn Rs) ≤ maxWidth * length Rs
+few-variables [] h = omega arith
+few-variables (R ∷ Rs) h =
+    let w = proper-narrow R Rs h in
+    let k = few-variables Rs (and-right (properWidth R) (all properWidth Rs) h) in
+    omega arith
+
+pub few-values : (Rs : List Relation) → all properWidth Rs ≡ true → sum (map valuesIn Rs) ≤ maxWidth * sum (map tuplesIn Rs)
+few-values [] h = omega arith
+few-values (R ∷ Rs) h =
+    let w = mul-le-mul-right (R .tuples) (proper-narrow R Rs h) in
+    let k = few-values Rs (and-right (properWidth R) (all properWidth Rs) h) in
+    omega arith
+
 -- ---- A network without network faults
 
 pub record Faultless (N : Network) : Type 0 where
   pub some-relation : 1 ≤ length (N .relations)
   pub relations : length (N .relations) ≤ maxRelations
-  pub widths : all (λ (R : Relation). within 1 maxWidth (R .width)) (N .relations) ≡ true
+  pub widths : all properWidth (N .relations) ≡ true
   pub tuples : total N ≤ maxTuples
   pub variables : length (N .variables) ≡ sum (map variablesIn (N .relations))
   pub values : length (N .values) ≡ sum (map valuesIn (N .relations))
@@ -212,6 +233,13 @@ module _ (q : Request) (e : accepts q ≡ true) where
 
   pub accepts-words : total N ≤ wordBits * length (q .words)
   accepts-words = omega (arith, ltb-false (length (q .words) * wordBits) (total N) (lists here))
+
+  -- the supports need no more numbers than are allowed, or lent
+  pub accepts-supports : (needed N (combinationsOf I) ≤ maxSupportNumbers) × (needed N (combinationsOf I) ≤ length (q .supports))
+  accepts-supports =
+      let k = needed N (combinationsOf I) in
+      let none-found = lists (List·Memᴰ·tail here) in
+      (ltb-false maxSupportNumbers k (or-false-left (ltb maxSupportNumbers k) (ltb (length (q .supports)) k) none-found), ltb-false (length (q .supports)) k (or-false-right (ltb maxSupportNumbers k) (ltb (length (q .supports)) k) none-found))
 
   combination-fault : {f : Fault} → List·Memᴰ f (combinationFaults I) → f .1 ≡ false
   unfolding faults faultsOn

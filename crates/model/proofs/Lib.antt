@@ -17,5 +17,6 @@ pub mod Solution
 pub mod Locality
 pub mod Reply
 pub mod Calls
+pub mod Edges
 pub mod Mission
 pub mod Examples

@@ -2,15 +2,15 @@
 -- From the definitions, and the laws of lists and of sets of tuples.
 use mathlib.Core.Path.{_≡_, refl, sym, _∙_, ap, subst}
 use mathlib.Core.Bool.{Bool, true, false, not, _&&_, _||_, cond, and-true, or-false}
-use mathlib.Core.List.{List, [], _∷_, map}
+use mathlib.Core.List.{List, [], _∷_, _++_, map}
 use Prim.Native.Nat.{ℕ, zero, suc, _+_, _*_, _-_, _/_, _%_, _^_, _≤_, _<_}
 use native.Mathlib.Nat.{add-zero, zero-add, add-suc, suc-add, pow-suc, pow-succ', div-div-eq-div-mul, le-of-suc-le-suc}
 use native.Mathlib.Omega.{arith}
 use native.Mathlib.Decide.{ℕ-discrete, decLe}
 use lib.Dec.{ltb, eqb}
-use lib.ListN.{length, getD, set, replicate, length-map, length-set}
-use lib.Seq.{ext-getD, getD-set-same, getD-set-other}
-use borrow.Author.Tests.{eqb-true, eqb-false, eq-eqb, ne-eqb, lt-ltb, ltb-true, ltb-false}
+use lib.ListN.{length, getD, set, take, drop, replicate, length-map, length-set}
+use lib.Seq.{ext-getD, getD-set-same, getD-set-other, getD-take}
+use borrow.Author.Tests.{eqb-true, eqb-false, eq-eqb, ne-eqb, lt-ltb, le-ltb, ltb-true, ltb-false}
 use Rattle.model.specs.Limits.{wordBits}
 use Rattle.model.specs.Lists.{from}
 use Rattle.model.specs.TupleSet.{TupleSet, has, count, without}
@@ -430,3 +430,31 @@ cleared-written n S g ws h =
         ap (λ (x : Bool). x && not (eqb g (wordBits * i + j))) (ap (λ (x : ℕ). isSet x j) (written-at n S ws i k) ∙ word-isSet (bitAfter n S i (getD ws i 0)) j hj)
         ∙ bit-cleared n S g i (getD ws i 0) j h (ltb (wordBits * i + j) n) refl)
         ∙ sym (written-at n (without (eqb g) S) ws i k)
+
+-- ---- The first words
+
+-- ids below 64 k are read from k words
+pub living-take : (n k : ℕ) (ws : List ℕ) → n ≤ wordBits * k → living n (take k ws) ≡ living n ws
+unfolding living isLive
+living-take n k ws h =
+    map-from-cong (isLive (take k ws)) (isLive ws) 0 0 n
+    (λ j l. ap (λ (w : ℕ). isSet w ((0 + j) % wordBits)) (getD-take k ws ((0 + j) / wordBits) 0 (omega arith)))
+
+writtenFrom-past : (i n : ℕ) (S : TupleSet) (ws : List ℕ) → ((k : ℕ) → k < length ws → getD ws k 0 < 2 ^ 64) → n ≤ wordBits * i → writtenFrom i n S ws ≡ ws
+writtenFrom-past i n S [] small h = refl
+writtenFrom-past i n S (w ∷ ws) small h =
+    ap (λ (v : ℕ). v ∷ writtenFrom (suc i) n S ws)
+    (word-cong (bitAfter n S i w) (isSet w) (λ j l. ap (λ (b : Bool). cond b (has S (wordBits * i + j)) (isSet w j)) (le-ltb (wordBits * i + j) n (omega arith)))
+    ∙ word-self w (small 0 (omega arith)))
+    ∙ ap {B = List ℕ} (λ vs. w ∷ vs) (writtenFrom-past (suc i) n S ws (λ k l. small (suc k) (omega arith)) (omega arith))
+
+writtenFrom-take : (i n k : ℕ) (S : TupleSet) (ws : List ℕ) → ((k : ℕ) → k < length ws → getD ws k 0 < 2 ^ 64) → n ≤ wordBits * (i + k) → writtenFrom i n S ws ≡ writtenFrom i n S (take k ws) ++ drop k ws
+writtenFrom-take i n zero S ws small h = writtenFrom-past i n S ws small (omega arith)
+writtenFrom-take i n (suc k) S [] small h = refl
+writtenFrom-take i n (suc k) S (w ∷ ws) small h =
+    ap {B = List ℕ} (λ vs. word (bitAfter n S i w) ∷ vs) (writtenFrom-take (suc i) n k S ws (λ j l. small (suc j) (omega arith)) (omega arith))
+
+-- .. and written to them; later words stay
+pub written-take : (n k : ℕ) (S : TupleSet) (ws : List ℕ) → ((i : ℕ) → i < length ws → getD ws i 0 < 2 ^ 64) → n ≤ wordBits * k → written n S ws ≡ written n S (take k ws) ++ drop k ws
+unfolding written
+written-take n k S ws small h = writtenFrom-take 0 n k S ws small (omega (arith, zero-add k))

@@ -18,6 +18,11 @@ use Rattle.model.specs.Request.{Request, Change, filter, withdraw, choos
 use Rattle.model.specs.Fault
 use Rattle.model.specs.Reply
 use Rattle.model.specs.Reply.{Numbers, reply}
+use Rattle.model.specs.Text
+use Rattle.model.specs.Text.{textOf}
+use Rattle.model.specs.Reading
+use Rattle.model.specs.Listing
+use Rattle.model.specs.Listing.{listing}
 
 unfoldable pub relation : ℕ → ℕ → Relation
 relation w n = record { width = w; tuples = n }
@@ -155,3 +160,43 @@ damaged =
 first-fault-wins : map (λ (q : Request). (reply q) .answer) damaged ≡ map (λ (n : ℕ). numbers 2 n 0 0 0) (from 2 13)
 unfolding damaged twins sized bare relation asked numbers TupleSet.closure Network.relationOf Network.indexOf Network.scopeOf Network.valuesAt Network.tupleOf Agreement.fit Agreement.clash Agreement.agreeing Agreement.cellsOf Agreement.agree Agreement.share Combination.combinations Combination.connected Support.candidates Support.isSupport Support.supports Support.firstSupport Consistency.supported Consistency.filtered Consistency.supportList Consistency.needed LiveWords.bit LiveWords.isSet LiveWords.isLive LiveWords.living LiveWords.word LiveWords.written Request.removes Fault.faultsOn Fault.faults Reply.lowestEmpty Reply.answerFor Reply.remainder Reply.countsFor Reply.leaving Reply.accepted Reply.reply
 first-fault-wins = refl
+
+-- ---- The desk's text
+
+-- input A
+linesA : List (List ℕ)
+linesA =
+    (3 ∷ 2 ∷ 3 ∷ [])
+    ∷ (2 ∷ 3 ∷ [])
+    ∷ (0 ∷ 1 ∷ [])
+    ∷ (1 ∷ 1 ∷ [])
+    ∷ (1 ∷ 2 ∷ [])
+    ∷ (2 ∷ 2 ∷ [])
+    ∷ (2 ∷ 2 ∷ [])
+    ∷ (1 ∷ 2 ∷ [])
+    ∷ (1 ∷ 5 ∷ [])
+    ∷ (2 ∷ 6 ∷ [])
+    ∷ (2 ∷ 2 ∷ [])
+    ∷ (2 ∷ 0 ∷ [])
+    ∷ (5 ∷ 1 ∷ [])
+    ∷ (6 ∷ 1 ∷ [])
+    ∷ (0 ∷ 1 ∷ [])
+    ∷ (0 ∷ 2 ∷ [])
+    ∷ (1 ∷ 2 ∷ [])
+    ∷ []
+
+-- its output
+listedA : List (List ℕ)
+listedA =
+    (0 ∷ 64 ∷ 6 ∷ 1 ∷ [])
+    ∷ (0 ∷ 0 ∷ 1 ∷ 1 ∷ [])
+    ∷ (0 ∷ 1 ∷ 1 ∷ 2 ∷ [])
+    ∷ (1 ∷ 0 ∷ 1 ∷ 5 ∷ [])
+    ∷ (1 ∷ 1 ∷ 2 ∷ 6 ∷ [])
+    ∷ (2 ∷ 0 ∷ 5 ∷ 1 ∷ [])
+    ∷ (2 ∷ 1 ∷ 6 ∷ 1 ∷ [])
+    ∷ []
+
+input-A : listing (textOf linesA) ≡ textOf listedA
+unfolding linesA listedA Text.decimal Text.textOf Reading.readField Reading.readInstance Reading.read Listing.allLive Listing.fresh Listing.tupleLines Listing.replyLines Listing.listing relation asked numbers TupleSet.closure Network.relationOf Network.indexOf Network.scopeOf Network.valuesAt Network.tupleOf Agreement.fit Agreement.clash Agreement.agreeing Agreement.cellsOf Agreement.agree Agreement.share Combination.combinations Combination.connected Support.candidates Support.isSupport Support.supports Support.firstSupport Consistency.supported Consistency.filtered Consistency.supportList Consistency.needed LiveWords.bit LiveWords.isSet LiveWords.isLive LiveWords.living LiveWords.word LiveWords.written Request.removes Fault.faultsOn Fault.faults Reply.lowestEmpty Reply.answerFor Reply.remainder Reply.countsFor Reply.leaving Reply.accepted Reply.reply
+input-A = refl

@@ -30,6 +30,10 @@ refusal (some f) = f
 abbrev pub within : ℕ → ℕ → ℕ → Bool
 within low high n = leb low n && leb n high
 
+-- the record's width is one of those allowed
+abbrev pub properWidth : Relation → Bool
+properWidth R = within 1 maxWidth (R .width)
+
 abbrev pub different : ℕ → ℕ → Bool
 different x y = not (eqb x y)
 
@@ -46,7 +50,7 @@ properLengths N =
 abbrev pub networkFaults : Network → List Fault
 networkFaults N =
     (2, not (within 1 maxRelations (length (N .relations))))
-    ∷ (3, not (all (λ (R : Relation). within 1 maxWidth (R .width)) (N .relations)))
+    ∷ (3, not (all properWidth (N .relations)))
     ∷ (4, ltb maxTuples (total N))
     ∷ (5, not (properLengths N))
     ∷ (6, not (all (λ (r : ℕ). properScope (scopeOf N r)) (from 0 (length (N .relations)))))
@@ -67,6 +71,10 @@ combinationFaults I =
     ∷ (9, not (all (properMembers (I .network)) (combinationsOf I)))
     ∷ (10, not (all (connected (I .network)) (combinationsOf I)))
     ∷ []
+
+-- the faults 2 to 10
+abbrev pub instanceFaults : Instance → List Fault
+instanceFaults I = networkFaults (I .network) ++ combinationFaults I
 
 -- n live words are too few
 abbrev pub wordsFault : Network → ℕ → Fault
@@ -90,16 +98,14 @@ changeFaults N (choose x v) = (14, not (ltb x variableCount)) ∷ []
 -- of filter, withdraw and choose, on so many words and support numbers
 unfoldable pub faultsOn : Instance → ℕ → ℕ → Change → List Fault
 faultsOn I words numbers change =
-    networkFaults (I .network)
-    ++ combinationFaults I
-    ++ (wordsFault (I .network) words ∷ supportsFault I numbers ∷ changeFaults (I .network) change)
+    instanceFaults I ++ (wordsFault (I .network) words ∷ supportsFault I numbers ∷ changeFaults (I .network) change)
 
 unfoldable pub faults : Request → List Fault
 faults q = faultsOn (q .given) (length (q .words)) (length (q .supports)) (q .change)
 
 -- of test
 unfoldable pub testFaults : Instance → List ℕ → List Fault
-testFaults I ws = networkFaults (I .network) ++ combinationFaults I ++ (wordsFault (I .network) (length ws) ∷ [])
+testFaults I ws = instanceFaults I ++ (wordsFault (I .network) (length ws) ∷ [])
 
 -- of compare
 unfoldable pub compareFaults : Network → ℕ → ℕ → List Fault

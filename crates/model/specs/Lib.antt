@@ -13,5 +13,9 @@ pub mod Request
 pub mod Fault
 pub mod Reply
 pub mod Calls
+pub mod Edges
+pub mod Text
+pub mod Reading
+pub mod Listing
 pub mod Promises
 pub mod Examples

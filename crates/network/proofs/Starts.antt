@@ -4,24 +4,20 @@ use mathlib.Core.Path.{_≡_, refl, sym, _∙_, ap}
 use mathlib.Core.Bool.{true}
 use mathlib.Core.List.{List, [], _∷_, map, List·Memᴰ}
 use Prim.Native.Nat.{ℕ, zero, suc, _+_, _-_, _*_, _≤_, _<_}
-use native.Mathlib.Nat.{zero-add, mul-le-mul-right}
+use native.Mathlib.Nat.{zero-add}
 use native.Mathlib.Numerals.{add-one}
 use native.Mathlib.Decide.{decLt}
 use native.Mathlib.Omega.{arith}
 use borrow.Author.Count.{below-more}
-use borrow.Author.Tests.{leb-true}
-use lib.Dec.{leb}
 use lib.ListN.{length, getD, set, length-set, length-map}
 use lib.Seq.{getD-set-same, getD-set-other, ext-getD}
 use Rattle.model.specs.declared.Relation.{Relation}
-use Rattle.model.specs.Limits.{maxWidth}
+use Rattle.model.specs.Fault.{properWidth}
 use Rattle.model.specs.Lists.{from, sum, all}
 use Rattle.model.specs.Network.{Network, size, total, variablesIn, tuplesIn, valuesIn, before, firstId, idsOf, relationOf}
-use Rattle.model.proofs.Bools.{and-left, and-right}
 use Rattle.model.proofs.Lists.{length-from, mem-from, getD-map-from}
 use Rattle.model.proofs.Network.{relationOf-ids, ids-relationOf, index-bounds, before-suc, before-past, before-le}
-use Rattle.model.proofs.Fault.{Faultless}
-use Rattle.network.specs.Shape.{properWidth}
+use Rattle.model.proofs.Fault.{Faultless, few-variables, few-values}
 use Rattle.network.specs.Layout.{Bounded, starts}
 
 -- ---- What stands in a table
@@ -96,23 +92,6 @@ unfolding starts
 filled-starts f Rs r xs h l = filled-map (before f Rs) 65 xs (l .0) (λ k m. l .1 k (omega arith))
 
 -- ---- Bounded records
-
-narrow : (R : Relation) (Rs : List Relation) → all properWidth (R ∷ Rs) ≡ true → R .width ≤ maxWidth
-narrow R Rs h = leb-true (R .width) maxWidth (and-right (leb 1 (R .width)) (leb (R .width) maxWidth) (and-left (properWidth R) (all properWidth Rs) h))
-
-few-variables : (Rs : List Relation) → all properWidth Rs ≡ true → sum (map variablesIn Rs) ≤ 8 * length Rs
-few-variables [] h = omega arith
-few-variables (R ∷ Rs) h =
-    let w = narrow R Rs h in
-    let k = few-variables Rs (and-right (properWidth R) (all properWidth Rs) h) in
-    omega arith
-
-few-values : (Rs : List Relation) → all properWidth Rs ≡ true → sum (map valuesIn Rs) ≤ 8 * sum (map tuplesIn Rs)
-few-values [] h = omega arith
-few-values (R ∷ Rs) h =
-    let w = mul-le-mul-right (R .tuples) (narrow R Rs h) in
-    let k = few-values Rs (and-right (properWidth R) (all properWidth Rs) h) in
-    omega arith
 
 module _ (Rs : List Relation) (b : Bounded Rs) (r : ℕ) where
   pub variables-fit : before variablesIn Rs r < 65536

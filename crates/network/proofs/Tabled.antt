@@ -11,13 +11,13 @@ use borrow.Author.Tests.{leb-true, ltb-true, lt-ltb, le-ltb}
 use lib.Dec.{leb}
 use lib.ListN.{length, getD}
 use Rattle.model.specs.declared.Relation.{Relation}
+use Rattle.model.specs.Fault.{properWidth}
 use Rattle.model.specs.Limits.{maxWidth}
 use Rattle.model.specs.Lists.{from, all, select, keepIf}
 use Rattle.model.specs.Network.{Network, noRelation, variablesIn, valuesIn, before}
 use Rattle.model.proofs.Bools.{and-left, and-right, and-intro}
 use Rattle.model.proofs.Network.{before-suc, before-past}
 use Rattle.model.proofs.Fault.{faultless}
-use Rattle.network.specs.Shape.{properWidth}
 use Rattle.network.specs.Layout.{widthIn, recordIn, hasVariable, relationsIn, tabled, Laid}
 use Rattle.network.proofs.Starts.{start-at}
 

@@ -10,9 +10,8 @@ use Rattle.model.specs.declared.Relation.{Relation}
 use Rattle.model.specs.Limits.{maxRelations, maxTuples}
 use Rattle.model.specs.Lists.{from, sum, all, select}
 use Rattle.model.specs.Network.{Network, variablesIn, tuplesIn, valuesIn, before}
-use Rattle.model.specs.Fault.{networkFaults, firstFault}
+use Rattle.model.specs.Fault.{properWidth, networkFaults, firstFault}
 use Rattle.network.specs.declared.agreement.Place.{Place}
-use Rattle.network.specs.Shape.{properWidth}
 
 -- What records without the faults 2 to 4 have.
 pub record Bounded (Rs : List Relation) : Type 0 where

@@ -1,13 +1,10 @@
 -- The network whose relation records were taken apart.
-use mathlib.Core.Bool.{Bool}
 use mathlib.Core.List.{List, map}
 use Prim.Native.Nat.{ℕ}
 use lib.ListN.{getD}
 use Rattle.model.specs.declared.Relation.{Relation}
-use Rattle.model.specs.Limits.{maxWidth}
 use Rattle.model.specs.Lists.{from}
 use Rattle.model.specs.Network.{Network}
-use Rattle.model.specs.Fault.{within}
 use Rattle.network.specs.declared.Shape.{Shape}
 
 -- the record of relation r
@@ -19,7 +16,3 @@ relationsOf S = map (recordAt S) (from 0 (S .count))
 
 abbrev pub networkOf : Shape → List ℕ → List ℕ → Network
 networkOf S variables values = record { relations = relationsOf S; variables = variables; values = values }
-
--- the width is one of those allowed
-abbrev pub properWidth : Relation → Bool
-properWidth R = within 1 maxWidth (R .width)

@@ -14,7 +14,7 @@ use Rattle.model.specs.Limits.{wordBits, minMembers, maxMembers, maxCombination
 use Rattle.model.specs.Lists.{all}
 use Rattle.model.specs.Network.{Network, total, variablesIn, tuplesIn, valuesIn}
 use Rattle.model.specs.Request.{Instance, combinationsOf}
-use Rattle.model.specs.Fault.{Fault, firstFault, within, properMembers, networkFaults, combinationFaults, wordsFault}
+use Rattle.model.specs.Fault.{Fault, firstFault, within, properMembers, instanceFaults, networkFaults, combinationFaults, wordsFault}
 use Rattle.model.proofs.Bools.{and-left, and-right}
 use Rattle.model.proofs.Lists.{here}
 use Rattle.model.proofs.Fault.{no-fault-here, no-fault-at, firstFault-front, firstFault-back}
@@ -22,7 +22,7 @@ use Rattle.network.specs.declared.Shape.{Shape}
 use Rattle.network.specs.Shape.{relationsOf, networkOf}
 use Rattle.network.specs.Layout.{starts, tabled, Laid}
 use Rattle.network.proofs.Tabled.{laid-tabled, tabled-laid}
-use Rattle.calls.specs.Checks.{instanceOf, instanceFaults, testFaultsOn}
+use Rattle.calls.specs.Checks.{instanceOf, testFaultsOn}
 use Rattle.testing.specs.Setting.{setting, Sound}
 
 module _ (I : Instance) (words : ℕ) (e : firstFault (testFaultsOn I words) ≡ none) where

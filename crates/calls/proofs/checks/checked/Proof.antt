@@ -4,9 +4,9 @@ use mathlib.Core.Path.{_≡_, refl, sym, _∙_}
 use mathlib.Core.Option.{none}
 use mathlib.Core.List.{[], _∷_}
 use Rattle.model.specs.Request.{Instance}
-use Rattle.model.specs.Fault.{firstFault, refusal, networkFaults, combinationFaults, wordsFault, supportsFault, faultsOn}
+use Rattle.model.specs.Fault.{firstFault, refusal, instanceFaults, networkFaults, combinationFaults, wordsFault, supportsFault, faultsOn}
 use Rattle.model.proofs.Fault.{refusal-none, refusal-front, refusal-back, firstFault-front, firstFault-back}
-use Rattle.calls.specs.Checks.{instanceOf, instanceFaults, testFaultsOn}
+use Rattle.calls.specs.Checks.{instanceOf, testFaultsOn}
 use Rattle.calls.proofs.Instance.{network-few, combinations-proper}
 use borrow.Author.Needs.{needs}
 use Rattle.calls.proofs.checks.checked.Statement.{statement}
