@@ -5,22 +5,21 @@ use mathlib.Core.Bool.{Bool, true, false, not, _||_, true≢false}
 use mathlib.Core.List.{List, [], _∷_, _++_, map, List·Memᴰ, List·Memᴰ·head, List·Memᴰ·tail, List·Memᴰ·cases-cons, List·Memᴰ·eq-of-singleton, List·Memᴰ·not-nil, Memᴰ·of-map, Memᴰ·cast}
 use mathlib.Core.Logic.{_⊎_, inl, inr, ⊎-elim}
 use Prim.Native.Nat.{ℕ, zero, suc, _+_, _*_, _/_, _%_, _≤_, _<_}
-use native.Mathlib.Nat.{zero-mul, suc-mul, add-mul, zero-add, add-comm, div-mul-le-self, div-add-mod', mul-le-mul-right, mod-lt, div-lt-iff-lt-mul, div-eq-of-lt-le}
+use native.Mathlib.Nat.{zero-mul, suc-mul, add-mul, zero-add, add-comm, div-mul-le-self, div-add-mod', mul-le-mul-right, mod-lt, div-lt-iff-lt-mul, div-eq-of-lt-le, mul-div-cancel}
 use native.Mathlib.Omega.{arith}
 use lib.Dec.{leb}
 use lib.ListN.{length, getD, take, drop, length-map, length-drop}
 use lib.Seq.{take-all, take-add, drop-drop, drop-cons, getD-take, getD-drop, length-take-le}
 use borrow.Author.Tests.{leb-true, not-true}
 use Rattle.model.specs.Limits.{maxWidth}
-use Rattle.model.specs.declared.Relation.{Relation}
 use Rattle.model.specs.Lists.{from, sum, all, any, select, keepIf, empty, elem}
 use Rattle.model.specs.Network.{Network, noRelation, width, size, variablesIn, before, scopeOf}
 use Rattle.model.specs.Agreement.{share}
 use Rattle.model.specs.Combination.{Combination, combinations, pairCombination, pairMember, Division, addToEither, divisions, connected}
 use Rattle.model.specs.Consistency.{needed}
-use Rattle.model.specs.Fault.{within}
+use Rattle.model.specs.Fault.{properWidth}
 use Rattle.model.proofs.Bools.{and-left, or-cases, not-both}
-use Rattle.model.proofs.Lists.{here, all-at, all-intro, all-getD, mem-getD, any-at, any-intro, select-mem, mem-select, elem-mem, mem-elem, from-mem, length-from, getD-map-from, getD-mem}
+use Rattle.model.proofs.Lists.{here, all-at, all-intro, all-getD, mem-getD, any-at, any-intro, select-mem, mem-select, elem-mem, mem-elem, from-mem, length-from, getD-map-from, getD-mem, pieces}
 use Rattle.model.proofs.Network.{before-within}
 use Rattle.model.proofs.Fault.{Faultless}
 
@@ -36,6 +35,10 @@ module _ (m : ℕ) (list : List ℕ) where
   combination-at k h =
       getD-map-from (λ (k : ℕ). take m (drop (k * m) list)) 0 (length list / m) k [] h
       ∙ ap (λ (i : ℕ). take m (drop (i * m) list)) (zero-add k)
+
+  pub combinations-pieces : (k : ℕ) → 0 < m → length list ≡ k * m → combinations m list ≡ pieces k m list
+  unfolding combinations
+  combinations-pieces k pos e = ap (λ (n : ℕ). pieces n m list) (ap (λ (l : ℕ). l / m) e ∙ mul-div-cancel k pos)
 
   -- the next one begins within the list
   pub combination-within : (k : ℕ) → k < length list / m → k * m + m ≤ length list
@@ -316,7 +319,7 @@ module _ (N : Network) where
     width-some : 1 ≤ width N r
     width-some =
         let w = width N r in
-        leb-true 1 w (and-left (leb 1 w) (leb w maxWidth) (all-getD (λ (R : Relation). within 1 maxWidth (R .width)) (N .relations) r noRelation (ok .widths) h))
+        leb-true 1 w (and-left (leb 1 w) (leb w maxWidth) (all-getD properWidth (N .relations) r noRelation (ok .widths) h))
 
     first-of : (w : ℕ) (x : ℕ) (xs : List ℕ) → 1 ≤ w → elem x (take w (x ∷ xs)) ≡ true
     first-of zero x xs l = absurd (omega arith)

@@ -36,11 +36,11 @@ unfolding table given said row numbers
 p7-emptied = ap (λ (rows : List Seen). (row 6 rows .0) .kind) examples
 
 -- the tuples that P6 leaves are those that P7 is given
-p6-left : leftTuples p6 ≡ givenTuples p7
+p6-left : leftTuples p6 (reply p6) ≡ givenTuples p7
 unfolding p6 p7 asked triangle relation removes
 p6-left = ap (living (total triangle)) p6-words ∙ sym (without-none (living (total triangle) (p7 .words)))
 
-pub settled-unsolvable : (a : Assignment) → isSolution triangle (leftTuples p6) a ≡ true → ⊥
+pub settled-unsolvable : (a : Assignment) → isSolution triangle (leftTuples p6 (reply p6)) a ≡ true → ⊥
 unfolding p7 asked
 settled-unsolvable a s =
     filtering p7 (accepts-kind p7 1 p7-emptied (omega arith) (accepts p7) refl) .none p7-emptied a

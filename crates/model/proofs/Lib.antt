@@ -16,7 +16,10 @@ pub mod Work
 pub mod Solution
 pub mod Locality
 pub mod Reply
-pub mod Calls
 pub mod Edges
+pub mod Calls
 pub mod Mission
+pub mod Text
+pub mod ReadLines
+pub mod Reading
 pub mod Examples

@@ -1,19 +1,19 @@
 -- Tests over lists against membership, the choices of one element from each list, and sums over parts of a list.
-use mathlib.Core.Path.{_≡_, refl, sym, _∙_, ap, subst}
-use mathlib.Core.Bool.{Bool, true, false, _&&_, _||_, false≢true, and-false}
+use mathlib.Core.Path.{_≡_, refl, sym, _∙_, ap, ap₂, subst}
+use mathlib.Core.Bool.{Bool, true, false, _&&_, _||_, false≢true, and-false, and-assoc}
 use mathlib.Core.Option.{none, some, orElse, Option·getD, Option·some-injective, Option·none-ne-some, Option·some-ne-none}
-use mathlib.Core.List.{List, [], _∷_, _++_, map, map-append, head?, List·Memᴰ, List·Memᴰ·head, List·Memᴰ·tail, List·Memᴰ·eq-of-singleton, List·Memᴰ·cases-cons, List·Memᴰ·append-cases, Memᴰ·append-left, Memᴰ·append-right, Memᴰ·map, Memᴰ·of-map, Memᴰ·cast, List·Memᴰ·not-nil}
+use mathlib.Core.List.{List, [], _∷_, _++_, map, map-map, map-append, append-assoc, head?, List·Memᴰ, List·Memᴰ·head, List·Memᴰ·tail, List·Memᴰ·eq-of-singleton, List·Memᴰ·cases-cons, List·Memᴰ·append-cases, Memᴰ·append-left, Memᴰ·append-right, Memᴰ·map, Memᴰ·of-map, Memᴰ·cast, List·Memᴰ·not-nil}
 use mathlib.Core.Logic.{⊎-elim}
-use Prim.Native.Nat.{ℕ, zero, suc, _+_, _-_, _≤_, _<_}
+use Prim.Native.Nat.{ℕ, zero, suc, _+_, _*_, _-_, _≤_, _<_}
 use native.Mathlib.Numerals.{add-one}
 use native.Mathlib.Omega.{arith}
 use native.Mathlib.Decide.{ℕ-discrete, decLt}
-use native.Mathlib.Nat.{add-zero, zero-add, add-suc, suc-add, le-of-suc-le-suc}
+use native.Mathlib.Nat.{add-zero, zero-add, add-suc, suc-add, zero-mul, suc-mul, add-mul, mul-le-mul-right, le-of-suc-le-suc}
 use lib.Dec.{ltb, eqb}
-use lib.ListN.{length, getD, take, drop}
-use lib.Seq.{drop-cons}
+use lib.ListN.{length, getD, take, drop, length-map, length-drop}
+use lib.Seq.{take-at, drop-append-add, drop-append-le, take-append-le, drop-cons}
 use borrow.Author.Tests.{eqb-true, eq-eqb, ltb-true, lt-ltb, ne-eqb, le-ltb}
-use Rattle.model.specs.Lists.{all, any, elem, from, sum, select, keepIf, firstOr, pairwise, choices, prefixed, earlier}
+use Rattle.model.specs.Lists.{all, any, elem, from, sum, select, keepIf, firstOr, pairwise, choices, prefixed, earlier, each}
 use Rattle.model.proofs.Bools.{and-left, and-right, and-intro, or-left, or-right, or-cases, iff-eq, not-both}
 
 module _ {ℓ} {A : Type ℓ} where
@@ -61,6 +61,10 @@ module _ {ℓ} {A : Type ℓ} where
   pub all-append : (p : A → Bool) (xs ys : List A) → all p xs ≡ true → all p ys ≡ true → all p (xs ++ ys) ≡ true
   all-append p [] ys e f = f
   all-append p (x ∷ xs) ys e f = and-intro (and-left (p x) (all p xs) e) (all-append p xs ys (and-right (p x) (all p xs) e) f)
+
+  pub all-of-append : (p : A → Bool) (xs ys : List A) → all p (xs ++ ys) ≡ (all p xs && all p ys)
+  all-of-append p [] ys = refl
+  all-of-append p (x ∷ xs) ys = ap (λ (b : Bool). p x && b) (all-of-append p xs ys) ∙ sym (and-assoc (p x) (all p xs) (all p ys))
 
   pub any-at : (p : A → Bool) (xs : List A) → any p xs ≡ true → (x : A) × List·Memᴰ x xs × (p x ≡ true)
   any-at p [] e = absurd (false≢true e)
@@ -315,6 +319,13 @@ getD-map-from f i zero k d h = absurd (omega arith)
 getD-map-from f i (suc n) zero d h = rw add-zero
 getD-map-from f i (suc n) (suc k) d h = getD-map-from f (suc i) n k d (le-of-suc-le-suc h) ∙ ap f (suc-add i k ∙ sym (add-suc i k))
 
+pub from-shift : (a i n : ℕ) → from (a + i) n ≡ map (λ (j : ℕ). a + j) (from i n)
+from-shift a i zero = refl
+from-shift a i (suc n) = ap {B = List ℕ} (λ t. (a + i) ∷ t) (ap (λ (k : ℕ). from k n) (sym (add-suc a i)) ∙ from-shift a (suc i) n)
+
+pub map-from-shift : {A : Type 0} (f : ℕ → A) (a i n : ℕ) → map f (from (a + i) n) ≡ map (λ (j : ℕ). f (a + j)) (from i n)
+map-from-shift f a i n = ap (map f) (from-shift a i n) ∙ map-map f (λ (j : ℕ). a + j) (from i n)
+
 -- functions that give the same on a range
 pub map-from-same {ℓ} : {A : Type ℓ} (f g : ℕ → A) (i n : ℕ) → ((j : ℕ) → i ≤ j → j < i + n → f j ≡ g j) → map f (from i n) ≡ map g (from i n)
 map-from-same f g i zero h = refl
@@ -515,6 +526,60 @@ map-places f xs zero i h = refl
 map-places {A = A} f xs (suc n) i h =
     ap {B = List A} (λ t. f (getD xs i 0) ∷ t) (map-places f xs n (suc i) (omega arith))
     ∙ ap (λ (t : List ℕ). map f (take (suc n) t)) (sym (drop-cons xs i 0 (omega arith)))
+
+-- ---- Lists laid end to end
+
+module _ {A : Type 0} where
+  pub each-append : {B : Type 0} (f : A → List B) (xs ys : List A) → each f (xs ++ ys) ≡ each f xs ++ each f ys
+  each-append f [] ys = refl
+  each-append {B} f (x ∷ xs) ys = ap (λ (t : List B). f x ++ t) (each-append f xs ys) ∙ sym (append-assoc (f x) (each f xs) (each f ys))
+
+  pub each-cong : {B : Type 0} (f g : A → List B) (xs : List A) → ((x : A) → List·Memᴰ x xs → f x ≡ g x) → each f xs ≡ each g xs
+  each-cong f g [] h = refl
+  each-cong {B} f g (x ∷ xs) h = ap (λ (t : List B). t ++ each f xs) (h x here) ∙ ap (λ (t : List B). g x ++ t) (each-cong f g xs (λ y m. h y (List·Memᴰ·tail m)))
+
+  pub each-map : {B C : Type 0} (f : A → List B) (h : C → A) (xs : List C) → each f (map h xs) ≡ each (λ (x : C). f (h x)) xs
+  each-map f h [] = refl
+  each-map {B} f h (x ∷ xs) = ap (λ (t : List B). f (h x) ++ t) (each-map f h xs)
+
+pub each-from-shift : {B : Type 0} (f : ℕ → List B) (a i n : ℕ) → each f (from (a + i) n) ≡ each (λ (j : ℕ). f (a + j)) (from i n)
+each-from-shift f a i n = ap (each f) (from-shift a i n) ∙ each-map f (λ (j : ℕ). a + j) (from i n)
+
+-- ---- Pieces of one length
+
+module _ {A : Type 0} where
+  -- k pieces of n elements each, that stand end to end
+  abbrev pub pieces : ℕ → ℕ → List A → List (List A)
+  pieces k n xs = map (λ (i : ℕ). take n (drop (i * n) xs)) (from 0 k)
+
+  pub pieces-length : (k n : ℕ) (xs : List A) → length (pieces k n xs) ≡ k
+  pieces-length k n xs = length-map (from 0 k) (λ (i : ℕ). take n (drop (i * n) xs)) ∙ length-from 0 k
+
+  -- what stands behind n elements
+  pub drop-behind : (xs ys : List A) (n k : ℕ) → length xs ≡ n → drop (n + k) (xs ++ ys) ≡ drop k ys
+  drop-behind xs ys n k e = ap (λ (i : ℕ). drop (i + k) (xs ++ ys)) (sym e) ∙ drop-append-add xs ys k
+
+  -- a piece before others
+  pub pieces-cons : (k n : ℕ) (xs ys : List A) → length xs ≡ n → pieces (suc k) n (xs ++ ys) ≡ xs ∷ pieces k n ys
+  pieces-cons k n xs ys e =
+      ap₂ {C = List (List A)} (λ t ts. t ∷ ts)
+      (ap (λ (i : ℕ). take n (drop i (xs ++ ys))) (zero-mul n) ∙ take-at xs ys n e)
+      (map-from-shift (λ (i : ℕ). take n (drop (i * n) (xs ++ ys))) 1 0 k
+      ∙ map-from-same (λ (i : ℕ). take n (drop ((1 + i) * n) (xs ++ ys))) (λ (i : ℕ). take n (drop (i * n) ys)) 0 k (λ j h l. next j))
+    where
+      next : (j : ℕ) → take n (drop ((1 + j) * n) (xs ++ ys)) ≡ take n (drop (j * n) ys)
+      next j =
+          let l : (1 + j) * n ≡ n + j * n = omega (arith, add-mul 1 j n) in
+          ap (λ (i : ℕ). take n (drop i (xs ++ ys))) l ∙ ap (take n) (drop-behind xs ys n (j * n) e)
+
+  -- the pieces of the front
+  pub pieces-front : (k n : ℕ) (xs ys : List A) → length xs ≡ k * n → pieces k n (xs ++ ys) ≡ pieces k n xs
+  pieces-front k n xs ys e =
+      map-from-same (λ (i : ℕ). take n (drop (i * n) (xs ++ ys))) (λ (i : ℕ). take n (drop (i * n) xs)) 0 k
+      (λ j h l.
+      let p : j * n + n ≤ length xs = omega (arith, suc-mul j n, mul-le-mul-right {m = suc j} {n = k} n (omega arith)) in
+      ap (take n) (drop-append-le (j * n) xs ys (omega arith))
+      ∙ take-append-le n (drop (j * n) xs) ys (omega (arith, length-drop (j * n) xs)))
 
 -- ---- Sums
 

@@ -95,7 +95,7 @@ module _ (q : Request) where
   -- ---- Point 1
 
   -- every request is answered, and refused only for its first listed fault
-  pub answered : Answered q
+  pub answered : Answered q (reply q)
   unfolding reply accepted leaving
   answered =
       record {
@@ -108,7 +108,7 @@ module _ (q : Request) where
   -- ---- Point 2
 
   module _ (e : accepts q ≡ true) where
-    leftTuples-is : leftTuples q ≡ left
+    leftTuples-is : leftTuples q (reply q) ≡ left
     unfolding accepted leaving
     leftTuples-is =
         ap (λ (p : Reply). living (total N) (p .words)) (reply-accepted q e)
@@ -143,7 +143,7 @@ module _ (q : Request) where
         isSolution-empty N a left (lowestEmpty N left) low (not-true (any (has left) (idsOf N (lowestEmpty N left))) (lowestEmpty-first N left .passes low)) (solution-left a s)
 
     -- an accepted request leaves the largest consistent set and loses no solution
-    pub filtering : Filtered q
+    pub filtering : Filtered q (reply q)
     unfolding accepted leaving countsFor
     filtering =
         record {
@@ -152,9 +152,9 @@ module _ (q : Request) where
           alone = λ g h. ap (λ (X : TupleSet). has X g) leftTuples-is ∙ alone-left g h;
           solutions = λ a s. subst (λ (X : TupleSet). isSolution N X a ≡ true) (sym leftTuples-is) (solution-left a s);
           none = no-solution;
-          tells = subst (λ (p : Reply). Tells N (leftTuples q) (p .answer)) (sym (reply-accepted q e)) (subst (λ (X : TupleSet). Tells N X (answerNumbers (answerFor N left counts))) (sym leftTuples-is) (answerFor-tells N left counts refl));
-          marked = subst (λ (p : Reply). Marked N (leftTuples q) (q .words) (p .words)) (sym (reply-accepted q e)) (subst (λ (X : TupleSet). Marked N X (q .words) (written (total N) left (q .words))) (sym leftTuples-is) (marked-written N left (q .words)));
-          supports = subst (λ (p : Reply). Supports I (leftTuples q) (q .supports) (p .supports)) (sym (reply-accepted q e)) (subst (λ (X : TupleSet). Supports I X (q .supports) ((accepted q) .supports)) (sym leftTuples-is) (supports-consistent I left (q .supports) (largest-left .consistent)));
+          tells = subst (λ (p : Reply). Tells N (leftTuples q (reply q)) (p .answer)) (sym (reply-accepted q e)) (subst (λ (X : TupleSet). Tells N X (answerNumbers (answerFor N left counts))) (sym leftTuples-is) (answerFor-tells N left counts refl));
+          marked = subst (λ (p : Reply). Marked N (leftTuples q (reply q)) (q .words) (p .words)) (sym (reply-accepted q e)) (subst (λ (X : TupleSet). Marked N X (q .words) (written (total N) left (q .words))) (sym leftTuples-is) (marked-written N left (q .words)));
+          supports = subst (λ (p : Reply). Supports I (leftTuples q (reply q)) (q .supports) (p .supports)) (sym (reply-accepted q e)) (subst (λ (X : TupleSet). Supports I X (q .supports) ((accepted q) .supports)) (sym leftTuples-is) (supports-consistent I left (q .supports) (largest-left .consistent)));
           sum = subst (λ (p : Reply). (p .answer) .left + (p .answer) .withdrawn + (p .answer) .deleted ≡ count entry) (sym (reply-accepted q e)) (leaving-sum I (q .change) entry left (q .words) (q .supports));
         }
 
@@ -162,7 +162,7 @@ module _ (q : Request) where
 
 module _ (I : Instance) (ws : List ℕ) (calls : List Call) (proper : Proper I ws calls) where
   -- the strike rule
-  pub strike-rule : anyAccepted ws calls ≡ true → StrikeRule I ws calls
+  pub strike-rule : anyAccepted ws calls ≡ true → StrikeRule I ws calls (makeAll (start ws) calls)
   unfolding remaining leaving
   strike-rule h =
       let after = makeAll-accepted I ws calls proper h in
@@ -197,5 +197,5 @@ module _ (I : Instance) (ws : List ℕ) (calls : List Call) (proper : Proper I w
       (λ h lives removed chain. apart h lives removed (subst (λ (s : ℕ). Chain (combinationsOf I) s (relationOf (I .network) h)) (relationOf-ids (I .network) r m) chain))
       ∙ living-has n ws g below
 
-  pub local : Local I ws calls
+  pub local : Local I ws calls (makeAll (start ws) calls)
   local consistent r apart g m = local-case consistent r apart g m (anyAccepted ws calls) refl

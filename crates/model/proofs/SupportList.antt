@@ -1,7 +1,7 @@
 -- Laws of the support list by pairs of combination and member: where each tuple's numbers stand, and that a list with all of
 -- them is the support list. From the laws of lists laid end to end.
 use mathlib.Core.Path.{_≡_, refl, sym, _∙_, ap, subst}
-use mathlib.Core.List.{List, [], _∷_, _++_, map, append-assoc, List·Memᴰ, List·Memᴰ·tail}
+use mathlib.Core.List.{List, [], _++_, map}
 use Prim.Native.Nat.{ℕ, zero, suc, _+_, _*_, _/_, _≤_, _<_}
 use native.Mathlib.Nat.{add-zero, zero-add, add-suc, suc-add, zero-mul, add-mul, mul-le-mul-right, div-eq-of-lt-le}
 use native.Mathlib.Omega.{arith}
@@ -13,21 +13,12 @@ use Rattle.model.specs.Network.{Network, size, firstId, idsOf}
 use Rattle.model.specs.Combination.{Combination, combinations, pairCombination, pairMember}
 use Rattle.model.specs.Support.{firstSupport}
 use Rattle.model.specs.Consistency.{supportList, needed, supportStart}
-use Rattle.model.proofs.Lists.{here, from-mem, length-from, map-places, sum-take-suc, sum-take-le, from-append}
+use Rattle.model.proofs.Lists.{from-mem, length-from, map-places, from-append, each-append, each-cong, each-map, sum-take-suc, sum-take-le}
 use Rattle.model.proofs.Combination.{pair-length}
 use Rattle.model.proofs.Consistency.{each-length, sum-times, sum-same, supportList-length}
 use Rattle.model.proofs.Support.{firstSupport-length}
 
 -- ---- Lists laid end to end
-
-module _ {A : Type 0} where
-  pub each-append : {B : Type 0} (f : A → List B) (xs ys : List A) → each f (xs ++ ys) ≡ each f xs ++ each f ys
-  each-append f [] ys = refl
-  each-append {B} f (x ∷ xs) ys = ap (λ (t : List B). f x ++ t) (each-append f xs ys) ∙ sym (append-assoc (f x) (each f xs) (each f ys))
-
-  pub each-cong : {B : Type 0} (f g : A → List B) (xs : List A) → ((x : A) → List·Memᴰ x xs → f x ≡ g x) → each f xs ≡ each g xs
-  each-cong f g [] h = refl
-  each-cong {B} f g (x ∷ xs) h = ap (λ (t : List B). t ++ each f xs) (h x here) ∙ ap (λ (t : List B). g x ++ t) (each-cong f g xs (λ y m. h y (List·Memᴰ·tail m)))
 
 -- a list that holds the piece of each number of a range, one behind the other, begins with all of them
 each-from : {B : Type 0} (f : ℕ → List B) (len : ℕ → ℕ) (i n : ℕ) (list : List B) → ((k : ℕ) → k < n → take (len (i + k)) (drop (sum (map len (from i k))) list) ≡ f (i + k)) → take (sum (map len (from i n))) list ≡ each f (from i n)
@@ -51,10 +42,6 @@ each-part f list zero i h = refl
 each-part {B} f list (suc m) i h =
     ap (λ (t : List ℕ). each f (take (suc m) t)) (drop-cons list i 0 (omega arith))
     ∙ ap (λ (t : List B). f (getD list i 0) ++ t) (each-part f list m (suc i) (omega arith))
-
-each-map : {A B : Type 0} (f : A → List B) (h : ℕ → A) (xs : List ℕ) → each f (map h xs) ≡ each (λ (x : ℕ). f (h x)) xs
-each-map f h [] = refl
-each-map {A} {B} f h (x ∷ xs) = ap (λ (t : List B). f (h x) ++ t) (each-map f h xs)
 
 -- n ranges of m numbers, one behind the other
 each-blocks : {B : Type 0} (f : ℕ → List B) (m i n : ℕ) → each (λ (k : ℕ). each f (from (k * m) m)) (from i n) ≡ each f (from (i * m) (n * m))

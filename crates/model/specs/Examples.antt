@@ -1,10 +1,12 @@
 -- Document 01's examples P1 to P9, as one statement over their table.
 use mathlib.Core.Path.{_≡_, refl}
-use mathlib.Core.List.{List, [], _∷_, map}
+use mathlib.Core.Bool.{Bool, true, false}
+use mathlib.Core.Option.{Option, none, some}
+use mathlib.Core.List.{List, [], _∷_, _++_, map}
 use Prim.Native.Nat.{ℕ}
-use lib.ListN.{length, replicate, take, drop}
+use lib.ListN.{length, replicate, take, drop, set}
 use Rattle.model.specs.declared.Relation.{Relation}
-use Rattle.model.specs.Lists.{from}
+use Rattle.model.specs.Lists.{from, all, each}
 use Rattle.model.specs.TupleSet
 use Rattle.model.specs.Network
 use Rattle.model.specs.Network.{Network}
@@ -14,13 +16,14 @@ use Rattle.model.specs.Support
 use Rattle.model.specs.Consistency
 use Rattle.model.specs.LiveWords
 use Rattle.model.specs.Request
-use Rattle.model.specs.Request.{Request, Change, filter, withdraw, choose}
+use Rattle.model.specs.Request.{Instance, Request, Change, filter, withdraw, choose}
 use Rattle.model.specs.Fault
 use Rattle.model.specs.Reply
 use Rattle.model.specs.Reply.{Numbers, reply}
 use Rattle.model.specs.Text
 use Rattle.model.specs.Text.{textOf}
 use Rattle.model.specs.Reading
+use Rattle.model.specs.Reading.{read}
 use Rattle.model.specs.Listing
 use Rattle.model.specs.Listing.{listing}
 
@@ -200,3 +203,47 @@ listedA =
 input-A : listing (textOf linesA) ≡ textOf listedA
 unfolding linesA listedA Text.decimal Text.textOf Reading.readField Reading.readInstance Reading.read Listing.allLive Listing.fresh Listing.tupleLines Listing.replyLines Listing.listing relation asked numbers TupleSet.closure Network.relationOf Network.indexOf Network.scopeOf Network.valuesAt Network.tupleOf Agreement.fit Agreement.clash Agreement.agreeing Agreement.cellsOf Agreement.agree Agreement.share Combination.combinations Combination.connected Support.candidates Support.isSupport Support.supports Support.firstSupport Consistency.supported Consistency.filtered Consistency.supportList Consistency.needed LiveWords.bit LiveWords.isSet LiveWords.isLive LiveWords.living LiveWords.word LiveWords.written Request.removes Fault.faultsOn Fault.faults Reply.lowestEmpty Reply.answerFor Reply.remainder Reply.countsFor Reply.leaving Reply.accepted Reply.reply
 input-A = refl
+
+-- the text of n relations of w variables and h tuples, whose values are all v, and of k combinations of m
+book : ℕ → ℕ → ℕ → ℕ → ℕ → ℕ → List ℕ
+book n m k w h v =
+    textOf ((n ∷ m ∷ k ∷ []) ∷ (each (λ (r : ℕ). (w ∷ h ∷ []) ∷ replicate w 0 ∷ replicate h (replicate w v)) (from 0 n) ++ replicate k (replicate m 0)))
+
+-- the text 1,2,0 / 1,1 / 0 / 7
+short : List ℕ
+short = book 1 2 0 1 1 7
+
+damagedTexts : List (List ℕ)
+damagedTexts =
+    -- 0 and 65 relations, m 1 and 5, 257 combinations, 0 and 9 variables, 4,097 tuples, a value 65,536, over 65,536 bytes
+    book 0 2 0 1 1 7
+    ∷ book 65 2 0 1 1 7
+    ∷ book 1 1 1 1 1 7
+    ∷ book 1 5 1 1 1 7
+    ∷ book 1 2 257 1 1 7
+    ∷ book 1 2 0 0 1 7
+    ∷ book 1 2 0 9 1 7
+    ∷ book 17 2 0 1 241 7
+    ∷ book 1 2 0 1 1 65536
+    ∷ book 1 2 0 8 1365 65535
+    -- a leading nought, an empty field, a letter, no last newline, a byte behind the last line
+    ∷ (take 12 short ++ (48 ∷ 55 ∷ 10 ∷ []))
+    ∷ (take 12 short ++ (10 ∷ []))
+    ∷ set short 12 97
+    ∷ take 13 short
+    ∷ (short ++ (10 ∷ []))
+    ∷ []
+
+-- each is refused
+texts-refused : map read damagedTexts ≡ map (λ (t : List ℕ). none) damagedTexts
+unfolding damagedTexts book short Text.decimal Text.textOf Reading.readField Reading.readInstance Reading.read
+texts-refused = refl
+
+isRead : Option Instance → Bool
+isRead none = false
+isRead (some I) = true
+
+-- the largest numbers in range are read: 64 relations, m 4, 256 combinations, 8 variables, values 65,535; 4,096 tuples
+texts-read : all (λ (t : List ℕ). isRead (read t)) (short ∷ book 64 4 256 8 1 65535 ∷ book 16 2 0 1 256 7 ∷ []) ≡ true
+unfolding isRead book short Text.decimal Text.textOf Reading.readField Reading.readInstance Reading.read
+texts-read = refl

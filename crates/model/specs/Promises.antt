@@ -19,8 +19,8 @@ use Rattle.model.specs.Solution.{Assignment, isSolution}
 use Rattle.model.specs.LiveWords.{isLive, living}
 use Rattle.model.specs.Request.{Instance, combinationsOf, Request, removes}
 use Rattle.model.specs.Fault.{Fault, faults}
-use Rattle.model.specs.Reply.{Numbers, Reply, isEmptied, refused, reply}
-use Rattle.model.specs.Calls.{Call, start, makeAll, removedBy, starting, remaining}
+use Rattle.model.specs.Reply.{Numbers, Reply, isEmptied, refused}
+use Rattle.model.specs.Calls.{Call, State, removedBy, starting, remaining}
 
 -- ---- What an accepted call says and leaves of the tuples L
 
@@ -50,11 +50,11 @@ pub record Supports (I : Instance) (L : TupleSet) (lent after : List ℕ) : Type
 
 -- ---- Mission point 1
 
--- A request is answered Settled or Emptied where it has no listed fault. Otherwise the first fault in checking order is
--- its refusal number, and every list is as lent.
-pub record Answered (q : Request) : Type 0 where
-  pub accepted : ((f : Fault) → List·Memᴰ f (faults q) → f .1 ≡ false) → (((reply q) .answer) .kind ≡ 0) ⊎ (((reply q) .answer) .kind ≡ 1)
-  pub first : (before after : List Fault) (n : ℕ) → faults q ≡ before ++ ((n, true) ∷ after) → ((f : Fault) → List·Memᴰ f before → f .1 ≡ false) → reply q ≡ refused n q
+-- A request gets the reply p. It is answered Settled or Emptied where it has no listed fault. Otherwise the first fault in
+-- checking order is its refusal number, and every list is as lent.
+pub record Answered (q : Request) (p : Reply) : Type 0 where
+  pub accepted : ((f : Fault) → List·Memᴰ f (faults q) → f .1 ≡ false) → ((p .answer) .kind ≡ 0) ⊎ ((p .answer) .kind ≡ 1)
+  pub first : (before after : List Fault) (n : ℕ) → faults q ≡ before ++ ((n, true) ∷ after) → ((f : Fault) → List·Memᴰ f before → f .1 ≡ false) → p ≡ refused n q
 
 -- ---- Mission point 2
 
@@ -62,36 +62,36 @@ pub record Answered (q : Request) : Type 0 where
 abbrev pub givenTuples : Request → TupleSet
 givenTuples q = without (removes (q .given .network) (q .change)) (living (total (q .given .network)) (q .words))
 
--- the tuples that live after it
-abbrev pub leftTuples : Request → TupleSet
-leftTuples q = living (total (q .given .network)) ((reply q) .words)
+-- the tuples that live after it, where p is its reply
+abbrev pub leftTuples : Request → Reply → TupleSet
+leftTuples q p = living (total (q .given .network)) (p .words)
 
 -- The tuples left are the largest consistent set inside those given, the only such set; a relation in no combination keeps
 -- its tuples; no solution is lost, and Emptied means that none exists; the counts add up to the live tuples at entry.
-pub record Filtered (q : Request) : Type 0 where
-  pub largest : Largest (supported (q .given .network) (combinationsOf (q .given))) (givenTuples q) (leftTuples q)
-  pub only : (T : TupleSet) → length T ≡ total (q .given .network) → Largest (supported (q .given .network) (combinationsOf (q .given))) (givenTuples q) T → T ≡ leftTuples q
-  pub alone : (g : ℕ) → ((c : Combination) → List·Memᴰ c (combinationsOf (q .given)) → List·Memᴰ (relationOf (q .given .network) g) c → ⊥) → has (leftTuples q) g ≡ has (givenTuples q) g
-  pub solutions : (a : Assignment) → isSolution (q .given .network) (givenTuples q) a ≡ true → isSolution (q .given .network) (leftTuples q) a ≡ true
-  pub none : ((reply q) .answer) .kind ≡ 1 → (a : Assignment) → isSolution (q .given .network) (givenTuples q) a ≡ true → ⊥
-  pub tells : Tells (q .given .network) (leftTuples q) ((reply q) .answer)
-  pub marked : Marked (q .given .network) (leftTuples q) (q .words) ((reply q) .words)
-  pub supports : Supports (q .given) (leftTuples q) (q .supports) ((reply q) .supports)
-  pub sum : ((reply q) .answer) .left + ((reply q) .answer) .withdrawn + ((reply q) .answer) .deleted ≡ count (living (total (q .given .network)) (q .words))
+pub record Filtered (q : Request) (p : Reply) : Type 0 where
+  pub largest : Largest (supported (q .given .network) (combinationsOf (q .given))) (givenTuples q) (leftTuples q p)
+  pub only : (T : TupleSet) → length T ≡ total (q .given .network) → Largest (supported (q .given .network) (combinationsOf (q .given))) (givenTuples q) T → T ≡ leftTuples q p
+  pub alone : (g : ℕ) → ((c : Combination) → List·Memᴰ c (combinationsOf (q .given)) → List·Memᴰ (relationOf (q .given .network) g) c → ⊥) → has (leftTuples q p) g ≡ has (givenTuples q) g
+  pub solutions : (a : Assignment) → isSolution (q .given .network) (givenTuples q) a ≡ true → isSolution (q .given .network) (leftTuples q p) a ≡ true
+  pub none : (p .answer) .kind ≡ 1 → (a : Assignment) → isSolution (q .given .network) (givenTuples q) a ≡ true → ⊥
+  pub tells : Tells (q .given .network) (leftTuples q p) (p .answer)
+  pub marked : Marked (q .given .network) (leftTuples q p) (q .words) (p .words)
+  pub supports : Supports (q .given) (leftTuples q p) (q .supports) (p .supports)
+  pub sum : (p .answer) .left + (p .answer) .withdrawn + (p .answer) .deleted ≡ count (living (total (q .given .network)) (q .words))
 
 -- ---- Mission point 3
 
--- The strike rule, of a list with an accepted call: the words, and the last accepted call's supports, answer and tuples left
--- are those of one filtering of the starting tuples without all that accepted calls removed; and the number of starting
--- tuples is those left and all withdrawn and deleted.
-pub record StrikeRule (I : Instance) (ws : List ℕ) (calls : List Call) : Type 0 where
-  pub marked : Marked (I .network) (remaining I ws calls) ws ((makeAll (start ws) calls) .words)
+-- The strike rule, of a list with an accepted call and the state after it: the words, and the last accepted call's supports,
+-- answer and tuples left are those of one filtering of the starting tuples without all that accepted calls removed; and the
+-- number of starting tuples is those left and all withdrawn and deleted.
+pub record StrikeRule (I : Instance) (ws : List ℕ) (calls : List Call) (after : State) : Type 0 where
+  pub marked : Marked (I .network) (remaining I ws calls) ws (after .words)
   pub call : Call
   pub reply : Reply
-  pub last : (makeAll (start ws) calls) .last ≡ some (call, reply)
+  pub last : after .last ≡ some (call, reply)
   pub supports : Supports I (remaining I ws calls) (call .supports) (reply .supports)
   pub tells : Tells (I .network) (remaining I ws calls) (reply .answer)
-  pub sum : (reply .answer) .left + (makeAll (start ws) calls) .gone ≡ count (starting I ws)
+  pub sum : (reply .answer) .left + after .gone ≡ count (starting I ws)
 
 -- Relation r is apart from the calls: no chain of combinations joins it to a relation that holds a starting tuple which an
 -- accepted call removed, itself included.
@@ -100,11 +100,11 @@ Apart I ws calls r =
     (g : ℕ) → has (starting I ws) g ≡ true → removedBy I ws calls g ≡ true → Chain (combinationsOf I) r (relationOf (I .network) g) → ⊥
 
 -- From a consistent start, a relation apart from the calls keeps exactly its tuples.
-abbrev pub Local : Instance → List ℕ → List Call → Type 0
-Local I ws calls =
+abbrev pub Local : Instance → List ℕ → List Call → State → Type 0
+Local I ws calls after =
     Consistent (supported (I .network) (combinationsOf I)) (starting I ws)
     → (r : ℕ)
     → Apart I ws calls r
     → (g : ℕ)
     → List·Memᴰ g (idsOf (I .network) r)
-    → isLive ((makeAll (start ws) calls) .words) g ≡ isLive ws g
+    → isLive (after .words) g ≡ isLive ws g

@@ -2,13 +2,13 @@
 use mathlib.Core.Bool.{Bool, _&&_, cond}
 use mathlib.Core.List.{List, [], _∷_, _++_, map}
 use Prim.Native.Nat.{ℕ, zero, suc, _+_, _/_, _%_}
-use lib.Dec.{leb, ltb, eqb}
+use lib.Dec.{leb, ltb}
 use lib.ListN.{length}
-use Rattle.model.specs.Limits.{maxRelations, maxTuples, minMembers, maxMembers, maxCombinations}
+use Rattle.model.specs.Limits.{maxRelations, maxTuples, minMembers, maxMembers}
 use Rattle.model.specs.Lists.{from, all, each}
 use Rattle.model.specs.Network.{Network, width, size, total, idsOf, scopeOf, tupleOf}
 use Rattle.model.specs.Request.{Instance, combinationsOf}
-use Rattle.model.specs.Fault.{within, properWidth, properLengths}
+use Rattle.model.specs.Fault.{within, properWidth, properLengths, properList}
 
 -- "each at most 65,535"
 abbrev pub maxField : ℕ
@@ -53,11 +53,14 @@ textOf lines = each lineText lines
 abbrev pub relationLines : Network → ℕ → List (List ℕ)
 relationLines N r = (width N r ∷ size N r ∷ []) ∷ scopeOf N r ∷ map (tupleOf N) (idsOf N r)
 
+abbrev pub networkLines : Network → List (List ℕ)
+networkLines N = each (relationLines N) (from 0 (length (N .relations)))
+
 -- how many relations, m, how many combinations; each relation; each combination
 unfoldable pub instanceLines : Instance → List (List ℕ)
 instanceLines I =
     (length (I .network .relations) ∷ I .m ∷ length (combinationsOf I) ∷ [])
-    ∷ (each (relationLines (I .network)) (from 0 (length (I .network .relations))) ++ combinationsOf I)
+    ∷ (networkLines (I .network) ++ combinationsOf I)
 
 unfoldable pub instanceText : Instance → List ℕ
 instanceText I = textOf (instanceLines I)
@@ -65,15 +68,20 @@ instanceText I = textOf (instanceLines I)
 abbrev pub smallFields : List (List ℕ) → Bool
 smallFields lines = all (all (λ (n : ℕ). leb n maxField)) lines
 
--- the instance can be written as a text: its numbers are in range, its lists as long as its records call for, and the text is
+-- the records are in range, and the lists as long as they call for (no fault 2 to 5)
+abbrev pub properSizes : Network → Bool
+properSizes N =
+    within 1 maxRelations (length (N .relations))
+    && all properWidth (N .relations)
+    && leb (total N) maxTuples
+    && properLengths N
+
+-- the instance can be written as a text: its sizes are in range (no fault 7 or 8 either), its numbers small, and the text
 -- not too long
 unfoldable pub writable : Instance → Bool
 writable I =
-    within 1 maxRelations (length (I .network .relations))
+    properSizes (I .network)
     && within minMembers maxMembers (I .m)
-    && (eqb (length (I .members) % (I .m)) 0 && leb (length (combinationsOf I)) maxCombinations)
-    && all properWidth (I .network .relations)
-    && leb (total (I .network)) maxTuples
-    && properLengths (I .network)
+    && properList (I .m) (I .members)
     && smallFields (instanceLines I)
     && leb (length (instanceText I)) maxText

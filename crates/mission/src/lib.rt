@@ -1,0 +1,1 @@
+// What the calls promise together: specs/Mission.antt, the module to read first. There is no code here.
