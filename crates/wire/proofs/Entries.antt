@@ -3,7 +3,7 @@
 use mathlib.Core.Path.{_≡_, refl, sym, ap, _∙_}
 use mathlib.Core.List.{List, [], _∷_, _++_, append-assoc, append-nil}
 use Prim.Native.Nat.{ℕ, zero, suc, _+_, _*_, _/_, _%_, _^_, _≤_, _<_, min}
-use native.Mathlib.Nat.{mul-zero, mul-suc, pow-succ', pow-zero, add-comm, not-suc-le-zero}
+use native.Mathlib.Nat.{mul-zero, mul-suc, pow-succ', pow-zero, one-le-pow, add-comm, not-suc-le-zero}
 use native.Mathlib.Numerals.{add-one}
 use native.Mathlib.Omega.{arith}
 use lib.ListN.{length, take, drop, getD, set, length-append, length-drop, length-set, take-append-drop, drop-of-length-le}
@@ -96,6 +96,15 @@ entries-bytes k [] h = refl
 entries-bytes k (x ∷ xs) h =
     rw (take-at (bytesOf k x) (bytes k xs) k (bytesOf-length k x), drop-at (bytesOf k x) (bytes k xs) k (bytesOf-length k x), value-bytesOf k x (h 0), entries-bytes k xs (λ i. h (suc i)))
 
+-- entries of bytes are held by their width
+value-below : (k : ℕ) (bs : List ℕ) → Bytes bs → value (take k bs) < 256 ^ k
+value-below zero bs h = rw pow-zero (omega arith)
+value-below (suc k) [] h = one-le-pow (suc k) 256 (omega arith)
+value-below (suc k) (b ∷ bs) h =
+    let low : b < 256 = h 0 in
+    let rest : value (take k bs) < 256 ^ k = value-below k bs (λ i. h (suc i)) in
+    rw pow-succ' (omega arith)
+
 -- a part of a list of bytes is one
 take-bytes : (k : ℕ) (bs : List ℕ) → Bytes bs → Bytes (take k bs)
 take-bytes zero bs h i = omega arith
@@ -105,6 +114,11 @@ take-bytes (suc k) (b ∷ bs) h (suc i) = take-bytes k bs (λ j. h (suc j)) i
 
 drop-bytes : (k : ℕ) (bs : List ℕ) → Bytes bs → Bytes (drop k bs)
 drop-bytes k bs h i = rw getD-drop (h (k + i))
+
+pub entries-below : (k n : ℕ) (bs : List ℕ) → Bytes bs → (i : ℕ) → getD (entries k n bs) i 0 < 256 ^ k
+entries-below k zero bs h i = one-le-pow k 256 (omega arith)
+entries-below k (suc n) bs h zero = value-below k bs h
+entries-below k (suc n) bs h (suc i) = entries-below k n (drop k bs) (drop-bytes k bs h) i
 
 -- encoded from their entries, the bytes of whole entries are the same
 pub bytes-entries : (k n : ℕ) (bs : List ℕ) → length bs ≡ k * n → Bytes bs → bytes k (entries k n bs) ≡ bs
