@@ -1,6 +1,6 @@
 -- The calls on decoded lists are those on the bytes' whole lists.
 -- From the edges of replies, the laws of records taken apart, and the laws of entries.
-use mathlib.Core.Path.{_≡_, sym, ap, _∙_}
+use mathlib.Core.Path.{_≡_, refl, sym, ap, _∙_}
 use mathlib.Core.Bool.{Bool, true, false, cond, _&&_}
 use mathlib.Core.List.{List}
 use Prim.Native.Nat.{ℕ, _*_, _/_, _%_, _^_, _<_}
@@ -9,21 +9,22 @@ use borrow.Author.Tests.{eqb-true}
 use lib.ListN.{length, take}
 use Rattle.model.specs.Limits.{maxSupportNumbers}
 use Rattle.model.specs.Request.{Change}
-use Rattle.model.specs.Reply.{reply}
+use Rattle.model.specs.Reply.{reply, testReply, compareReply}
 use Rattle.model.specs.Edges.{maxVariables, maxValues, maxMemberList, maxWords, cutInstance}
 use Rattle.model.proofs.Bools.{and-left, and-right}
+use Rattle.model.proofs.Edges.{testReply-cut, compareReply-cut}
 use Rattle.network.specs.declared.Shape.{Shape}
-use Rattle.network.specs.Shape.{shapeOf}
-use Rattle.network.proofs.Records.{reply-shapeOf}
+use Rattle.network.specs.Shape.{shapeOf, networkOf}
+use Rattle.network.proofs.Records.{reply-shapeOf, testReply-shapeOf, compareReply-shapeOf}
 use Rattle.calls.specs.Checks.{instanceOf}
 use Rattle.changes.specs.Change.{request}
 use Rattle.wire.specs.Entries.{entries, entries16, entries64}
 use Rattle.wire.proofs.Entries.{Bytes, bytes-entries, entries-below}
 use Rattle.capi_parts.specs.Records.{records}
 use Rattle.capi_parts.specs.Whole.{whole, wholeInstance}
-use Rattle.capi_parts.specs.Packed.{outcome, encoded, writtenBack}
+use Rattle.capi_parts.specs.Packed.{encoded, writtenBack}
 use Rattle.capi_parts.proofs.Packed.{written-whole}
-use Rattle.capi.specs.Call.{instanceIn, notWhole, Lent, wholeLent, instanceLent, asked, answered}
+use Rattle.capi.specs.Call.{networkIn, instanceIn, Lent, wholeLent, instanceLent, asked}
 
 -- ---- Lists that are only read
 
@@ -34,6 +35,20 @@ module _ (sheets questions codes : List ℕ) (S : Shape) (Vs Ws : List ℕ) (es 
     decoded-reply words numbers change =
         (λ i. reply (request (instanceOf (es i) (ev i) (ew i) m (ec i)) words numbers change))
         ∙ reply-shapeOf (records sheets) (take 513 (entries16 questions)) (take 32769 (entries16 codes)) m (take 1025 (entries16 combinations)) words numbers change
+
+    pub decoded-test : (marks W : List ℕ) → W ≡ take 64 (entries 8 (length marks / 8) marks) → testReply (instanceOf S Vs Ws m C) W ≡ testReply (instanceIn sheets questions codes m combinations) (entries64 marks)
+    unfolding entries16 entries64
+    decoded-test marks W e =
+        (λ i. testReply (instanceOf (es i) (ev i) (ew i) m (ec i)) (e i))
+        ∙ testReply-shapeOf (records sheets) (take 513 (entries16 questions)) (take 32769 (entries16 codes)) m (take 1025 (entries16 combinations)) (take 64 (entries64 marks))
+        ∙ sym (testReply-cut (instanceIn sheets questions codes m combinations) (entries64 marks))
+
+  pub decoded-compare : (a b : ℕ) → compareReply (networkOf S Vs Ws) a b ≡ compareReply (networkIn sheets questions codes) a b
+  unfolding entries16
+  decoded-compare a b =
+      (λ i. compareReply (networkOf (es i) (ev i) (ew i)) a b)
+      ∙ compareReply-shapeOf (records sheets) (take 513 (entries16 questions)) (take 32769 (entries16 codes)) a b
+      ∙ sym (compareReply-cut (networkIn sheets questions codes) a b)
 
 -- ---- Lists that are written
 
@@ -58,11 +73,14 @@ whole-written L w =
     let both = and-right read (marks && supports) w in
     (eqb-true _ _ (and-left marks supports both), eqb-true _ _ (and-right marks supports both))
 
-module _ (L : Lent) (change : Change) (w : Bool) where
-  pub answered-not : w ≡ false → outcome notWhole (L .marks) (L .supports) ≡ answered w L change
-  unfolding answered
-  answered-not e = sym (ap (λ (b : Bool). cond b (encoded (reply (asked L change))) (outcome notWhole (L .marks) (L .supports))) e)
+module _ {A : Type 0} (x y : A) (w : Bool) where
+  pub cond-whole : w ≡ true → x ≡ cond w x y
+  cond-whole e = sym (ap (λ (b : Bool). cond b x y) e)
 
-  pub answered-whole : w ≡ true → encoded (reply (asked L change)) ≡ answered w L change
-  unfolding answered
-  answered-whole e = sym (ap (λ (b : Bool). cond b (encoded (reply (asked L change))) (outcome notWhole (L .marks) (L .supports))) e)
+  pub cond-not : w ≡ false → y ≡ cond w x y
+  cond-not e = sym (ap (λ (b : Bool). cond b x y) e)
+
+-- with no ids, the other lists decide
+pub whole-alone : (w : Bool) → (w && true) ≡ w
+whole-alone true = refl
+whole-alone false = refl

@@ -1,12 +1,12 @@
 -- `change_call` tests the lengths, and makes the call.
 -- From what the test and `change_bytes` ensure.
 use mathlib.Core.Path.{_≡_, sym, ap, _∙_}
-use Rattle.capi.proofs.Calls.{whole-written, answered-not, answered-whole}
+use Rattle.capi.proofs.Calls.{whole-written, cond-whole, cond-not}
 use mathlib.Core.Bool.{Bool, true, _&&_}
 use borrow.Author.Tests.{not-true, not-false, eq-eqb, ne-eqb}
 use lib.ListN.{length}
 use Rattle.capi_parts.specs.Whole.{whole}
-use Rattle.capi.specs.Call.{Lent, lent, wholeLent, changeIn}
+use Rattle.capi.specs.Call.{Lent, lent, wholeLent, answered}
 use borrow.Author.Needs.{needs}
 use Rattle.capi.proofs.change.change_call.Statement.{statement}
 use Rattle.capi.proofs.change.change_call.Tie as tie
@@ -26,14 +26,16 @@ change-whole-requires : tie.Need-change-whole-requires
 change-whole-requires c κs = search needs
 
 returns : tie.Need-returns
+unfolding answered
 returns c =
     let entry = c .before .before .before .before .before .before .before .before .before in
-    answered-not (given entry) (changeIn (entry .args .call) (entry .args .ids .now)) _ (ap (λ (b : Bool). b && ids-whole entry) (sym (c .before .change-whole .ensures) ∙ not-true _ (c .if1 .taken)))
+    cond-not _ _ _ (ap (λ (b : Bool). b && ids-whole entry) (sym (c .before .change-whole .ensures) ∙ not-true _ (c .if1 .taken)))
 
 returns-2 : tie.Need-returns-2
+unfolding answered
 returns-2 c =
     let entry = c .before .before .before .before .before .before .before .before .before .before in
-    answered-not (given entry) (changeIn (entry .args .call) (entry .args .ids .now)) _
+    cond-not _ _ _
     (ap (λ (b : Bool). b && ids-whole entry) (all-whole (c .before)) ∙ ne-eqb _ _ (c .if2 .taken))
 
 change-bytes-requires : tie.Need-change-bytes-requires
@@ -46,10 +48,11 @@ same-length-2 : tie.Need-same-length-2
 same-length-2 c = search needs
 
 returns-3 : tie.Need-returns-3
+unfolding answered
 returns-3 c =
     let entry = c .before .before .before .before .before .before .before .before .before .before .before .before .before .before .before .before .before in
     c .before .before .before .before .change-bytes .ensures
-    ∙ answered-whole (given entry) (changeIn (entry .args .call) (entry .args .ids .now)) _
+    ∙ cond-whole _ _ _
     (ap (λ (b : Bool). b && ids-whole entry) (all-whole (c .before .before .before .before .before .before .before .before)) ∙ eq-eqb _ _ (c .before .before .before .before .before .before .before .if2 .left))
 
 pub change-call-spec : {M : Type 1} → statement M
