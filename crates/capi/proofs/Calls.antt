@@ -23,7 +23,7 @@ use Rattle.wire.proofs.Entries.{Bytes, bytes-entries, entries-below}
 use Rattle.capi_parts.specs.Records.{records}
 use Rattle.capi_parts.specs.Whole.{whole, wholeInstance}
 use Rattle.capi_parts.specs.Packed.{encoded, writtenBack}
-use Rattle.capi_parts.proofs.Packed.{written-whole}
+use Rattle.capi_parts.proofs.Written.{written-whole}
 use Rattle.capi.specs.Call.{networkIn, instanceIn, Lent, wholeLent, instanceLent, asked}
 
 -- ---- Lists that are only read

@@ -1,51 +1,63 @@
--- Replies packed and written back: the subject of every reply fits its byte, and what is written over the bytes that were
--- decoded is what the whole lists hold.
--- From the laws of replies and of their edges, and the laws of entries.
+-- Answers packed: every reply's numbers fit their bits, so that they can be read back from the packed answer.
+-- From the laws of replies.
 use mathlib.Core.Logic.{⊎-elim}
-use mathlib.Core.Path.{_≡_, refl, sym, ap, _∙_}
+use mathlib.Core.Path.{_≡_, refl, ap, _∙_}
 use mathlib.Core.Bool.{Bool, true, false, cond}
 use mathlib.Core.Option.{Option, none, some}
-use mathlib.Core.List.{List, [], _∷_, _++_}
-use Prim.Native.Nat.{ℕ, _*_, _^_, _≤_, _<_}
-use native.Mathlib.Decide.{decLt, ℕ-discrete}
+use mathlib.Core.List.{List, [], _∷_}
+use Prim.Native.Nat.{ℕ, _+_, _*_, _/_, _%_, _≤_, _<_}
+use native.Mathlib.Nat.{add-comm, mul-comm}
+use native.Mathlib.Decide.{decLt}
 use native.Mathlib.Omega.{arith}
-use borrow.Author.Tests.{eq-eqb, ne-eqb, ltb-true}
-use lib.Dec.{eqb, ltb}
-use lib.ListN.{length, take, drop, getD, take-append-drop}
+use borrow.Author.Tests.{ltb-true}
+use lib.Arith.{digits-mod}
+use lib.Dec.{ltb}
+use lib.ListN.{length}
 use Rattle.model.specs.declared.Counts.{Counts}
-use Rattle.model.specs.Limits.{maxRelations, maxSupportNumbers}
+use Rattle.model.specs.Limits.{maxRelations}
 use Rattle.model.specs.Lists.{all}
 use Rattle.model.specs.TupleSet.{TupleSet}
 use Rattle.model.specs.Network.{Network, total}
 use Rattle.model.specs.LiveWords.{living}
 use Rattle.model.specs.Request.{Change, filter, withdraw, choose, Request}
 use Rattle.model.specs.Fault.{Fault, firstFault, refusal, changeFaults, faultsOn, faults, isNone, accepts}
-use Rattle.model.specs.Reply.{Reply, answerNumbers, lowestEmpty, answerFor, remainder, countsFor, leaving, accepted, replyTo, reply}
-use Rattle.model.specs.Edges.{maxWords, cutRequest, restored}
+use Rattle.model.specs.Reply.{Numbers, Reply, answerNumbers, lowestEmpty, answerFor, remainder, countsFor, leaving, accepted, replyTo, reply}
 use Rattle.model.proofs.Bools.{and-left, and-right}
+use Rattle.model.proofs.TupleSet.{count-length}
+use Rattle.model.proofs.LiveWords.{living-length}
 use Rattle.model.proofs.Fault.{faultless, accepts-network}
-use Rattle.model.proofs.Reply.{answer-emptied, answer-settled, answerFor-kind}
-use Rattle.model.proofs.Edges.{reply-cut, reply-lengths}
-use Rattle.wire.specs.Entries.{bytes}
-use Rattle.wire.proofs.Entries.{bytes-append, bytes-behind}
-use Rattle.capi_parts.specs.Packed.{packed, Outcome, outcome, encoded, over, writtenBack}
+use Rattle.model.proofs.Reply.{answer-emptied, answer-settled, answerFor-kind, leaving-sum}
+use Rattle.capi_parts.specs.Packed.{packedCounts, packed, unpacked}
 
-module _ (r : Reply) (marks supports : List ℕ) (n : ℕ) (p : n ≡ packed (r .answer)) where
-  -- a refusal writes nothing
-  pub back-refused : r .answer .kind ≡ 2 → outcome n marks supports ≡ writtenBack r marks supports
-  unfolding writtenBack
-  back-refused k =
-      ap (λ (a : ℕ). outcome a marks supports) p
-      ∙ sym (ap (λ (b : Bool). cond b (outcome (packed (r .answer)) marks supports) (outcome (packed (r .answer)) (over 8 (r .words) marks) (over 2 (r .supports) supports))) (eq-eqb _ _ k))
+-- The numbers fit their bits.
+pub record Fits (a : Numbers) : Type 0 where
+  pub kind : a .kind < 256
+  pub subject : a .subject < 256
+  pub left : a .left < 65536
+  pub withdrawn : a .withdrawn < 65536
+  pub deleted : a .deleted < 65536
 
-  -- every other answer writes both lists
-  pub back-accepted : (r .answer .kind ≡ 2 → ⊥) → (ms ss : List ℕ) → ms ≡ over 8 (r .words) marks → ss ≡ over 2 (r .supports) supports → outcome n ms ss ≡ writtenBack r marks supports
-  unfolding writtenBack
-  back-accepted k ms ss em es =
-      (λ i. outcome (p i) (em i) (es i))
-      ∙ sym (ap (λ (b : Bool). cond b (outcome (packed (r .answer)) marks supports) (outcome (packed (r .answer)) (over 8 (r .words) marks) (over 2 (r .supports) supports))) (ne-eqb _ _ k))
+-- the lowest bits of a number
+low-bits : (b n x y : ℕ) → n ≡ x + b * y → x < b → n % b ≡ x
+low-bits b n x y e h = ap (λ (k : ℕ). k % b) (e ∙ add-comm x (b * y) ∙ ap (λ (k : ℕ). k + x) (mul-comm b y)) ∙ digits-mod y h
 
--- ---- The subject of a reply fits its byte
+-- numbers that fit are read back
+pub unpacked-packed : (a : Numbers) → Fits a → unpacked (packed a) ≡ a
+unfolding unpacked
+unpacked-packed a f =
+    let p = packed a in
+    let from-subject : p / 256 ≡ a .subject + 256 * packedCounts (a .left) (a .withdrawn) (a .deleted) = omega (arith, f .kind) in
+    let from-left : p / 65536 ≡ packedCounts (a .left) (a .withdrawn) (a .deleted) = omega (arith, f .kind, f .subject) in
+    let from-withdrawn : p / 4294967296 ≡ a .withdrawn + 65536 * a .deleted = omega (arith, f .kind, f .subject, f .left) in
+    let from-deleted : p / 281474976710656 ≡ a .deleted = omega (arith, f .kind, f .subject, f .left, f .withdrawn) in
+    let k : p % 256 ≡ a .kind = omega (arith, f .kind) in
+    let s : p / 256 % 256 ≡ a .subject = low-bits 256 (p / 256) (a .subject) (packedCounts (a .left) (a .withdrawn) (a .deleted)) from-subject (f .subject) in
+    let l : p / 65536 % 65536 ≡ a .left = low-bits 65536 (p / 65536) (a .left) (a .withdrawn + 65536 * a .deleted) from-left (f .left) in
+    let w : p / 4294967296 % 65536 ≡ a .withdrawn = low-bits 65536 (p / 4294967296) (a .withdrawn) (a .deleted) from-withdrawn (f .withdrawn) in
+    let d : p / 281474976710656 % 65536 ≡ a .deleted = low-bits 65536 (p / 281474976710656) (a .deleted) 0 (omega (arith, from-deleted)) (f .deleted) in
+    λ i. record { kind = k i; subject = s i; left = l i; withdrawn = w i; deleted = d i }
+
+-- ---- The numbers of a reply
 
 refusal-below : (b : ℕ) → 0 < b → (fs : List Fault) → all (λ (f : Fault). ltb (f .0) b) fs ≡ true → refusal (firstFault fs) < b
 refusal-below b pos [] h = pos
@@ -57,83 +69,50 @@ refusal-below b pos (f ∷ fs) h =
     either true o here later = here
     either false o here later = later
 
-module _ (q : Request) where
-  change-numbers : (N : Network) (change : Change) → all (λ (f : Fault). ltb (f .0) 15) (changeFaults N change) ≡ true
-  change-numbers N filter = refl
-  change-numbers N (withdraw ids) = refl
-  change-numbers N (choose x v) = refl
+change-numbers : (N : Network) (change : Change) → all (λ (f : Fault). ltb (f .0) 15) (changeFaults N change) ≡ true
+change-numbers N filter = refl
+change-numbers N (withdraw ids) = refl
+change-numbers N (choose x v) = refl
 
+-- an answer's subject is 64 or a relation's number
+answer-subject : (N : Network) (L : TupleSet) (k : Counts) → length (N .relations) ≤ maxRelations → Dec (lowestEmpty N L < length (N .relations)) → answerNumbers (answerFor N L k) .subject < 256
+answer-subject N L k few (yes h) = omega (arith, h, few, ap (λ a. answerNumbers a .subject) (answer-emptied N L k h))
+answer-subject N L k few (no d) = omega (arith, ap (λ a. answerNumbers a .subject) (answer-settled N L k (omega arith)))
+
+module _ (q : Request) where
   fault-numbers : refusal (firstFault (faults q)) < 15
   unfolding faults faultsOn
   fault-numbers = refusal-below 15 (omega arith) (faults q) (change-numbers (q .given .network) (q .change))
 
-  -- an answer's subject is 64 or a relation's number
-  answer-subject : (N : Network) (L : TupleSet) (k : Counts) → length (N .relations) ≤ maxRelations → Dec (lowestEmpty N L < length (N .relations)) → (answerNumbers (answerFor N L k)) .subject < 256
-  answer-subject N L k few (yes h) = omega (arith, h, few, ap (λ a. (answerNumbers a) .subject) (answer-emptied N L k h))
-  answer-subject N L k few (no d) = omega (arith, ap (λ a. (answerNumbers a) .subject) (answer-settled N L k (omega arith)))
-
-  subject-of : (o : Option ℕ) → firstFault (faults q) ≡ o → ((replyTo o q) .answer) .subject < 256
+  fits-of : (o : Option ℕ) → firstFault (faults q) ≡ o → Fits (replyTo o q .answer)
   unfolding accepted leaving accepts
-  subject-of (some f) e = omega (arith, ap refusal e, fault-numbers)
-  subject-of none e =
+  fits-of (some f) e =
+      record { kind = omega arith; subject = omega (arith, ap refusal e, fault-numbers); left = omega arith; withdrawn = omega arith; deleted = omega arith }
+  fits-of none e =
       let I = q .given in
       let S = living (total (I .network)) (q .words) in
       let L = remainder I (q .change) S in
-      answer-subject (I .network) L (countsFor I (q .change) S) (faultless (I .network) (accepts-network q (ap isNone e)) .relations) (decLt (lowestEmpty (I .network) L) (length (I .network .relations)))
+      let k = countsFor I (q .change) S in
+      let ok = faultless (I .network) (accepts-network q (ap isNone e)) in
+      let low = decLt (lowestEmpty (I .network) L) (length (I .network .relations)) in
+      let sum = leaving-sum I (q .change) S L (q .words) (q .supports) in
+      let few = count-length S in
+      let all = living-length (total (I .network)) (q .words) in
+      record {
+        kind = ⊎-elim (λ h. omega (arith, h)) (λ h. omega (arith, h)) (answerFor-kind (I .network) L k low);
+        subject = answer-subject (I .network) L k (ok .relations) low;
+        left = omega (arith, sum, few, all, ok .tuples);
+        withdrawn = omega (arith, sum, few, all, ok .tuples);
+        deleted = omega (arith, sum, few, all, ok .tuples);
+      }
 
-  reply-subject : ((reply q) .answer) .subject < 256
+  pub reply-fits : Fits (reply q .answer)
   unfolding reply
-  reply-subject = subject-of (firstFault (faults q)) refl
+  reply-fits = fits-of (firstFault (faults q)) refl
+
+  -- what the packed answer says is what the reply says
+  pub reply-unpacked : unpacked (packed (reply q .answer)) ≡ reply q .answer
+  reply-unpacked = unpacked-packed (reply q .answer) reply-fits
 
   pub replied-subject : (r : Reply) → r ≡ reply q → r .answer .subject < 256
-  replied-subject r e = omega (arith, ap (λ (s : Reply). s .answer .subject) e, reply-subject)
-
-  -- ---- A refusal leaves the lists as lent
-
-  kept-of : (o : Option ℕ) → ((replyTo o q) .answer) .kind ≡ 2 → ((replyTo o q) .words ≡ q .words) × ((replyTo o q) .supports ≡ q .supports)
-  unfolding accepted leaving
-  kept-of (some f) e = (refl, refl)
-  kept-of none e =
-      let I = q .given in
-      let S = living (total (I .network)) (q .words) in
-      let L = remainder I (q .change) S in
-      absurd (⊎-elim (λ h. omega (arith, e, h)) (λ h. omega (arith, e, h)) (answerFor-kind (I .network) L (countsFor I (q .change) S) (decLt (lowestEmpty (I .network) L) (length (I .network .relations)))))
-
-  reply-kept : ((reply q) .answer) .kind ≡ 2 → ((reply q) .words ≡ q .words) × ((reply q) .supports ≡ q .supports)
-  unfolding reply
-  reply-kept e = kept-of (firstFault (faults q)) e
-
--- ---- What is written over the bytes that were decoded
-
-module _ (q : Request) (marks supports : List ℕ) (em : bytes 8 (q .words) ≡ marks) (es : bytes 2 (q .supports) ≡ supports) where
-  abbrev ended : Reply
-  ended = reply (cutRequest q)
-
-  -- the entries behind those that were decoded
-  abbrev other-words : List ℕ
-  other-words = drop maxWords (q .words)
-
-  abbrev other-numbers : List ℕ
-  other-numbers = drop maxSupportNumbers (q .supports)
-
-  -- as many entries as were decoded stand before the others
-  behind : (k j : ℕ) (xs ys bs : List ℕ) → bytes k xs ≡ bs → length ys ≡ length (take j xs) → over k ys bs ≡ bytes k (ys ++ drop j xs)
-  behind k j xs ys bs e l =
-      ap (λ (n : ℕ). bytes k ys ++ drop (k * n) bs) l
-      ∙ ap (λ (zs : List ℕ). bytes k ys ++ zs) (sym (bytes-behind k j xs bs e))
-      ∙ sym (bytes-append k ys (drop j xs))
-
-  written-case : Dec (ended .answer .kind ≡ 2) → writtenBack ended marks supports ≡ encoded (restored other-words other-numbers ended)
-  written-case (yes k) =
-      let kept = reply-kept (cutRequest q) k in
-      let wide : bytes 8 (ended .words ++ other-words) ≡ marks = ap (λ (ws : List ℕ). bytes 8 (ws ++ other-words)) (kept .0) ∙ ap (bytes 8) (take-append-drop maxWords (q .words)) ∙ em in
-      let long : bytes 2 (ended .supports ++ other-numbers) ≡ supports = ap (λ (ns : List ℕ). bytes 2 (ns ++ other-numbers)) (kept .1) ∙ ap (bytes 2) (take-append-drop maxSupportNumbers (q .supports)) ∙ es in
-      sym (back-refused ended marks supports (packed (ended .answer)) refl k) ∙ sym (λ i. outcome (packed (ended .answer)) (wide i) (long i))
-  written-case (no k) =
-      let lengths = reply-lengths (cutRequest q) in
-      sym (back-accepted ended marks supports (packed (ended .answer)) refl k _ _
-      (sym (behind 8 maxWords (q .words) (ended .words) marks em (lengths .0)))
-      (sym (behind 2 maxSupportNumbers (q .supports) (ended .supports) supports es (lengths .1))))
-
-  pub written-whole : ((i : ℕ) → i < length (q .words) → getD (q .words) i 0 < 2 ^ 64) → writtenBack ended marks supports ≡ encoded (reply q)
-  written-whole small = written-case (ℕ-discrete (ended .answer .kind) 2) ∙ ap encoded (sym (reply-cut q small))
+  replied-subject r e = omega (arith, ap (λ (s : Reply). s .answer .subject) e, reply-fits .subject)

@@ -1,10 +1,9 @@
 -- What a call from C gives and leaves.
 use mathlib.Core.Bool.{cond}
 use mathlib.Core.List.{List, _++_}
-use Prim.Native.Nat.{ℕ, _+_, _*_}
+use Prim.Native.Nat.{ℕ, _+_, _*_, _/_, _%_}
 use lib.Dec.{eqb}
 use lib.ListN.{length, drop}
-use Rattle.model.specs.declared.Counts.{Counts}
 use Rattle.model.specs.Reply.{Numbers, Reply}
 use Rattle.wire.specs.Entries.{bytes}
 
@@ -17,6 +16,17 @@ packedCounts left withdrawn deleted = left + 65536 * (withdrawn + 65536 * delete
 -- bits 0 to 7 the kind, 8 to 15 the subject, 16 to 31 left, 32 to 47 withdrawn, 48 to 63 deleted
 abbrev pub packed : Numbers → ℕ
 packed n = n .kind + 256 * (n .subject + 256 * packedCounts (n .left) (n .withdrawn) (n .deleted))
+
+-- the numbers read back from their bits
+unfoldable pub unpacked : ℕ → Numbers
+unpacked n =
+    record {
+      kind = n % 256;
+      subject = n / 256 % 256;
+      left = n / 65536 % 65536;
+      withdrawn = n / 4294967296 % 65536;
+      deleted = n / 281474976710656 % 65536;
+    }
 
 -- of test and compare: bits 0 to 7 the answer, 8 to 15 the refusal number
 abbrev pub packedPair : ℕ × ℕ → ℕ

@@ -2,7 +2,7 @@
 -- From what the answer's kind, its number and the stores ensure.
 use mathlib.Core.Path.{sym, _∙_}
 use Rattle.changes.specs.Change.{replied}
-use Rattle.capi_parts.proofs.Packed.{back-refused, back-accepted}
+use Rattle.capi_parts.proofs.Written.{back-refused, back-accepted}
 use borrow.Author.Needs.{needs}
 use Rattle.capi_parts.proofs.writing.write_back.Statement.{statement}
 use Rattle.capi_parts.proofs.writing.write_back.Tie as tie
