@@ -1,6 +1,7 @@
 // The five calls over a lent list of relation records.
 ghost use mathlib.Core.Path.{_≡_};
 ghost use Prim.Native.Nat.{_<_};
+ghost use Rattle.model.specs.Limits.{maxRelations};
 ghost use Rattle.model.specs.Request.{filter, withdraw, choose};
 ghost use Rattle.model.specs.Reply.{reply, verdictNumbers, testReply, comparisonNumbers, compareReply};
 ghost use Rattle.network.specs.Shape.{shapeOf};
@@ -33,7 +34,7 @@ fn blank(count: usize) -> Shape
 
 // The shape with record i taken apart.
 fn with_record(shape: Shape, i: usize, relation: Relation) -> Shape
-    requires { ⌜ i < 64 ⌝ }
+    requires { ⌜ i < maxRelations ⌝ }
     ensures { λ r. ⌜ r ≡ withRecord shape i relation ⌝ }
 {
     let mut next = shape;

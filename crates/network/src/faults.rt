@@ -24,7 +24,7 @@ pub struct Totals {
 }
 
 // Whether n is one of low to high.
-fn within(low: usize, high: usize, n: usize) -> bool
+pub fn within(low: usize, high: usize, n: usize) -> bool
     ensures { λ b. ⌜ b ≡ within low high n ⌝ }
 {
     if n < low {

@@ -20,7 +20,8 @@ use Rattle.network.proofs.comparison.compare.Symbol.{name as #network·comparis
 use Rattle.network.proofs.comparison.compare.Met as work-thm
 use Rattle.lent.specs.Records.{network}
 use Rattle.lent.proofs.Walk.{URA, named, w16, vint, SProp, ent, id⊢, flft, Memory, Routine, Heap, WpFn, Tables, Atoms, sem, Lfts, Shares, Fun, givenOf, tables, tablesOf, Given, ‵, raw, _⊛_, _$_, _∵_, !, qed, move, init, stop, from, no-more, land, enter, params1, pass1, pass0, fmOf, owns, flat, Are, Ises, RefT, now, slice-vals, uint-vals, uint-tells, shr-slice-tells, typesAt, u16, Contract, Triple, Args, Vals, alive, onEntry, Meets, tripleOf, entered, cited, ensured, lasts}
-use Rattle.lent.proofs.Pass.{sv, list-typed, others, allocated, operand, ShapeOf, records, takes-apart, answers, met, retold}
+use Rattle.lent.proofs.Locals.{sv, list-typed, others, allocated, operand, met, retold}
+use Rattle.lent.proofs.Pass.{ShapeOf, records, takes-apart, answers}
 use Rattle.lent.proofs.shape_of.Symbol as shape-of-def
 use Rattle.lent.proofs.shape_of.Symbol.{name as #lent·shape-of}
 use Rattle.lent.proofs.shape_of.Met as shape-of-thm
@@ -59,13 +60,16 @@ module _ {M : Type 1} (𝓤 : URA M) (H : Heap 𝓤) (A : Atoms 𝓤) (W : Given
   abbrev Told : Comparison → SProp 𝓤
   Told r = ensured 𝓤 H A f.ended (f.clauses 𝓤 H A mem run) κs a tt r
 
-  abbrev Is : Network → Comparison → Type 0
-  Is N r = comparisonNumbers r ≡ compareReply N g h
+  -- the reply on a network
+  abbrev Replies : Network → Comparison → Type 0
+  Replies N r = comparisonNumbers r ≡ compareReply N g h
 
   tells : (r : Comparison) → ent 𝓤 (Said r) (Told r)
   tells r =
-      retold 𝓤 (λ zs. (tt, zs .1)) (λ zs. sem 𝓤 H A (lasts f.ended κs a zs)) (λ zs. Is (networkOf (shapeOf (now relations)) (now variables) (now values)) r)
-      (λ zs. Is (network (now relations) (now variables) (now values)) r) (λ zs e. e ∙ compareReply-shapeOf (now relations) (now variables) (now values) g h)
+      retold 𝓤 (λ zs. (tt, zs .1)) (λ zs. sem 𝓤 H A (lasts f.ended κs a zs))
+      (λ zs. Replies (networkOf (shapeOf (now relations)) (now variables) (now values)) r)
+      (λ zs. Replies (network (now relations) (now variables) (now values)) r)
+      (λ zs e. e ∙ compareReply-shapeOf (now relations) (now variables) (now values) g h)
 
   walk : (𝓣 : Tables 𝓤 H) → Triple 𝓤 (𝓣 .C #lent·shape-of) (ShapeOf 𝓤 H A mem run) → Triple 𝓤 (𝓣 .C #network·comparison·compare) (Work 𝓤 H A mem run)
       → Are (typesAt (f.signature .params) κs) (Ises (typesAt (f.signature .params) κs)) a at
@@ -83,7 +87,7 @@ module _ {M : Type 1} (𝓤 : URA M) (H : Heap 𝓤) (A : Atoms 𝓤) (W : Given
       answers W (κs .0) (qs .0) relations R.the-row R′.mir (λ r w is. EL.lawful R.the-type R′.the-laws 𝓤 H A W tt .typed r (w ∷ []) is .0) tokens Said Told tells ! (fmOf 𝓤 H (W .laws) 𝓣)
       (Work 𝓤 H A mem run) known-work ((κs .1, qs .1, tt, b, (u ∷ [], at .1)), tt) u rest (id⊢ 𝓤 _) (λ w. id⊢ 𝓤 _) (bs .0) (others (code.function .locals)) (bs .1)
       (sv relations, (sv variables, (sv values, (vint w16 g, (vint w16 h, (u, tt))))))
-      (operand W ! 2 refl (operand W ! 2 refl (operand W ! 2 refl (operand W ! 2 refl (operand W ! 2 refl ((no-more !)))))))))
+      (operand W ! 2 refl (operand W ! 2 refl (operand W ! 2 refl (operand W ! 2 refl (operand W ! 2 refl (no-more !))))))))
 
 module _ {M : Type 1} (𝓤 : URA M) (H : Heap 𝓤) (A : Atoms 𝓤) (W : Given 𝓤 H A) (mem : Memory → SProp 𝓤) (run : Routine → Fun 𝓤) (𝓣 : Tables 𝓤 H)
     (known-shape : Triple 𝓤 (𝓣 .C #lent·shape-of) (ShapeOf 𝓤 H A mem run)) (known-work : Triple 𝓤 (𝓣 .C #network·comparison·compare) (Work 𝓤 H A mem run)) where

@@ -1,20 +1,10 @@
 /* Reads the independent program's requests or lists of calls (oracle.py requests|lists --plain) and holds the library's answers,
- * live words and support lists to its own: calls requests | calls lists. Every list lent stands on a block of its exact size. */
+ * live words and support lists to its own: driver requests | driver lists. */
+#include "request.h"
 #include <inttypes.h>
-#include <stdbool.h>
 #include <stdio.h>
 #include <stdlib.h>
 #include <string.h>
-
-#define BOOK const uint16_t *, size_t, const uint16_t *, size_t, const uint16_t *, size_t
-#define LISTS BOOK, uint16_t, const uint16_t *, size_t, uint64_t *, size_t, uint16_t *, size_t
-void trial_filter(LISTS, uint16_t *);
-void trial_withdraw(LISTS, const uint16_t *, size_t, uint16_t *);
-void trial_choose(LISTS, uint16_t, uint16_t, uint16_t *);
-uint32_t trial_test(BOOK, uint16_t, const uint16_t *, size_t, const uint64_t *, size_t);
-uint32_t trial_compare(BOOK, uint16_t, uint16_t);
-
-enum { FILTER, WITHDRAW, CHOOSE, TEST, COMPARE, CALLS };
 
 static bool read_number(uint64_t *x) { return scanf("%" SCNu64, x) == 1; }
 
@@ -23,16 +13,6 @@ static uint64_t number(void) {
     if (!read_number(&x)) exit(2);
     return x;
 }
-
-typedef struct {
-    size_t n;
-    uint64_t *at;
-} words;
-
-typedef struct {
-    size_t n;
-    uint16_t *at;
-} entries;
 
 static words read_words(void) {
     words l = {number(), NULL};
@@ -51,14 +31,6 @@ static entries read_entries(void) {
 static bool same_words(words a, words b) { return a.n == b.n && (a.n == 0 || !memcmp(a.at, b.at, a.n * sizeof *a.at)); }
 static bool same_entries(entries a, entries b) { return a.n == b.n && (a.n == 0 || !memcmp(a.at, b.at, a.n * sizeof *a.at)); }
 
-/* A request with the reply that is expected of it. */
-typedef struct {
-    uint64_t call;
-    uint16_t m, question, code;
-    entries records, questions, codes, members, supports, rows, answer, supports_after;
-    words marks, marks_after;
-} request;
-
 static void read_request(request *q, uint64_t call) {
     q->call = call;
     q->m = (uint16_t)number(), q->question = (uint16_t)number(), q->code = (uint16_t)number();
@@ -74,23 +46,11 @@ static void free_request(request *q) {
     free(q->marks.at), free(q->marks_after.at);
 }
 
-#define GIVEN q->records.at, q->records.n, q->questions.at, q->questions.n, q->codes.at, q->codes.n
-#define LENT GIVEN, q->m, q->members.at, q->members.n, marks.at, marks.n, q->supports.at, q->supports.n
-
-/* Makes the call on these marks; whether the answer, the marks and the supports are those expected. */
+/* Whether the answer, the marks and the supports are those expected. */
 static bool made(request *q, words marks) {
     uint16_t out[5] = {9, 9, 9, 9, 9};
-    uint32_t short_answer;
-    switch (q->call) {
-    case FILTER: trial_filter(LENT, out); break;
-    case WITHDRAW: trial_withdraw(LENT, q->rows.at, q->rows.n, out); break;
-    case CHOOSE: trial_choose(LENT, q->question, q->code, out); break;
-    default:
-        short_answer = q->call == TEST ? trial_test(GIVEN, q->m, q->members.at, q->members.n, marks.at, marks.n)
-                                       : trial_compare(GIVEN, q->rows.at[0], q->rows.at[1]);
-        out[0] = short_answer % 256, out[1] = (uint16_t)(short_answer / 256);
-    }
-    return !memcmp(out, q->answer.at, q->answer.n * sizeof *out) && same_words(marks, q->marks_after) && same_entries(q->supports, q->supports_after);
+    bool framed = put_to_library(q, marks, out);
+    return framed && !memcmp(out, q->answer.at, q->answer.n * sizeof *out) && same_words(marks, q->marks_after) && same_entries(q->supports, q->supports_after);
 }
 
 static bool next_request(bool *ok) {

@@ -1,0 +1,48 @@
+-- What a reply that is not a refusal gives to print it: no network fault, and enough live words.
+-- From the laws of replies and of faults.
+use mathlib.Core.Path.{_≡_, refl, sym, _∙_, ap}
+use mathlib.Core.Bool.{Bool, true, false}
+use mathlib.Core.List.{List}
+use Prim.Native.Nat.{ℕ}
+use native.Mathlib.Omega.{arith}
+use borrow.Author.Tests.{eq-eqb}
+use lib.Dec.{eqb}
+use lib.ListN.{length}
+use Rattle.model.specs.declared.Answer.{Answer}
+use Rattle.model.specs.Network.{total}
+use Rattle.model.specs.LiveWords.{living}
+use Rattle.model.specs.Request.{filter, Request}
+use Rattle.model.specs.Fault.{accepts}
+use Rattle.model.specs.Reply.{Reply, answerNumbers, remainder, accepted, leaving, reply}
+use Rattle.model.proofs.Bools.{not-both}
+use Rattle.model.proofs.LiveWords.{written-length}
+use Rattle.model.proofs.Fault.{accepts-network, accepts-words}
+use Rattle.model.proofs.Reply.{reply-accepted, reply-refused}
+use Rattle.network.specs.declared.Shape.{Shape}
+use Rattle.calls.specs.Checks.{instanceOf}
+use Rattle.changes.specs.Change.{request, replied}
+use Rattle.printing.specs.Lines.{Printable}
+
+-- a reply that is not of kind 2 is to a request without fault
+kind-accepts : (q : Request) (b : Bool) → accepts q ≡ b → eqb ((reply q) .answer .kind) 2 ≡ false → accepts q ≡ true
+kind-accepts q true e k = e
+kind-accepts q false e k =
+    let r = reply-refused q e in
+    absurd (not-both (eq-eqb _ _ (ap (λ (p : Reply). p .answer .kind) (r .1))) k)
+
+-- an accepted call leaves as many words as it was lent
+accepted-words : (q : Request) → length ((accepted q) .words) ≡ length (q .words)
+unfolding accepted leaving
+accepted-words q =
+    let I = q .given in
+    written-length (total (I .network)) (remainder I (q .change) (living (total (I .network)) (q .words))) (q .words)
+
+module _ (S : Shape) (variables values : List ℕ) (m : ℕ) (members words supports : List ℕ) where
+  abbrev q : Request
+  q = request (instanceOf S variables values m members) words supports filter
+
+  pub reply-printable : (a : Answer) (left numbers : List ℕ) → replied a left numbers ≡ reply q → eqb ((answerNumbers a) .kind) 2 ≡ false → Printable S values left
+  reply-printable a left numbers e k =
+      let fine = kind-accepts q (accepts q) refl (sym (ap (λ (p : Reply). eqb (p .answer .kind) 2) e) ∙ k) in
+      let long : length left ≡ length words = ap (λ (p : Reply). length (p .words)) (e ∙ reply-accepted q fine) ∙ accepted-words q in
+      record { variables = variables; faultless = accepts-network q fine; enough = omega (arith, accepts-words q fine) }

@@ -1,0 +1,23 @@
+-- `refused` writes the one line of a text that is not in the form.
+-- From what the line's writing ensures.
+use mathlib.Core.Path.{sym, _∙_}
+use mathlib.Core.List.{[], _∷_, append-nil}
+use Rattle.model.specs.Text.{lineText, textOf}
+use borrow.Author.Needs.{needs}
+use Rattle.desk.proofs.refused.Statement.{statement}
+use Rattle.desk.proofs.refused.Tie as tie
+
+slice-aggregate-line : tie.Need-slice-aggregate-line
+slice-aggregate-line c = search needs
+
+line-requires : tie.Need-line-requires
+line-requires c κs = search needs
+
+returns : tie.Need-returns
+unfolding textOf
+returns c =
+    let l = c .line .ensures in
+    (l .fits, l .front ∙ sym (append-nil (lineText (2 ∷ 1 ∷ 0 ∷ 0 ∷ []))))
+
+pub refused-spec : {M : Type 1} → statement M
+refused-spec = tie.close (tie.spec slice-aggregate-line line-requires returns)

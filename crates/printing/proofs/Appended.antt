@@ -1,0 +1,61 @@
+-- Laws of a text written behind what stands at a buffer's front: one byte, one text behind another, a text part by part; and
+-- how far it goes. From the definition alone.
+use mathlib.Core.Path.{_≡_, refl, sym, _∙_, ap, subst}
+use mathlib.Core.List.{List, [], _∷_, _++_, append-assoc, append-nil}
+use Prim.Native.Nat.{ℕ, _+_, _≤_, _<_}
+use native.Mathlib.Numerals.{add-one}
+use native.Mathlib.Omega.{arith}
+use lib.ListN.{length, take, set, length-append, length-set}
+use lib.Seq.{length-take-le, take-suc-set}
+use Rattle.printing.specs.Appended.{Appended}
+
+pub appended-byte : (before : List ℕ) (at x : ℕ) → at < length before → Appended (x ∷ []) before at (set before at x) (at + 1)
+appended-byte before at x h =
+    record { long = length-set before at x; fits = omega (arith, length-set before at x); front = rw add-one (take-suc-set before at x h) }
+
+pub appended-then : {s t : List ℕ} {before between after : List ℕ} {at k n : ℕ} → Appended s before at between k → Appended t between k after n → Appended (s ++ t) before at after n
+appended-then {s} {t} {before = before} {at = at} a b =
+    record {
+      long = b .long ∙ a .long;
+      fits = b .fits;
+      front = b .front ∙ ap (λ (u : List ℕ). u ++ t) (a .front) ∙ append-assoc (take at before) s t;
+    }
+
+-- the same text, written otherwise
+pub appended-same : {s t : List ℕ} {before after : List ℕ} {at n : ℕ} → s ≡ t → Appended s before at after n → Appended t before at after n
+appended-same {before} {after} {at} {n} e a = subst (λ (u : List ℕ). Appended u before at after n) e a
+
+-- where the text ends
+pub appended-end : {text before after : List ℕ} {at n : ℕ} → at ≤ length before → Appended text before at after n → n ≡ at + length text
+appended-end {text} {before} {after} {at} {n} h a =
+    let l : length (take n after) ≡ length (take at before) + length text = ap length (a .front) ∙ length-append (take at before) text in
+    omega (arith, l, length-take-le n after (a .fits), length-take-le at before h)
+
+-- ---- A text written part by part
+
+-- To write `rest` behind the k bytes at the front of `now` completes the writing of `whole` behind the `at` bytes of `before`.
+pub record Remains (rest : List ℕ) (now : List ℕ) (k : ℕ) (whole before : List ℕ) (at : ℕ) : Type 0 where
+  pub long : length now ≡ length before
+  pub fits : k ≤ length now
+  pub front : take k now ++ rest ≡ take at before ++ whole
+
+module _ {whole before : List ℕ} {at : ℕ} where
+  pub remains-all : at ≤ length before → Remains whole before at whole before at
+  remains-all h = record { long = refl; fits = h; front = refl }
+
+  pub remains-then : {s t now after : List ℕ} {k n : ℕ} → Remains (s ++ t) now k whole before at → Appended s now k after n → Remains t after n whole before at
+  remains-then {s} {t} {now = now} {k = k} r a =
+      record {
+        long = a .long ∙ r .long;
+        fits = a .fits;
+        front = ap (λ (u : List ℕ). u ++ t) (a .front) ∙ append-assoc (take k now) s t ∙ r .front;
+      }
+
+  pub remains-same : {s t now : List ℕ} {k : ℕ} → s ≡ t → Remains s now k whole before at → Remains t now k whole before at
+  remains-same {now = now} {k = k} e r = subst (λ (u : List ℕ). Remains u now k whole before at) e r
+
+  pub remains-last : {s now after : List ℕ} {k n : ℕ} → Remains s now k whole before at → Appended s now k after n → Appended whole before at after n
+  remains-last {s} {now} {after} r a = record { long = a .long ∙ r .long; fits = a .fits; front = a .front ∙ r .front }
+
+  pub remains-none : {now : List ℕ} {k : ℕ} → Remains [] now k whole before at → Appended whole before at now k
+  remains-none {now} {k} r = record { long = r .long; fits = r .fits; front = sym (append-nil (take k now)) ∙ r .front }

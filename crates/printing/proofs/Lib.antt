@@ -1,0 +1,6 @@
+-- The laws that the proofs of the functions use.
+pub mod Appended
+pub mod Lines
+pub mod Over
+pub mod Relations
+pub mod Reply

@@ -1,0 +1,35 @@
+-- `field` writes a number's digits and one byte behind them.
+-- From the length of decimals and the laws of texts written one behind another.
+use Prim.Native.Nat.{_<_}
+use native.Mathlib.Omega.{arith}
+use lib.ListN.{length}
+use Rattle.model.proofs.Text.{decimal-length}
+use Rattle.printing.proofs.Appended.{appended-byte, appended-then, appended-end}
+use borrow.Author.Needs.{needs}
+use Rattle.printing.proofs.text.field.Statement.{statement}
+use Rattle.printing.proofs.text.field.Tie as tie
+
+-- there is room behind the digits
+behind : (c : tie.After-digits) → c .digits .result < length (c .digits .last .0)
+behind c =
+    let entry = c .before .before .before in
+    let e = appended-end (omega (arith, entry .pre)) (c .digits .ensures) in
+    omega (arith, e, entry .pre, decimal-length (entry .args .v), c .digits .ensures .long)
+
+digits-requires : tie.Need-digits-requires
+digits-requires c κs = omega (arith, c .before .before .pre, decimal-length (c .before .before .args .v))
+
+slice-write-out : tie.Need-slice-write-out
+slice-write-out c = behind (c .before .before)
+
+add-result : tie.Need-add-result
+add-result c = search needs
+
+same-length : tie.Need-same-length
+same-length c = search needs
+
+returns : tie.Need-returns
+returns c = let d = c .before .before .digits in appended-then (d .ensures) (appended-byte (d .last .0) (d .result) _ (behind (c .before .before)))
+
+pub field-spec : {M : Type 1} → statement M
+field-spec = tie.close (tie.spec digits-requires slice-write-out add-result same-length returns)

@@ -1,0 +1,77 @@
+-- How a line is read field by field, and lines line by line, behind what was read before.
+-- From the definitions of `readLine` and `readLines`.
+use mathlib.Core.Path.{_≡_, refl, sym, ap, _∙_}
+use mathlib.Core.Bool.{Bool, true, false, cond}
+use mathlib.Core.Option.{none, some}
+use mathlib.Core.List.{List, [], _∷_, _++_, append-nil}
+use Prim.Native.Nat.{ℕ, zero, suc, _+_, _*_, _≤_, _<_}
+use native.Mathlib.Nat.{suc-mul, mul-le-mul-right}
+use native.Mathlib.Numerals.{add-one}
+use native.Mathlib.Omega.{arith}
+use lib.Dec.{eqb}
+use lib.ListN.{length, take, drop, set}
+use lib.Seq.{take-suc-set}
+use Rattle.model.specs.Text.{newline, comma}
+use Rattle.model.specs.Reading.{Read, andThen, readField, readLine, readLines}
+use Rattle.reading.specs.Parts.{foundAt, behind}
+use Rattle.reading.proofs.Found.{found-at, behind-behind, map-split, map-none}
+
+-- one entry more
+pub take-more : (xs : List ℕ) (i x : ℕ) → i < length xs → take (i + 1) (set xs i x) ≡ take i xs ++ (x ∷ [])
+take-more xs i x h = rw add-one (take-suc-set xs i x h)
+
+-- a field before j others
+module _ (j k : ℕ) (T us : List ℕ) (h : 0 < j) (q : k ≡ j + 1) where
+  pub line-stop : readField comma T ≡ none → behind us (readLine k T) ≡ none
+  line-stop e = rw q (go j h)
+    where
+      go : (i : ℕ) → 0 < i → behind us (readLine (i + 1) T) ≡ none
+      go zero p = absurd (omega arith)
+      go (suc i) p = rw (add-one (suc i), e)
+
+  pub line-more : (rest : List ℕ) (v : ℕ) → readField comma T ≡ some (v, rest) → behind us (readLine k T) ≡ behind (us ++ (v ∷ [])) (readLine j rest)
+  line-more rest v e = rw q (go j h)
+    where
+      go : (i : ℕ) → 0 < i → behind us (readLine (i + 1) T) ≡ behind (us ++ (v ∷ [])) (readLine i rest)
+      go zero p = absurd (omega arith)
+      go (suc i) p = rw (add-one (suc i), e) (behind-behind us (v ∷ []) (readLine (suc i) rest))
+
+-- the last field of a line
+pub line-last : (t T us : List ℕ) (next v : ℕ) → foundAt next v t ≡ readField newline T → foundAt next (us ++ (v ∷ [])) t ≡ behind us (readLine 1 T)
+line-last t T us next v h =
+    go (eqb next 0) ∙ ap (λ (R : Read ℕ). behind us (andThen R (λ (w : ℕ) (rest : List ℕ). some (w ∷ [], rest)))) h
+  where
+    go : (b : Bool) → cond b none (some (us ++ (v ∷ []), drop next t)) ≡ behind us (andThen (cond b none (some (v, drop next t))) (λ (w : ℕ) (rest : List ℕ). some (w ∷ [], rest)))
+    go true = refl
+    go false = refl
+
+lines-first : (j n : ℕ) (T us vs rest : List ℕ) → readLine n T ≡ some (vs, rest) → behind us (readLines (j + 1) n T) ≡ behind (us ++ vs) (readLines j n rest)
+lines-first j n T us vs rest e = rw (add-one, e) (behind-behind us vs (readLines j n rest))
+
+-- a line before j others
+module _ (j k n : ℕ) (t T us ws : List ℕ) (next : ℕ) (q : k ≡ j + 1) (h : foundAt next ws t ≡ behind us (readLine n T)) where
+  pub lines-stop : next ≡ 0 → behind us (readLines k n T) ≡ none
+  lines-stop z =
+      let e : readLine n T ≡ none = map-none (λ (vs : List ℕ). us ++ vs) t next ws (readLine n T) h z in
+      rw (q, add-one, e)
+
+  pub lines-more : (next ≡ 0 → ⊥) → behind us (readLines k n T) ≡ behind ws (readLines j n (drop next t))
+  lines-more z =
+      let s = map-split (λ (vs : List ℕ). us ++ vs) t next ws (readLine n T) h z in
+      ap (λ (i : ℕ). behind us (readLines i n T)) q
+      ∙ lines-first j n T us (s .0) (drop next t) (s .1)
+      ∙ ap (λ (vs : List ℕ). behind vs (readLines j n (drop next t))) (sym (s .2))
+
+-- no line is left
+pub lines-end : (n : ℕ) (t us : List ℕ) (at : ℕ) → 0 < at → foundAt at us t ≡ behind us (readLines 0 n (drop at t))
+lines-end n t us at h =
+    found-at t at us (λ (z : at ≡ 0). omega arith) ∙ ap (λ (xs : List ℕ). some (xs, drop at t)) (sym (append-nil us))
+
+-- the next line's entries lie among those of all lines
+pub line-inside : (i k n : ℕ) → i < k → i * n + n ≤ k * n
+line-inside i k n h = rw (sym (suc-mul i n)) (mul-le-mul-right n h)
+
+pub next-place : (start to i n : ℕ) → to ≡ start + i * n → to + n ≡ start + (i + 1) * n
+next-place start to i n e =
+    let m : (i + 1) * n ≡ i * n + n = rw add-one (suc-mul i n) in
+    omega arith

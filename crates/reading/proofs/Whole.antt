@@ -1,0 +1,148 @@
+-- How an instance is read from its heading, its relations and its combinations, and that nothing stands behind it.
+-- From the definitions of `readHeading`, `readInstance` and `read`.
+use mathlib.Core.Path.{_≡_, refl, sym, ap, _∙_}
+use mathlib.Core.Bool.{Bool, true, false, _&&_, cond}
+use mathlib.Core.Option.{none, some}
+use mathlib.Core.List.{List, []}
+use Prim.Native.Nat.{ℕ, _+_, _*_, _≤_, _<_}
+use native.Mathlib.Nat.{zero-add}
+use native.Mathlib.Omega.{arith}
+use borrow.Author.Tests.{le-leb, lt-leb, leb-true}
+use lib.Dec.{leb}
+use lib.ListN.{length, getD, take, drop-of-length-le}
+use lib.Seq.{drop-cons, length-take-le}
+use Rattle.model.specs.Limits.{maxRelations, maxTuples, minMembers, maxMembers, maxCombinations}
+use Rattle.model.specs.Network.{Network}
+use Rattle.model.specs.Request.{Instance}
+use Rattle.model.specs.Fault.{within}
+use Rattle.model.specs.Reading.{Read, andThen, readLine, readLines, readRelations, readInstance, whole, read}
+use Rattle.model.proofs.Bools.{and-left, and-right}
+use Rattle.reading.specs.declared.Book.{Book}
+use Rattle.reading.specs.Parts.{foundAt, mapRead, behind, Numbers, readHeading}
+use Rattle.reading.specs.Book.{found, Filled, Stands}
+use Rattle.reading.proofs.Found.{found-at, behind-nil, map-found, passed-test}
+
+-- ---- The heading
+
+abbrev allowed : List ℕ → Bool
+allowed head =
+    within 1 maxRelations (getD head 0 0) && (within minMembers maxMembers (getD head 1 0) && leb (getD head 2 0) maxCombinations)
+
+abbrev numbersOf : List ℕ → Numbers
+numbersOf head = record { relations = getD head 0 0; m = getD head 1 0; combinations = getD head 2 0 }
+
+module _ (T : List ℕ) where
+  pub heading-none : readLine 3 T ≡ none → readHeading T ≡ none
+  unfolding readHeading
+  heading-none e = rw e
+
+  module _ (head rest : List ℕ) (e : readLine 3 T ≡ some (head, rest)) (r m k : ℕ) (p : r ≡ getD head 0 0) (q : m ≡ getD head 1 0) (s : k ≡ getD head 2 0) where
+    heading-read : readHeading T ≡ cond (within 1 maxRelations r && (within minMembers maxMembers m && leb k maxCombinations)) (some (record { relations = r; m = m; combinations = k }, rest)) none
+    unfolding readHeading
+    heading-read = rw (e, p, q, s)
+
+    pub heading-relations : within 1 maxRelations r ≡ false → readHeading T ≡ none
+    heading-relations h = heading-read ∙ rw h
+
+    module _ (h : within 1 maxRelations r ≡ true) where
+      pub heading-m : within minMembers maxMembers m ≡ false → readHeading T ≡ none
+      heading-m l = heading-read ∙ rw (h, l)
+
+      module _ (l : within minMembers maxMembers m ≡ true) where
+        pub heading-many : maxCombinations < k → readHeading T ≡ none
+        heading-many c = heading-read ∙ rw (h, l, lt-leb k maxCombinations c)
+
+        pub heading-proper : k ≤ maxCombinations → readHeading T ≡ some (record { relations = r; m = m; combinations = k }, rest)
+        heading-proper c = heading-read ∙ rw (h, l, le-leb k maxCombinations c)
+
+-- a heading that was read has members
+pub heading-members : (T : List ℕ) (H : Numbers) (rest : List ℕ) → readHeading T ≡ some (H, rest) → 0 < H .m
+unfolding readHeading
+heading-members T H rest h =
+    let s = passed-test allowed numbersOf (readLine 3 T) H rest h in
+    let m : getD (s .0) 1 0 ≡ H .m = ap (λ (Q : Numbers). Q .m) (s .2) in
+    let sized = and-right (within 1 maxRelations (getD (s .0) 0 0)) (within minMembers maxMembers (getD (s .0) 1 0) && leb (getD (s .0) 2 0) maxCombinations) (s .1) in
+    let least : 2 ≤ getD (s .0) 1 0 = leb-true 2 (getD (s .0) 1 0) (and-left _ _ (and-left _ _ sized)) in
+    omega arith
+
+-- ---- The instance
+
+abbrev pub instanceWith : Numbers → Network → List ℕ → Instance
+instanceWith H N members = record { network = N; m = H .m; members = members }
+
+module _ (T : List ℕ) where
+  abbrev Parted : Type 0
+  Parted = readInstance T ≡ andThen (readHeading T) (λ (H : Numbers) (rest : List ℕ). andThen (readRelations (H .relations) maxTuples rest) (λ (N : Network) (rest' : List ℕ). mapRead (instanceWith H N) (readLines (H .combinations) (H .m) rest')))
+
+  parted-heading : (head rest : List ℕ) → readLine 3 T ≡ some (head, rest) → (b : Bool) → allowed head ≡ b → Parted
+  unfolding readInstance readHeading
+  parted-heading head rest e false q = rw (e, q)
+  parted-heading head rest e true q = rw (e, q)
+
+  parted-line : (L : Read (List ℕ)) → readLine 3 T ≡ L → Parted
+  unfolding readInstance readHeading
+  parted-line none e = rw e
+  parted-line (some r) e = parted-heading (r .0) (r .1) e (allowed (r .0)) refl
+
+  parted : Parted
+  parted = parted-line (readLine 3 T) refl
+
+  pub instance-none : readHeading T ≡ none → readInstance T ≡ none
+  instance-none e = parted ∙ rw e
+
+  module _ (H : Numbers) (rest : List ℕ) (e : readHeading T ≡ some (H, rest)) where
+    pub instance-broken : readRelations (H .relations) maxTuples rest ≡ none → readInstance T ≡ none
+    instance-broken h = parted ∙ rw (e, h)
+
+    instance-listed : (N : Network) (rest' : List ℕ) → readRelations (H .relations) maxTuples rest ≡ some (N, rest') → readInstance T ≡ mapRead (instanceWith H N) (readLines (H .combinations) (H .m) rest')
+    instance-listed N rest' h = parted ∙ rw (e, h)
+
+    -- once the members stand in their list
+    pub instance-found : (N : Network) (rest' t ms : List ℕ) (next : ℕ) → readRelations (H .relations) maxTuples rest ≡ some (N, rest')
+        → foundAt next (take (0 + H .combinations * H .m) ms) t ≡ behind [] (readLines (H .combinations) (H .m) rest') → readInstance T ≡ foundAt next (instanceWith H N (take (H .combinations * H .m) ms)) t
+    instance-found N rest' t ms next h l =
+        let n : 0 + H .combinations * H .m ≡ H .combinations * H .m = zero-add (H .combinations * H .m) in
+        instance-listed N rest' h
+        ∙ ap (mapRead (instanceWith H N)) (sym (ap (λ (i : ℕ). foundAt next (take i ms) t) (sym n) ∙ l ∙ behind-nil (readLines (H .combinations) (H .m) rest')))
+        ∙ map-found (instanceWith H N) t next (take (H .combinations * H .m) ms)
+
+-- ---- The text
+
+module _ (t : List ℕ) where
+  pub read-long : 65536 < length t → read t ≡ none
+  unfolding read
+  read-long h = rw (lt-leb (length t) 65536 h)
+
+  module _ (h : length t ≤ 65536) where
+    read-whole : read t ≡ whole (readInstance t)
+    unfolding read
+    read-whole = rw (le-leb (length t) 65536 h)
+
+    pub read-none : readInstance t ≡ none → read t ≡ none
+    read-none e = read-whole ∙ ap whole e
+
+    module _ (I : Instance) (next : ℕ) (e : readInstance t ≡ foundAt next I t) where
+      -- something stands behind the instance
+      pub read-more : (next ≡ 0 → ⊥) → next < length t → read t ≡ none
+      read-more n l =
+          let rest = drop-cons t next 0 l in
+          read-whole ∙ ap whole (e ∙ found-at t next I n ∙ ap (λ (bs : List ℕ). some (I, bs)) rest)
+
+      pub read-some : (next ≡ 0 → ⊥) → length t ≤ next → read t ≡ some I
+      read-some n l = read-whole ∙ ap whole (e ∙ found-at t next I n ∙ ap (λ (bs : List ℕ). some (I, bs)) (drop-of-length-le t l))
+
+-- ---- What stands in the lists
+
+pub filled : (n : ℕ) (xs : List ℕ) → n ≤ length xs → Filled n xs
+filled n xs h = record { within = h; count = sym (length-take-le n xs h) }
+
+-- nothing was read
+pub stands-none : (t : List ℕ) (b : Book) (vs xs ms : List ℕ) → read t ≡ none → (b .ok ≡ false) × ((b .variables ≡ 0) × ((b .values ≡ 0) × (b .members ≡ 0))) → Stands t b vs xs ms
+stands-none t b vs xs ms e h =
+    let absent : found b vs xs ms ≡ none = rw (h .0) in
+    record {
+      is-read = absent ∙ sym e;
+      variables-filled = filled (b .variables) vs (omega (arith, h .1 .0));
+      values-filled = filled (b .values) xs (omega (arith, h .1 .1 .0));
+      members-filled = filled (b .members) ms (omega (arith, h .1 .1 .1));
+    }

@@ -1,0 +1,122 @@
+-- `fields::digits` meets its contract. The loop's invariant: what is still to read from position i on, v having been read, is
+-- what was to read.
+-- From how a field is read byte by byte.
+use mathlib.Core.Path.{_≡_, refl, sym, _∙_}
+use Prim.Native.Nat.{_-_, _<_}
+use native.Mathlib.Omega.{arith}
+use borrow.Author.Needs.{needs}
+use lib.ListN.{length, drop}
+use Rattle.model.specs.Reading.{readDigits}
+use Rattle.reading.proofs.Found.{positive, found-past}
+use Rattle.reading.proofs.Bytes.{digit-low, digit-high, digit-is, digits-past, digits-end, digits-stop, digits-nought, digits-large, digits-more}
+use Rattle.reading.proofs.fields.digits.Statement.{statement}
+use Rattle.reading.proofs.fields.digits.Tie as tie
+
+abbrev Inv-loop : tie.InvT-loop
+Inv-loop text from first end v₀ i₀ v i = (v < 65536) × (readDigits end v (drop i text) ≡ readDigits end first (drop from text))
+
+abbrev μ-loop : tie.MeasureT-loop
+μ-loop text from first end v₀ i₀ v i = length text - i
+
+loop-holds : tie.Need-loop-holds Inv-loop μ-loop
+loop-holds c = (search needs, refl)
+
+shared-slice-read-b : tie.Need-shared-slice-read-b Inv-loop μ-loop
+shared-slice-read-b c = search needs
+
+add-next : tie.Need-add-next Inv-loop μ-loop
+add-next c = search needs
+
+returns : tie.Need-returns Inv-loop μ-loop
+returns c =
+    let a = c .before .before .before .before .args in
+    let l = c .before .before .before .loop in
+    found-past (a .text .now) (l .i) (l .v) ∙ sym (digits-end (a .text .now) (a .end) (l .i) (l .v) (c .before .before .loop-test .taken) (c .if1 .taken)) ∙ l .inv .1
+
+cast-w : tie.Need-cast-w Inv-loop μ-loop
+cast-w c = search needs
+
+mul-w : tie.Need-mul-w Inv-loop μ-loop
+mul-w c = search needs
+
+cast-w-2 : tie.Need-cast-w-2 Inv-loop μ-loop
+cast-w-2 c = omega arith
+
+add-w : tie.Need-add-w Inv-loop μ-loop
+add-w c = omega arith
+
+cast-v : tie.Need-cast-v Inv-loop μ-loop
+cast-v c = search needs
+
+add-i : tie.Need-add-i Inv-loop μ-loop
+add-i c = search needs
+
+loop-less : tie.Need-loop-less Inv-loop μ-loop
+loop-less c = search needs
+
+loop-again : tie.Need-loop-again Inv-loop μ-loop
+loop-again c =
+    let turn = c .before .before .before .before .before .before in
+    let a = turn .before .before .args in
+    let l = turn .before .loop in (
+      search needs,
+      sym (digits-more (a .text .now) (a .end) (l .i) (l .v) (turn .loop-test .taken) (c .before .before .before .before .if1 .left) (digit-is _ (c .before .before .before .if2 .left) (c .before .before .if3 .left)) (positive (l .v) (c .before .if4 .left)) (omega (arith, c .if5 .left))) ∙ l .inv .1,
+    )
+
+returns-2 : tie.Need-returns-2 Inv-loop μ-loop
+returns-2 c =
+    let a = c .before .before .args in
+    let l = c .before .loop in
+    sym (digits-past (a .text .now) (a .end) (l .i) (l .v) (c .loop-test .left)) ∙ l .inv .1
+
+returns-3 : tie.Need-returns-3 Inv-loop μ-loop
+returns-3 c =
+    let turn = c .before .before .before in
+    let a = turn .before .before .args in
+    let l = turn .before .loop in
+    sym (digits-stop (a .text .now) (a .end) (l .i) (l .v) (turn .loop-test .taken) (c .before .if1 .left) (digit-low _ (c .if2 .taken))) ∙ l .inv .1
+
+returns-4 : tie.Need-returns-4 Inv-loop μ-loop
+returns-4 c =
+    let turn = c .before .before .before .before in
+    let a = turn .before .before .args in
+    let l = turn .before .loop in
+    sym (digits-stop (a .text .now) (a .end) (l .i) (l .v) (turn .loop-test .taken) (c .before .before .if1 .left) (digit-high _ (c .if3 .taken))) ∙ l .inv .1
+
+returns-5 : tie.Need-returns-5 Inv-loop μ-loop
+returns-5 c =
+    let turn = c .before .before .before .before .before in
+    let a = turn .before .before .args in
+    let l = turn .before .loop in
+    sym (digits-nought (a .text .now) (a .end) (l .i) (l .v) (turn .loop-test .taken) (c .before .before .before .if1 .left) (digit-is _ (c .before .before .if2 .left) (c .before .if3 .left)) (c .if4 .taken)) ∙ l .inv .1
+
+returns-6 : tie.Need-returns-6 Inv-loop μ-loop
+returns-6 c =
+    let turn = c .before .before .before .before .before .before in
+    let a = turn .before .before .args in
+    let l = turn .before .loop in
+    sym (digits-large (a .text .now) (a .end) (l .i) (l .v) (turn .loop-test .taken) (c .before .before .before .before .if1 .left) (digit-is _ (c .before .before .before .if2 .left) (c .before .before .if3 .left)) (positive (l .v) (c .before .if4 .left)) (omega (arith, c .if5 .taken))) ∙ l .inv .1
+
+pub digits-spec : {M : Type 1} → statement M
+digits-spec =
+    tie.close
+    (tie.spec
+    Inv-loop
+    μ-loop
+    loop-holds
+    shared-slice-read-b
+    add-next
+    returns
+    cast-w
+    mul-w
+    cast-w-2
+    add-w
+    cast-v
+    add-i
+    loop-less
+    loop-again
+    returns-2
+    returns-3
+    returns-4
+    returns-5
+    returns-6)

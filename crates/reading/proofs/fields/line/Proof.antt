@@ -1,0 +1,136 @@
+-- `fields::line` meets its contract. The loop's invariant: what is still to read, behind the entries before `to`, is the whole line
+-- behind those before `start`.
+-- From how a line is read field by field, and the contract of `fields::field`.
+use mathlib.Core.Path.{_≡_, sym, ap, ap₂, _∙_}
+use mathlib.Core.List.{List}
+use Prim.Native.Nat.{ℕ, _+_, _-_, _≤_, _<_}
+use native.Mathlib.Omega.{arith}
+use lib.ListN.{length, take, drop, set, length-set}
+use borrow.Author.Needs.{needs}
+use Rattle.model.specs.Reading.{readLine}
+use Rattle.reading.specs.Parts.{foundAt, behind}
+use Rattle.reading.proofs.Found.{found-at, found-none}
+use Rattle.reading.proofs.Lines.{take-more, line-stop, line-more, line-last}
+use Rattle.reading.proofs.fields.line.Statement.{statement}
+use Rattle.reading.proofs.fields.line.Tie as tie
+
+abbrev Inv-loop : tie.InvT-loop
+Inv-loop text at n into₀ start last from₀ to₀ into from to =
+    (start ≤ to)
+    × ((to < start + n)
+    × ((length into ≡ length into₀)
+    × (behind (take to into) (readLine (start + n - to) (drop from text)) ≡ behind (take start into₀) (readLine n (drop at text)))))
+
+abbrev μ-loop : tie.MeasureT-loop
+μ-loop text at n into₀ start last from₀ to₀ into from to = last - to
+
+add-last : tie.Need-add-last Inv-loop μ-loop
+add-last c = search needs
+
+sub-last : tie.Need-sub-last Inv-loop μ-loop
+sub-last c = search needs
+
+loop-holds : tie.Need-loop-holds Inv-loop μ-loop
+loop-holds c =
+    let a = c .before .before .args in
+    let e : a .start + a .n - a .start ≡ a .n = omega arith in
+    (search needs, (search needs, (search needs, ap (λ (k : ℕ). behind (take (a .start) (a .into .now)) (readLine k (drop (a .at) (a .text .now)))) e)))
+
+field-requires : tie.Need-field-requires Inv-loop μ-loop
+field-requires c κs = search needs
+
+same-length : tie.Need-same-length Inv-loop μ-loop
+same-length c = search needs
+
+returns : tie.Need-returns Inv-loop μ-loop
+returns c =
+    let turn = c .before .before .before in
+    let a = turn .before .before .before .before .args in
+    let l = turn .before .loop in
+    let f = c .before .before .field in
+    let stops = sym (f .ensures) ∙ found-none (a .text .now) (f .result .next) (f .result .value) (c .if1 .taken) in
+    sym (line-stop (a .start + a .n - (l .to + 1)) (a .start + a .n - l .to) (drop (l .from) (a .text .now)) (take (l .to) (l .into)) (omega arith) (omega arith) stops)
+    ∙ l .inv .1 .1 .1
+
+mul-into : tie.Need-mul-into Inv-loop μ-loop
+mul-into c = search needs
+
+slice-write-into : tie.Need-slice-write-into Inv-loop μ-loop
+slice-write-into c = search needs
+
+add-to : tie.Need-add-to Inv-loop μ-loop
+add-to c = search needs
+
+loop-less : tie.Need-loop-less Inv-loop μ-loop
+loop-less c = search needs
+
+loop-again : tie.Need-loop-again Inv-loop μ-loop
+loop-again c =
+    let turn = c .before .before .before in
+    let a = turn .before .before .before .before .args in
+    let l = turn .before .loop in
+    let f = c .before .before .field in
+    let j = a .start + a .n - (l .to + 1) in
+    let reads = sym (f .ensures) ∙ found-at (a .text .now) (f .result .next) (f .result .value) (c .if1 .left) in (
+      search needs,
+      (
+        search needs,
+        (
+          length-set (l .into) (l .to) (f .result .value) ∙ l .inv .1 .1 .0,
+          ap (λ (us : List ℕ). behind us (readLine j (drop (f .result .next) (a .text .now)))) (take-more (l .into) (l .to) (f .result .value) (omega arith))
+              ∙ sym (line-more j (a .start + a .n - l .to) (drop (l .from) (a .text .now)) (take (l .to) (l .into)) (omega arith) (omega arith) (drop (f .result .next) (a .text .now)) (f .result .value) reads)
+              ∙ l .inv .1 .1 .1,
+        ),
+      ),
+    )
+
+field-requires-2 : tie.Need-field-requires-2 Inv-loop μ-loop
+field-requires-2 c κs = search needs
+
+mul-into-2 : tie.Need-mul-into-2 Inv-loop μ-loop
+mul-into-2 c = search needs
+
+slice-write-into-2 : tie.Need-slice-write-into-2 Inv-loop μ-loop
+slice-write-into-2 c = search needs
+
+same-length-2 : tie.Need-same-length-2 Inv-loop μ-loop
+same-length-2 c = search needs
+
+returns-2 : tie.Need-returns-2 Inv-loop μ-loop
+returns-2 c =
+    let a = c .before .before .before .before .before .args in
+    let l = c .before .before .loop in
+    let f = c .field2 in
+    let last = a .start + a .n - 1 in
+    let t = a .text .now in
+    let all : a .start + a .n ≡ last + 1 = omega arith in
+    let here : last ≡ l .to = omega arith in
+    let one : 1 ≡ a .start + a .n - l .to = omega arith in
+    ap (λ (k : ℕ). foundAt (f .result .next) (take k (set (l .into) last (f .result .value))) t) all
+    ∙ ap (λ (us : List ℕ). foundAt (f .result .next) us t) (take-more (l .into) last (f .result .value) (omega arith))
+    ∙ line-last t (drop (l .from) t) (take last (l .into)) (f .result .next) (f .result .value) (f .ensures)
+    ∙ ap₂ (λ (i k : ℕ). behind (take i (l .into)) (readLine k (drop (l .from) t))) here one
+    ∙ l .inv .1 .1 .1
+
+pub line-spec : {M : Type 1} → statement M
+line-spec =
+    tie.close
+    (tie.spec
+    Inv-loop
+    μ-loop
+    add-last
+    sub-last
+    loop-holds
+    field-requires
+    same-length
+    returns
+    mul-into
+    slice-write-into
+    add-to
+    loop-less
+    loop-again
+    field-requires-2
+    mul-into-2
+    slice-write-into-2
+    same-length-2
+    returns-2)

@@ -1,0 +1,126 @@
+-- `fields::lines` meets its contract. The loop's invariant: the lines still to read, behind the entries before `to`, are all lines
+-- behind the entries before `start`.
+-- From how lines are read line by line, and the contract of `fields::line`.
+use mathlib.Core.Path.{_≡_, sym, ap, _∙_}
+use Prim.Native.Nat.{ℕ, _+_, _*_, _-_, _≤_, _<_}
+use native.Mathlib.Nat.{sub-zero}
+use native.Mathlib.Omega.{arith}
+use lib.ListN.{length, take, drop}
+use borrow.Author.Needs.{needs}
+use Rattle.model.specs.Reading.{readLines}
+use Rattle.reading.specs.Parts.{foundAt, behind}
+use Rattle.reading.proofs.Found.{positive}
+use Rattle.reading.proofs.Lines.{lines-stop, lines-more, lines-end, line-inside, next-place}
+use Rattle.reading.proofs.fields.lines.Statement.{statement}
+use Rattle.reading.proofs.fields.lines.Tie as tie
+
+abbrev Inv-loop : tie.InvT-loop
+Inv-loop text at k n into₀ start from₀ to₀ i₀ into from to i =
+    (i ≤ k)
+    × ((0 < from)
+    × ((to ≡ start + i * n)
+    × ((length into ≡ length into₀)
+    × (behind (take to into) (readLines (k - i) n (drop from text)) ≡ behind (take start into₀) (readLines k n (drop at text))))))
+
+abbrev μ-loop : tie.MeasureT-loop
+μ-loop text at k n into₀ start from₀ to₀ i₀ into from to i = k - i
+
+-- the next line's entries lie in the list
+inside : (c : tie.In-loop Inv-loop μ-loop) → c .before .loop .to + c .before .before .before .before .args .n ≤ length (c .before .loop .into)
+inside c =
+    let start = c .before .before .before .before in
+    let l = c .before .loop in
+    omega (arith, line-inside (l .i) (start .args .k) (start .args .n) (c .loop-test .taken), start .pre .1 .1)
+
+loop-holds : tie.Need-loop-holds Inv-loop μ-loop
+loop-holds c =
+    let a = c .before .before .args in (
+      search needs,
+      (
+        c .before .before .pre .0,
+        (
+          search needs,
+          (
+            search needs,
+            ap (λ (j : ℕ). behind (take (a .start) (a .into .now)) (readLines j (a .n) (drop (a .at) (a .text .now)))) (sub-zero (a .k)),
+          ),
+        ),
+      ),
+    )
+
+line-requires : tie.Need-line-requires Inv-loop μ-loop
+line-requires c κs = (search needs, inside (c .before))
+
+same-length : tie.Need-same-length Inv-loop μ-loop
+same-length c = search needs
+
+returns : tie.Need-returns Inv-loop μ-loop
+returns c =
+    let after = c .before .before .before in
+    let turn = after .before .before in
+    let a = turn .before .before .before .before .args in
+    let l = turn .before .loop in
+    sym (lines-stop (a .k - (l .i + 1)) (a .k - l .i) (a .n) (a .text .now) (drop (l .from) (a .text .now)) (take (l .to) (l .into)) (take (l .to + a .n) (after .line .last .1 .1 .1 .0)) (after .line .result) (omega arith) (after .line .ensures) (c .if1 .taken))
+    ∙ l .inv .1 .1 .1 .1
+
+add-to : tie.Need-add-to Inv-loop μ-loop
+add-to c = omega (arith, inside (c .before .before .before .before .before))
+
+add-i : tie.Need-add-i Inv-loop μ-loop
+add-i c = search needs
+
+loop-less : tie.Need-loop-less Inv-loop μ-loop
+loop-less c = search needs
+
+loop-again : tie.Need-loop-again Inv-loop μ-loop
+loop-again c =
+    let after = c .before .before .before in
+    let turn = after .before .before in
+    let a = turn .before .before .before .before .args in
+    let l = turn .before .loop in (
+      search needs,
+      (
+        positive (after .line .result) (c .if1 .left),
+        (
+          next-place (a .start) (l .to) (l .i) (a .n) (l .inv .1 .1 .0),
+          (
+            search needs,
+            sym (lines-more (a .k - (l .i + 1)) (a .k - l .i) (a .n) (a .text .now) (drop (l .from) (a .text .now)) (take (l .to) (l .into)) (take (l .to + a .n) (after .line .last .1 .1 .1 .0)) (after .line .result) (omega arith) (after .line .ensures) (c .if1 .left))
+                ∙ l .inv .1 .1 .1 .1,
+          ),
+        ),
+      ),
+    )
+
+same-length-2 : tie.Need-same-length-2 Inv-loop μ-loop
+same-length-2 c = search needs
+
+returns-2 : tie.Need-returns-2 Inv-loop μ-loop
+returns-2 c =
+    let a = c .before .before .before .before .args in
+    let l = c .before .loop in
+    let t = a .text .now in
+    let i : l .i ≡ a .k = omega arith in
+    let all : a .start + a .k * a .n ≡ l .to = ap (λ (j : ℕ). a .start + j * a .n) (sym i) ∙ sym (l .inv .1 .1 .0) in
+    let none-left : 0 ≡ a .k - l .i = omega arith in
+    ap (λ (j : ℕ). foundAt (l .from) (take j (l .into)) t) all
+    ∙ lines-end (a .n) t (take (l .to) (l .into)) (l .from) (l .inv .1 .0)
+    ∙ ap (λ (j : ℕ). behind (take (l .to) (l .into)) (readLines j (a .n) (drop (l .from) t))) none-left
+    ∙ l .inv .1 .1 .1 .1
+
+pub lines-spec : {M : Type 1} → statement M
+lines-spec =
+    tie.close
+    (tie.spec
+    Inv-loop
+    μ-loop
+    loop-holds
+    line-requires
+    same-length
+    returns
+    add-to
+    add-i
+    loop-less
+    loop-again
+    same-length-2
+    returns-2)

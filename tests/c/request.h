@@ -1,0 +1,30 @@
+/* A request of the independent program with the reply that it expects, and how it is put to the library. */
+#ifndef REQUEST_H
+#define REQUEST_H
+#include <stdbool.h>
+#include <stddef.h>
+#include <stdint.h>
+
+enum { FILTER, WITHDRAW, CHOOSE, TEST, COMPARE, CALLS };
+
+typedef struct {
+    size_t n;
+    uint64_t *at;
+} words;
+
+typedef struct {
+    size_t n;
+    uint16_t *at;
+} entries;
+
+typedef struct {
+    uint64_t call;
+    uint16_t m, question, code;
+    entries records, questions, codes, members, supports, rows, answer, supports_after;
+    words marks, marks_after;
+} request;
+
+/* Makes the call on these marks: writes the answer's numbers to out (kind, subject, left, withdrawn, deleted; of test and compare
+ * the first two), and leaves in the marks and in q's supports what the call leaves there. Whether nothing else was touched. */
+bool put_to_library(request *q, words marks, uint16_t out[5]);
+#endif
