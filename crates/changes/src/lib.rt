@@ -29,7 +29,7 @@ use network::Shape;
 use network::tables::offsets;
 
 // The filter on what lives after the change is struck, and the answer where before tuples lived at entry.
-fn finish(
+pub fn finish(
     shape: Shape,
     variables: &[u16],
     values: &[u16],

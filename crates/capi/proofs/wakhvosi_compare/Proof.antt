@@ -1,0 +1,27 @@
+-- `wakhvosi_compare` tests the lengths, and makes its call.
+-- From what both ensure.
+use mathlib.Core.Path.{sym, _∙_}
+use borrow.Author.Tests.{not-true, not-false}
+use Rattle.capi.specs.Call.{compareCall}
+use Rattle.capi.proofs.Calls.{cond-whole, cond-not}
+use borrow.Author.Needs.{needs}
+use Rattle.capi.proofs.wakhvosi_compare.Statement.{statement}
+use Rattle.capi.proofs.wakhvosi_compare.Tie as tie
+
+network-whole-requires : tie.Need-network-whole-requires
+network-whole-requires c κs = search needs
+
+returns : tie.Need-returns
+unfolding compareCall
+returns c = cond-not _ _ _ (sym (c .before .network-whole .ensures) ∙ not-true _ (c .if1 .taken))
+
+compare-bytes-requires : tie.Need-compare-bytes-requires
+compare-bytes-requires c κs = search needs
+
+returns-2 : tie.Need-returns-2
+unfolding compareCall
+returns-2 c = c .compare-bytes .ensures ∙ cond-whole _ _ _ (sym (c .before .before .network-whole .ensures) ∙ not-false _ (c .before .if1 .left))
+
+pub wakhvosi-compare-spec : {M : Type 1} → statement M
+wakhvosi-compare-spec =
+    tie.close (tie.spec network-whole-requires returns compare-bytes-requires returns-2)

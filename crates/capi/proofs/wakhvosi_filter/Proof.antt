@@ -1,0 +1,34 @@
+-- `wakhvosi_filter` makes its call, with no ids.
+-- From what `change_call` ensures.
+use mathlib.Core.Path.{ap, _∙_}
+use mathlib.Core.Bool.{Bool}
+use Rattle.model.specs.Request.{filter}
+use Rattle.capi.specs.Call.{lent, wholeLent, answered, filterCall, changeIn}
+use Rattle.capi.proofs.Calls.{whole-alone}
+use borrow.Author.Needs.{needs}
+use Rattle.capi.proofs.wakhvosi_filter.Statement.{statement}
+use Rattle.capi.proofs.wakhvosi_filter.Tie as tie
+
+slice-aggregate-change-call : tie.Need-slice-aggregate-change-call
+slice-aggregate-change-call c = search needs
+
+change-call-requires : tie.Need-change-call-requires
+change-call-requires c κs = search needs
+
+same-length : tie.Need-same-length
+same-length c = search needs
+
+same-length-2 : tie.Need-same-length-2
+same-length-2 c = search needs
+
+returns : tie.Need-returns
+unfolding filterCall changeIn
+returns c =
+    let a = c .before .before .before .before .before .before .before .before .before .before .before .before .before .before .args in
+    let given = lent (a .sheets .now) (a .questions .now) (a .codes .now) (a .m) (a .combinations .now) (a .marks .now) (a .supports .now) in
+    c .before .before .before .before .change-call .ensures ∙ ap (λ (b : Bool). answered b given filter) (whole-alone (wholeLent given))
+
+pub wakhvosi-filter-spec : {M : Type 1} → statement M
+wakhvosi-filter-spec =
+    tie.close
+    (tie.spec slice-aggregate-change-call change-call-requires same-length same-length-2 returns)

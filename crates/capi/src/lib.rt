@@ -1,0 +1,137 @@
+// The calls from C: numbers and lists of bytes. include/wakhvosi.h says what each byte means.
+ghost use mathlib.Core.Path.{_≡_};
+ghost use Rattle.capi_parts.specs.Packed.{outcome};
+ghost use Rattle.capi.specs.Call.{lent, filterCall, withdrawCall, chooseCall, testCall, compareCall};
+use capi_parts::lengths::instance_whole;
+use capi_parts::lengths::network_whole;
+use change::Call;
+use change::change_call;
+use reading::compare_bytes;
+use reading::test_bytes;
+
+pub mod change; // filter, withdraw and choose
+pub mod reading; // test and compare
+
+// Filters what lives.
+#[no_mangle]
+pub extern "C" fn wakhvosi_filter(
+    sheets: &[u8],
+    questions: &[u8],
+    codes: &[u8],
+    m: u16,
+    combinations: &[u8],
+    marks: &mut [u8],
+    supports: &mut [u8],
+) -> u64
+    ensures { λ n. ⌜ outcome n (now (marks .exit)) (now (supports .exit)) ≡ filterCall (lent (now (sheets .entry)) (now (questions .entry)) (now (codes .entry)) m (now (combinations .entry)) (now (marks .entry)) (now (supports .entry))) ⌝ }
+{
+    change_call(
+        Call::Filter,
+        sheets,
+        questions,
+        codes,
+        m,
+        combinations,
+        marks,
+        supports,
+        &sheets[..0],
+    )
+}
+
+// Withdraws the tuples whose ids are listed, live or dead, and filters what then lives.
+#[no_mangle]
+pub extern "C" fn wakhvosi_withdraw(
+    sheets: &[u8],
+    questions: &[u8],
+    codes: &[u8],
+    m: u16,
+    combinations: &[u8],
+    marks: &mut [u8],
+    supports: &mut [u8],
+    ids: &[u8],
+) -> u64
+    ensures { λ n. ⌜ outcome n (now (marks .exit)) (now (supports .exit)) ≡ withdrawCall (lent (now (sheets .entry)) (now (questions .entry)) (now (codes .entry)) m (now (combinations .entry)) (now (marks .entry)) (now (supports .entry))) (now (ids .entry)) ⌝ }
+{
+    change_call(
+        Call::Withdraw,
+        sheets,
+        questions,
+        codes,
+        m,
+        combinations,
+        marks,
+        supports,
+        ids,
+    )
+}
+
+// Withdraws every tuple that has another value than `code` under variable `question`, and filters what then lives.
+#[no_mangle]
+pub extern "C" fn wakhvosi_choose(
+    sheets: &[u8],
+    questions: &[u8],
+    codes: &[u8],
+    m: u16,
+    combinations: &[u8],
+    marks: &mut [u8],
+    supports: &mut [u8],
+    question: u16,
+    code: u16,
+) -> u64
+    ensures { λ n. ⌜ outcome n (now (marks .exit)) (now (supports .exit)) ≡ chooseCall (lent (now (sheets .entry)) (now (questions .entry)) (now (codes .entry)) m (now (combinations .entry)) (now (marks .entry)) (now (supports .entry))) question code ⌝ }
+{
+    change_call(
+        Call::Choose(question, code),
+        sheets,
+        questions,
+        codes,
+        m,
+        combinations,
+        marks,
+        supports,
+        &sheets[..0],
+    )
+}
+
+// Whether the live tuples are consistent.
+#[no_mangle]
+pub extern "C" fn wakhvosi_test(
+    sheets: &[u8],
+    questions: &[u8],
+    codes: &[u8],
+    m: u16,
+    combinations: &[u8],
+    marks: &[u8],
+) -> u64
+    ensures { λ n. ⌜ n ≡ testCall (now (sheets .entry)) (now (questions .entry)) (now (codes .entry)) m (now (combinations .entry)) (now (marks .entry)) ⌝ }
+{
+    if !instance_whole(
+        sheets.len(),
+        questions.len(),
+        codes.len(),
+        combinations.len(),
+    ) {
+        return 258;
+    }
+    if marks.len() % 8 != 0 {
+        return 258;
+    }
+    test_bytes(sheets, questions, codes, m, combinations, marks)
+}
+
+// Whether the tuples with ids a and b agree.
+#[no_mangle]
+pub extern "C" fn wakhvosi_compare(
+    sheets: &[u8],
+    questions: &[u8],
+    codes: &[u8],
+    a: u16,
+    b: u16,
+) -> u64
+    ensures { λ n. ⌜ n ≡ compareCall (now (sheets .entry)) (now (questions .entry)) (now (codes .entry)) a b ⌝ }
+{
+    if !network_whole(sheets.len(), questions.len(), codes.len()) {
+        return 258;
+    }
+    compare_bytes(sheets, questions, codes, a, b)
+}

@@ -1,0 +1,61 @@
+// The calls that write nothing, on bytes: decode and run.
+ghost use mathlib.Core.Path.{_≡_};
+ghost use Rattle.model.specs.Reply.{testReply, compareReply};
+ghost use Rattle.wire.specs.Entries.{entries64};
+ghost use Rattle.capi_parts.specs.Packed.{packedPair};
+ghost use Rattle.capi.specs.Call.{networkIn, instanceIn};
+use capi_parts::packing::pack_comparison;
+use capi_parts::packing::pack_verdict;
+use capi_parts::sheets::shape_at;
+use network::comparison::compare;
+use testing::test;
+use wire::load16;
+use wire::load64;
+
+// Test, on lists that are whole.
+pub fn test_bytes(
+    sheets: &[u8],
+    questions: &[u8],
+    codes: &[u8],
+    m: u16,
+    combinations: &[u8],
+    marks: &[u8],
+) -> u64
+    ensures { λ n. ⌜ n ≡ packedPair (testReply (instanceIn (now (sheets .entry)) (now (questions .entry)) (now (codes .entry)) m (now (combinations .entry))) (entries64 (now (marks .entry)))) ⌝ }
+{
+    let mut variables = [0u16; 513];
+    let mut values = [0u16; 32769];
+    let mut members = [0u16; 1025];
+    let mut words = [0u64; 64];
+    let shape = shape_at(sheets);
+    let variable_count = load16(questions, &mut variables);
+    let value_count = load16(codes, &mut values);
+    let member_count = load16(combinations, &mut members);
+    let word_count = load64(marks, &mut words);
+    pack_verdict(test(
+        shape,
+        &variables[..variable_count],
+        &values[..value_count],
+        m,
+        &members[..member_count],
+        &words[..word_count],
+    ))
+}
+
+// Compare, on lists that are whole.
+pub fn compare_bytes(sheets: &[u8], questions: &[u8], codes: &[u8], a: u16, b: u16) -> u64
+    ensures { λ n. ⌜ n ≡ packedPair (compareReply (networkIn (now (sheets .entry)) (now (questions .entry)) (now (codes .entry))) a b) ⌝ }
+{
+    let mut variables = [0u16; 513];
+    let mut values = [0u16; 32769];
+    let shape = shape_at(sheets);
+    let variable_count = load16(questions, &mut variables);
+    let value_count = load16(codes, &mut values);
+    pack_comparison(compare(
+        shape,
+        &variables[..variable_count],
+        &values[..value_count],
+        a,
+        b,
+    ))
+}

@@ -1,0 +1,5 @@
+-- The laws of the crate's definitions.
+pub mod Records
+pub mod Whole
+pub mod Packed
+pub mod Written

@@ -1,0 +1,63 @@
+-- `pack` packs the numbers of each case.
+-- From what `pack_numbers` ensures.
+use mathlib.Core.Path.{sym, ap, _∙_}
+use Prim.Native.Nat.{ℕ}
+use native.Mathlib.Omega.{arith}
+use Rattle.model.specs.declared.Answer.{Answer}
+use Rattle.model.specs.Reply.{answerNumbers}
+use Rattle.capi_parts.specs.Packed.{packed}
+use borrow.Author.Needs.{needs}
+use Rattle.capi_parts.proofs.packing.pack.Statement.{statement}
+use Rattle.capi_parts.proofs.packing.pack.Tie as tie
+
+abbrev number : Answer → ℕ
+number a = packed (answerNumbers a)
+
+enum-known-a : tie.Need-enum-known-a
+enum-known-a c = search needs
+
+pack-numbers-requires : tie.Need-pack-numbers-requires
+pack-numbers-requires c κs = search needs
+
+enum-known-a-2 : tie.Need-enum-known-a-2
+enum-known-a-2 c = search needs
+
+cast-pack-numbers : tie.Need-cast-pack-numbers
+cast-pack-numbers c = search needs
+
+pack-numbers-requires-2 : tie.Need-pack-numbers-requires-2
+pack-numbers-requires-2 c κs = (omega arith, rw (c .before .a2 .given .1) at (c .before .before .before .pre))
+
+enum-known-a-3 : tie.Need-enum-known-a-3
+enum-known-a-3 c = search needs
+
+cast-pack-numbers-2 : tie.Need-cast-pack-numbers-2
+cast-pack-numbers-2 c = search needs
+
+pack-numbers-requires-3 : tie.Need-pack-numbers-requires-3
+pack-numbers-requires-3 c κs = search needs
+
+returns : tie.Need-returns
+returns c = c .pack-numbers .ensures ∙ ap number (sym (c .before .before .a .given .1))
+
+returns-2 : tie.Need-returns-2
+returns-2 c = c .pack-numbers2 .ensures ∙ ap number (sym (c .before .before .a2 .given .1))
+
+returns-3 : tie.Need-returns-3
+returns-3 c = c .pack-numbers3 .ensures ∙ ap number (sym (c .before .before .a3 .given .1))
+
+pub pack-spec : {M : Type 1} → statement M
+pack-spec =
+    tie.close
+    (tie.spec
+    enum-known-a
+    pack-numbers-requires
+    enum-known-a-2
+    cast-pack-numbers
+    pack-numbers-requires-2
+    enum-known-a-3
+    cast-pack-numbers-2
+    pack-numbers-requires-3
+    returns
+    returns-2
+    returns-3)

@@ -1,0 +1,4 @@
+-- The definitions that the contracts cite.
+pub mod Records
+pub mod Whole
+pub mod Packed

@@ -1,0 +1,2 @@
+-- The laws of entries and their bytes.
+pub mod Entries

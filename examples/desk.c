@@ -1,0 +1,106 @@
+/* Book A through every call of include/wakhvosi.h: what is asked, and what was got. */
+#include <stdio.h>
+#include <string.h>
+#include "wakhvosi.h"
+
+enum { ROWS = 7, M = 2, NUMBERS = 28 };
+
+/* Three sheets, width and rows; their questions; their codes, row after row; and the combinations of every two. */
+static const uint16_t sheet_list[] = {2, 3, 2, 2, 2, 2};
+static const uint16_t question_list[] = {0, 1, 1, 2, 2, 0};
+static const uint16_t code_list[] = {1, 1, 1, 2, 2, 2, 1, 5, 2, 6, 5, 1, 6, 1};
+static const uint16_t combination_list[] = {0, 1, 0, 2, 1, 2};
+
+static uint8_t sheets[sizeof sheet_list], questions[sizeof question_list];
+static uint8_t codes[sizeof code_list], combinations[sizeof combination_list];
+static uint8_t marks[8], supports[2 * NUMBERS];
+
+/* The numbers as bytes, lowest byte first. */
+static void encode(uint8_t *bytes, const uint16_t *numbers, size_t count) {
+    for (size_t i = 0; i < count; i++) {
+        bytes[2 * i] = (uint8_t)(numbers[i] & 255);
+        bytes[2 * i + 1] = (uint8_t)(numbers[i] >> 8);
+    }
+}
+
+static void all_living(void) {
+    memset(marks, 0, sizeof marks);
+    for (unsigned g = 0; g < ROWS; g++)
+        marks[g / 8] |= (uint8_t)(1u << g % 8);
+}
+
+static void show(const char *asked, uint64_t answer) {
+    printf("%s: ", asked);
+    if (wakhvosi_kind(answer) == WAKHVOSI_REFUSED) {
+        printf("refused, number %u\n", wakhvosi_subject(answer));
+        return;
+    }
+    if (wakhvosi_kind(answer) == WAKHVOSI_EMPTIED)
+        printf("emptied, sheet %u", wakhvosi_subject(answer));
+    else
+        printf("settled");
+    printf(", left %u, withdrawn %u, deleted %u; living rows", wakhvosi_left(answer), wakhvosi_withdrawn(answer),
+           wakhvosi_deleted(answer));
+    for (unsigned g = 0; g < ROWS; g++)
+        if (marks[g / 8] >> g % 8 & 1)
+            printf(" %u", g);
+    printf("\n");
+}
+
+static void show_reply(const char *asked, uint64_t answer) {
+    if ((answer & 255) == 2)
+        printf("%s: refused, number %u\n", asked, (unsigned)(answer >> 8));
+    else
+        printf("%s: %s\n", asked, answer == 1 ? "yes" : "no");
+}
+
+static uint64_t filter(void) {
+    return wakhvosi_filter(sheets, sizeof sheets, questions, sizeof questions, codes, sizeof codes, M, combinations,
+                           sizeof combinations, marks, sizeof marks, supports, sizeof supports);
+}
+
+static uint64_t withdraw(uint16_t row) {
+    uint8_t rows[2];
+    encode(rows, &row, 1);
+    return wakhvosi_withdraw(sheets, sizeof sheets, questions, sizeof questions, codes, sizeof codes, M, combinations,
+                             sizeof combinations, marks, sizeof marks, supports, sizeof supports, rows, sizeof rows);
+}
+
+static uint64_t choose(uint16_t question, uint16_t code) {
+    return wakhvosi_choose(sheets, sizeof sheets, questions, sizeof questions, codes, sizeof codes, M, combinations,
+                           sizeof combinations, marks, sizeof marks, supports, sizeof supports, question, code);
+}
+
+static uint64_t test(void) {
+    return wakhvosi_test(sheets, sizeof sheets, questions, sizeof questions, codes, sizeof codes, M, combinations,
+                         sizeof combinations, marks, sizeof marks);
+}
+
+static uint64_t compare(uint16_t a, uint16_t b) {
+    return wakhvosi_compare(sheets, sizeof sheets, questions, sizeof questions, codes, sizeof codes, a, b);
+}
+
+int main(void) {
+    encode(sheets, sheet_list, sizeof sheet_list / 2);
+    encode(questions, question_list, sizeof question_list / 2);
+    encode(codes, code_list, sizeof code_list / 2);
+    encode(combinations, combination_list, sizeof combination_list / 2);
+
+    all_living();
+    show_reply("test all rows", test());
+    show("filter", filter());
+    show_reply("test what is left", test());
+    /* the first combination's supports of sheet 1 stand behind the three pairs of sheet 0 */
+    printf("support of sheet 1, row 1 in sheets 0 and 1: rows %u and %u\n", supports[16] + 256u * supports[17],
+           supports[18] + 256u * supports[19]);
+    show("withdraw row 5", withdraw(5));
+    show("withdraw row 6", withdraw(6));
+    show("withdraw row 7", withdraw(7));
+
+    all_living();
+    show("choose code 6 for question 2 on the fresh book", choose(2, 6));
+    show_reply("compare rows 0 and 3", compare(0, 3));
+    show_reply("compare rows 0 and 4", compare(0, 4));
+    show_reply("compare rows 0 and 7", compare(0, 7));
+    return 0;
+}
