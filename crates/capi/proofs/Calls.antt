@@ -3,14 +3,13 @@
 use mathlib.Core.Path.{_≡_, refl, sym, ap, _∙_}
 use mathlib.Core.Bool.{Bool, true, false, cond, _&&_}
 use mathlib.Core.List.{List}
-use Prim.Native.Nat.{ℕ, _*_, _/_, _%_, _^_, _<_}
+use Prim.Native.Nat.{ℕ, _/_, _%_}
 use native.Mathlib.Omega.{arith}
 use borrow.Author.Tests.{eqb-true}
 use lib.ListN.{length, take}
-use Rattle.model.specs.Limits.{maxSupportNumbers}
 use Rattle.model.specs.Request.{Change}
 use Rattle.model.specs.Reply.{reply, testReply, compareReply}
-use Rattle.model.specs.Edges.{maxVariables, maxValues, maxMemberList, maxWords, cutInstance}
+use Rattle.model.specs.Edges.{cutInstance}
 use Rattle.model.proofs.Bools.{and-left, and-right}
 use Rattle.model.proofs.Edges.{testReply-cut, compareReply-cut}
 use Rattle.network.specs.declared.Shape.{Shape}

@@ -13,11 +13,9 @@ ghost use Rattle.calls.specs.Checks.{instanceOf};
 ghost use Rattle.calls.specs.Struck.{struck};
 ghost use Rattle.changes.specs.Change.{request, replied};
 ghost use Rattle.wire.specs.Entries.{entries16};
-use calls::checks::checked;
-use calls::checks::total_of;
+use changes::examine;
 use changes::finish;
 use live::clear;
-use live::count;
 use model::Answer;
 use network::Shape;
 use wire::u16_at;
@@ -63,24 +61,15 @@ pub fn withdraw(
 ) -> Answer
     ensures { λ a. ⌜ replied a (now (words .exit)) (now (supports .exit)) ≡ reply (request (instanceOf shape (now (variables .entry)) (now (values .entry)) m (now (members .entry))) (now (words .entry)) (now (supports .entry)) (withdraw (entries16 (now (ids .entry))))) ⌝ }
 {
-    let f = checked(
-        shape,
-        variables,
-        values,
-        m,
-        members,
-        words.len(),
-        supports.len(),
-    );
-    if f != 0 {
-        return Answer::Refused(f);
+    let found = examine(shape, variables, values, m, members, words, supports);
+    let fault = found.fault;
+    if fault != 0 {
+        return Answer::Refused(fault);
     }
-    let tuples = total_of(shape);
-    let of_ids = ids_fault(tuples, ids);
+    let of_ids = ids_fault(found.tuples, ids);
     if of_ids != 0 {
         return Answer::Refused(of_ids);
     }
-    let before = count(words, 0, tuples);
     withdraw_ids(words, ids);
     finish(
         shape,
@@ -90,6 +79,6 @@ pub fn withdraw(
         members,
         words,
         supports,
-        before,
+        found.before,
     )
 }

@@ -1,2 +1,3 @@
 -- The laws of the crate's definitions.
 pub mod Ready
+pub mod Opened

@@ -4,6 +4,7 @@ use mathlib.Core.List.{List}
 use Prim.Native.Nat.{ℕ, _-_}
 use lib.ListN.{length}
 use Rattle.model.specs.declared.Answer.{Answer}
+use Rattle.changes.specs.declared.Opening.{Opening}
 use Rattle.model.specs.TupleSet.{count}
 use Rattle.model.specs.Network.{total}
 use Rattle.model.specs.Consistency.{filtered}
@@ -23,6 +24,12 @@ replied a words supports = record { answer = answerNumbers a; words = words; sup
 -- none of the faults 2 to 12, with these live words and this support list
 abbrev pub Checked : Instance → List ℕ → List ℕ → Type 0
 Checked I words supports = 0 ≡ refusal (firstFault (faultsOn I (length words) (length supports) filter))
+
+-- What a call finds before it strikes: the first of these faults, and without one how many tuples there are and how many live.
+pub record Opened (I : Instance) (words supports : List ℕ) (o : Opening) : Type 0 where
+  pub fault : o .fault ≡ refusal (firstFault (faultsOn I (length words) (length supports) filter))
+  pub tuples : o .fault ≡ 0 → o .tuples ≡ total (I .network)
+  pub before : o .fault ≡ 0 → o .before ≡ count (living (total (I .network)) words)
 
 -- what a call leaves of the words once its change is struck, where so many tuples lived before
 unfoldable pub finished : Instance → List ℕ → List ℕ → ℕ → Reply

@@ -13,7 +13,7 @@ ghost use Rattle.model.specs.Reply.{reply};
 ghost use Rattle.network.specs.Shape.{networkOf};
 ghost use Rattle.calls.specs.Checks.{instanceOf};
 ghost use Rattle.calls.specs.Struck.{struck};
-ghost use Rattle.changes.specs.Change.{request, replied, Checked, finished};
+ghost use Rattle.changes.specs.Change.{request, replied, Opened, Checked, finished};
 use calls::answer::answer_for;
 use calls::checks::checked;
 use calls::checks::ids_fault;
@@ -27,6 +27,51 @@ use model::Answer;
 use model::MAX_RELATIONS;
 use network::Shape;
 use network::tables::offsets;
+
+// What a change call finds before it strikes: the number of the first fault that every change call tests, 2 to 12, or 0; and where
+// there is none, how many tuples the network has and how many of them live.
+pub struct Opening {
+    pub fault: u8,
+    pub tuples: u16,
+    pub before: u16,
+}
+
+// Tests the request, and counts.
+pub fn examine(
+    shape: Shape,
+    variables: &[u16],
+    values: &[u16],
+    m: u16,
+    members: &[u16],
+    words: &[u64],
+    supports: &[u16],
+) -> Opening
+    ensures { λ o. ⌜ Opened (instanceOf shape (now (variables .entry)) (now (values .entry)) m (now (members .entry))) (now (words .entry)) (now (supports .entry)) o ⌝ }
+{
+    let fault = checked(
+        shape,
+        variables,
+        values,
+        m,
+        members,
+        words.len(),
+        supports.len(),
+    );
+    if fault != 0 {
+        return Opening {
+            fault,
+            tuples: 0,
+            before: 0,
+        };
+    }
+    let tuples = total_of(shape);
+    let before = count(words, 0, tuples);
+    Opening {
+        fault,
+        tuples,
+        before,
+    }
+}
 
 // The filter on what lives after the change is struck, and the answer where before tuples lived at entry.
 pub fn finish(
@@ -76,19 +121,11 @@ pub fn filter(
 ) -> Answer
     ensures { λ a. ⌜ replied a (now (words .exit)) (now (supports .exit)) ≡ reply (request (instanceOf shape (now (variables .entry)) (now (values .entry)) m (now (members .entry))) (now (words .entry)) (now (supports .entry)) filter) ⌝ }
 {
-    let f = checked(
-        shape,
-        variables,
-        values,
-        m,
-        members,
-        words.len(),
-        supports.len(),
-    );
-    if f != 0 {
-        return Answer::Refused(f);
+    let found = examine(shape, variables, values, m, members, words, supports);
+    let fault = found.fault;
+    if fault != 0 {
+        return Answer::Refused(fault);
     }
-    let before = count(words, 0, total_of(shape));
     finish(
         shape,
         variables,
@@ -97,7 +134,7 @@ pub fn filter(
         members,
         words,
         supports,
-        before,
+        found.before,
     )
 }
 
@@ -114,24 +151,15 @@ pub fn withdraw(
 ) -> Answer
     ensures { λ a. ⌜ replied a (now (words .exit)) (now (supports .exit)) ≡ reply (request (instanceOf shape (now (variables .entry)) (now (values .entry)) m (now (members .entry))) (now (words .entry)) (now (supports .entry)) (withdraw (now (ids .entry)))) ⌝ }
 {
-    let f = checked(
-        shape,
-        variables,
-        values,
-        m,
-        members,
-        words.len(),
-        supports.len(),
-    );
-    if f != 0 {
-        return Answer::Refused(f);
+    let found = examine(shape, variables, values, m, members, words, supports);
+    let fault = found.fault;
+    if fault != 0 {
+        return Answer::Refused(fault);
     }
-    let tuples = total_of(shape);
-    let of_ids = ids_fault(tuples, ids);
+    let of_ids = ids_fault(found.tuples, ids);
     if of_ids != 0 {
         return Answer::Refused(of_ids);
     }
-    let before = count(words, 0, tuples);
     withdraw_ids(words, ids);
     finish(
         shape,
@@ -141,7 +169,7 @@ pub fn withdraw(
         members,
         words,
         supports,
-        before,
+        found.before,
     )
 }
 
@@ -181,23 +209,15 @@ pub fn choose(
 ) -> Answer
     ensures { λ a. ⌜ replied a (now (words .exit)) (now (supports .exit)) ≡ reply (request (instanceOf shape (now (variables .entry)) (now (values .entry)) m (now (members .entry))) (now (words .entry)) (now (supports .entry)) (choose x v)) ⌝ }
 {
-    let f = checked(
-        shape,
-        variables,
-        values,
-        m,
-        members,
-        words.len(),
-        supports.len(),
-    );
-    if f != 0 {
-        return Answer::Refused(f);
+    let found = examine(shape, variables, values, m, members, words, supports);
+    let fault = found.fault;
+    if fault != 0 {
+        return Answer::Refused(fault);
     }
     let of_variable = variable_fault(x);
     if of_variable != 0 {
         return Answer::Refused(of_variable);
     }
-    let before = count(words, 0, total_of(shape));
     strike_value(shape, variables, values, words, x, v);
     finish(
         shape,
@@ -207,6 +227,6 @@ pub fn choose(
         members,
         words,
         supports,
-        before,
+        found.before,
     )
 }

@@ -7,7 +7,7 @@ use native.Mathlib.Nat.{mul-zero, mul-suc, pow-succ', pow-zero, one-le-pow, add-
 use native.Mathlib.Numerals.{add-one}
 use native.Mathlib.Omega.{arith}
 use lib.ListN.{length, take, drop, getD, set, length-append, length-drop, length-set, take-append-drop, drop-of-length-le}
-use lib.Seq.{drop-cons, take-suc, drop-drop, getD-drop, take-at, drop-at, length-take-le, set-at, drop-length, take-length, take-all}
+use lib.Seq.{drop-cons, take-suc, drop-drop, getD-drop, take-at, drop-at, length-take-le, set-at, take-length, take-all}
 use Rattle.wire.specs.Entries.{value, bytesOf, entryAt, entries, bytes, entries16, Filled}
 
 -- every byte of a list is one

@@ -1,128 +1,61 @@
--- `withdraw` tests the request, strikes the ids listed, and finishes with what then lives.
--- From what the checks, the strike and `finish` ensure, and the laws of replies.
-use mathlib.Core.Path.{_≡_, sym, _∙_}
-use mathlib.Core.Bool.{true}
+-- `withdraw` examines the request, tests and strikes the ids listed, and finishes with what then lives.
+-- From what these ensure, and the laws from what is found to the reply.
+use mathlib.Core.Path.{_∙_}
 use mathlib.Core.List.{List}
-use Prim.Native.Nat.{ℕ, _*_, _≤_}
-use lib.ListN.{length}
-use Rattle.model.specs.Network.{Network, total}
-use Rattle.model.specs.Request.{Change, withdraw, Instance, Request}
-use Rattle.model.specs.Fault.{firstFault, refusal, changeFaults}
-use Rattle.model.proofs.Reply.{reply-shared, reply-own}
-use Rattle.combination.specs.Proper.{below}
-use Rattle.combination.proofs.Members.{below-more-relations}
+use Prim.Native.Nat.{ℕ}
+use Rattle.model.specs.Request.{withdraw, Instance, Request}
 use Rattle.calls.specs.Checks.{instanceOf}
-use Rattle.calls.proofs.Change.{ids-below, withdraw-struck}
+use Rattle.changes.specs.Change.{request}
+use Rattle.changes.proofs.Ready.{Changed, changed-ready, changed-reply}
+use Rattle.changes.proofs.Opened.{opened-refused, ids-refused, ids-ready, ids-changed}
 use Rattle.wire.specs.Entries.{entries16}
-use Rattle.changes.specs.Change.{request, Checked}
-use Rattle.changes.proofs.Ready.{checked-bounded, checked-words, checked-ids, counted-all, Changed, changed-ready, changed-reply}
 use borrow.Author.Needs.{needs}
 use Rattle.capi_parts.proofs.withdrawal.withdraw.Statement.{statement}
 use Rattle.capi_parts.proofs.withdrawal.withdraw.Tie as tie
 
-abbrev start : tie.After-checked → tie.Start
-start c = c .before .before .before .before .before .before .before
-
 abbrev instance : tie.Start → Instance
 instance c = instanceOf (c .args .shape) (c .args .variables .now) (c .args .values .now) (c .args .m) (c .args .members .now)
 
-abbrev change : tie.Start → Change
-change c = withdraw (entries16 (c .args .ids .now))
-
 abbrev asked : tie.Start → Request
-asked c = request (instance c) (c .args .words .now) (c .args .supports .now) (change c)
+asked c = request (instance c) (c .args .words .now) (c .args .supports .now) (withdraw (entries16 (c .args .ids .now)))
+
+abbrev start : tie.After-examine → tie.Start
+start c = c .before .before .before .before .before .before .before .before .before
 
 -- ---- Without the faults 2 to 12
 
-module _ (c : tie.Else1) where
+abbrev found : tie.After-ids-fault → tie.After-examine
+found c = c .before .before
+
+module _ (c : tie.After-ids-fault) where
   abbrev entry : tie.Start
-  entry = start (c .before)
+  entry = start (found c)
 
-  abbrev network : Network
-  network = instance entry .network
+  abbrev words : List ℕ
+  words = entry .args .words .now
 
-  sound : Checked (instance entry) (entry .args .words .now) (entry .args .supports .now)
-  sound = sym (c .if1 .left) ∙ c .before .checked .ensures
+  abbrev supports : List ℕ
+  supports = entry .args .supports .now
 
-  enough : total network ≤ 64 * length (entry .args .words .now)
-  enough = checked-words (instance entry) (entry .args .words .now) (entry .args .supports .now) sound
+  abbrev listed : List ℕ
+  listed = entries16 (entry .args .ids .now)
 
 -- ---- .. and without fault 13
 
-abbrev first : tie.After-ids-fault → tie.Else1
-first c = c .before .before
+abbrev tested : tie.After-withdraw-ids → tie.After-ids-fault
+tested c = c .before .before .before
 
-tested : (c : tie.After-ids-fault) → c .ids-fault .result ≡ refusal (firstFault (changeFaults (network (first c)) (change (entry (first c)))))
-tested c = c .ids-fault .ensures (network (first c)) (sym (c .before .total-of .ensures))
+abbrev final : tie.After-withdraw-ids → List ℕ
+final c = c .withdraw-ids .last .0
 
-module _ (c : tie.Else2) where
-  abbrev one : tie.Else1
-  one = first (c .before)
+done : (c : tie.After-withdraw-ids) → Changed (asked (entry (tested c))) (final c) (found (tested c) .examine .result .before)
+done c =
+    let d = tested c in
+    ids-changed (instance (entry d)) (words d) (supports d) (listed d) _ (found d .examine .ensures) (d .before .if1 .left) (d .ids-fault .result) (d .ids-fault .ensures) (c .before .before .if2 .left) (final c)
+    (c .withdraw-ids .ensures)
 
-  own : 0 ≡ refusal (firstFault (changeFaults (network one) (change (entry one))))
-  own = sym (c .if2 .left) ∙ tested (c .before)
-
-  low : below (total (network one)) (entries16 (entry one .args .ids .now)) ≡ true
-  low = ids-below (network one) (entries16 (entry one .args .ids .now)) own
-
--- ---- Struck
-
-abbrev counts : tie.After-withdraw-ids → tie.After-count
-counts c = c .before .before
-
-abbrev passed : tie.After-count → tie.Else2
-passed c = c .before .before
-
-module _ (c : tie.After-withdraw-ids) where
-  abbrev two : tie.Else2
-  two = passed (counts c)
-
-  abbrev final : List ℕ
-  final = c .withdraw-ids .last .0
-
-  done : Changed (asked (entry (one two))) final (counts c .count .result)
-  done =
-      let N = network (one two) in
-      let a = entry (one two) .args in
-      record {
-        checked = sound (one two);
-        own = own two;
-        strikes = c .withdraw-ids .ensures (total N) (enough (one two)) (low two) ∙ withdraw-struck N (entries16 (a .ids .now)) (total N) (a .words .now);
-        lived = counted-all (total N) _ (counts c .count .result) (a .words .now) (two .before .before .total-of .ensures) (counts c .count .ensures);
-      }
-
-checked-requires : tie.Need-checked-requires
-checked-requires c κs = search needs
-
-returns : tie.Need-returns
-returns c = sym (reply-shared (asked (start (c .before))) (c .before .checked .result) (c .before .checked .ensures) (c .if1 .taken))
-
-total-of-requires : tie.Need-total-of-requires
-total-of-requires c κs = let a = entry c .args in checked-bounded (a .shape) (a .variables .now) (a .values .now) (a .m) (a .members .now) (a .words .now) (a .supports .now) (sound c)
-
-ids-fault-requires : tie.Need-ids-fault-requires
-ids-fault-requires c κs = search needs
-
-returns-2 : tie.Need-returns-2
-returns-2 c =
-    let one = first (c .before) in
-    sym (reply-own (asked (entry one)) (sound one) (c .before .ids-fault .result) (tested (c .before)) (c .if2 .taken))
-
-count-requires : tie.Need-count-requires
-count-requires c κs =
-    let e = entry (one (c .before)) in
-    checked-ids (instance e) (e .args .words .now) (e .args .supports .now) (sound (one (c .before))) _ (c .before .before .before .total-of .ensures)
-
-withdraw-ids-requires : tie.Need-withdraw-ids-requires
-withdraw-ids-requires c κs =
-    let two = passed (c .before) in
-    let a = entry (one two) .args in
-    below-more-relations (total (network (one two))) (64 * length (a .words .now)) (entries16 (a .ids .now)) (enough (one two)) (low two)
-
-finish-requires : tie.Need-finish-requires
-finish-requires c κs =
-    let d = c .before .before .before .before in
-    changed-ready (asked (entry (one (two d)))) (final d) (counts d .count .result) (done d)
+examine-requires : tie.Need-examine-requires
+examine-requires c κs = search needs
 
 same-length : tie.Need-same-length
 same-length c = search needs
@@ -130,24 +63,55 @@ same-length c = search needs
 same-length-2 : tie.Need-same-length-2
 same-length-2 c = search needs
 
+returns : tie.Need-returns
+returns c = opened-refused (asked (start (c .before))) _ (c .before .examine .ensures) (c .if1 .taken)
+
+ids-fault-requires : tie.Need-ids-fault-requires
+ids-fault-requires c κs = search needs
+
+same-length-3 : tie.Need-same-length-3
+same-length-3 c = search needs
+
+same-length-4 : tie.Need-same-length-4
+same-length-4 c = search needs
+
+returns-2 : tie.Need-returns-2
+returns-2 c =
+    let d = c .before in
+    ids-refused (instance (entry d)) (words d) (supports d) (listed d) _ (found d .examine .ensures) (d .before .if1 .left) (d .ids-fault .result) (d .ids-fault .ensures) (c .if2 .taken)
+
+withdraw-ids-requires : tie.Need-withdraw-ids-requires
+withdraw-ids-requires c κs =
+    let two = c .before in
+    let d = two .before in
+    ids-ready (instance (entry d)) (words d) (supports d) (listed d) _ (found d .examine .ensures) (d .before .if1 .left) (d .ids-fault .result) (d .ids-fault .ensures) (two .if2 .left)
+
+finish-requires : tie.Need-finish-requires
+finish-requires c κs = let d = c .before .before .before .before in changed-ready (asked (entry (tested d))) (final d) _ (done d)
+
+same-length-5 : tie.Need-same-length-5
+same-length-5 c = search needs
+
+same-length-6 : tie.Need-same-length-6
+same-length-6 c = search needs
+
 returns-3 : tie.Need-returns-3
-returns-3 c =
-    let ended = c .before .before .before .before in
-    let d = ended .before .before .before .before .before in
-    ended .finish .ensures ∙ changed-reply (asked (entry (one (two d)))) (final d) (counts d .count .result) (done d)
+returns-3 c = let d = c .before .before .before .before .before .before .before .before .before in c .before .before .before .before .finish .ensures ∙ changed-reply (asked (entry (tested d))) (final d) _ (done d)
 
 pub withdraw-spec : {M : Type 1} → statement M
 withdraw-spec =
     tie.close
     (tie.spec
-    checked-requires
-    returns
-    total-of-requires
-    ids-fault-requires
-    returns-2
-    count-requires
-    withdraw-ids-requires
-    finish-requires
+    examine-requires
     same-length
     same-length-2
+    returns
+    ids-fault-requires
+    same-length-3
+    same-length-4
+    returns-2
+    withdraw-ids-requires
+    finish-requires
+    same-length-5
+    same-length-6
     returns-3)
