@@ -71,3 +71,7 @@ tells-told N vs ws laid s y h xs l T =
           T .value m (valuesAt N s z) (scope-length N vs ws laid s z hz ∙ sym (values-length N vs ws laid s z hz))
           (ap (agreeing xs) (sym (cellsOf-at N s z hz)) ∙ e);
     }
+
+-- what a look tells of a test, it tells of any that accepts no more
+pub tells-less : (N : Network) (s : ℕ) (p q : ℕ → Bool) (l : Look) → ((z : ℕ) → z < size N s → q z ≡ true → p z ≡ true) → Tells N s p l → Tells N s q l
+tells-less N s p q l f T = record { column = T .column; value = λ m z h e. T .value m z h (f z h e) }

@@ -10,6 +10,7 @@ use Rattle.model.specs.Network.{Network, width, size, firstId, valuesAt}
 use Rattle.model.specs.LiveWords.{isLive}
 use Rattle.network.specs.Layout.{Laid}
 use Rattle.scan.specs.declared.Look.{Look}
+use Rattle.scan.specs.declared.Looks.{Looks}
 
 -- ---- Looks
 
@@ -30,6 +31,10 @@ pub record Told (accepts : List ℕ → Bool) (columns : ℕ) (l : Look) : Type 
 pub record Tells (N : Network) (s : ℕ) (accepts : ℕ → Bool) (l : Look) : Type 0 where
   pub column : Somewhere l → l .column < width N s
   pub value : Somewhere l → (y : ℕ) → y < size N s → accepts y ≡ true → getD (valuesAt N s y) (l .column) 0 ≡ l .value
+
+-- Both looks tell so.
+abbrev pub Both : Network → ℕ → (ℕ → Bool) → Looks → Type 0
+Both N s accepts l = Tells N s accepts (l .one) × Tells N s accepts (l .two)
 
 -- the tuple whose values begin at place p has value v in column c and value u in column d
 abbrev pub lookedAt : List ℕ → ℕ → ℕ → ℕ → ℕ → ℕ → Bool

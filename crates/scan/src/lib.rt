@@ -8,7 +8,7 @@ ghost use Rattle.model.specs.Network.{size, firstId};
 ghost use Rattle.model.specs.Agreement.{cells, agreeing, agree};
 ghost use Rattle.model.specs.LiveWords.{isSet, isLive};
 ghost use Rattle.network.specs.Layout.{tabled, Laid};
-ghost use Rattle.scan.specs.Candidate.{Told, Tells, lookedAt, candidate, Ahead, Stepping};
+ghost use Rattle.scan.specs.Candidate.{Told, Tells, Both, lookedAt, candidate, Ahead, Stepping};
 use live::next;
 use network::agreement::place_of;
 use network::wide;
@@ -20,6 +20,12 @@ pub const NOWHERE: u16 = 65535;
 pub struct Look {
     pub column: u16,
     pub value: u16,
+}
+
+// Two looks at a relation.
+pub struct Looks {
+    pub one: Look,
+    pub two: Look,
 }
 
 // A place where x stands in a scope; the scope's length if nowhere.
@@ -87,6 +93,64 @@ pub fn look_with(
         &variables[scope_b..scope_b_end],
         skip,
     )
+}
+
+// The looks at relation s, which has tuple y, and those that tuple x of relation r adds while there are not two.
+pub fn add_looks(
+    variables: &[u16],
+    values: &[u16],
+    variable_starts: &[u16; 65],
+    value_starts: &[u16; 65],
+    looks: Looks,
+    r: u16,
+    x: u16,
+    s: u16,
+    y: u16,
+) -> Looks
+    requires { ⌜ (let N = tabled (now variables) (now values) (now «variable_starts») (now «value_starts») in Laid N (now «variable_starts») (now «value_starts») × ((x < size N r) × (y < size N s))) ⌝ }
+    ensures { λ l. ⌜ (let N = tabled (now (variables .entry)) (now (values .entry)) (now («variable_starts» .entry)) (now («value_starts» .entry)) in (accepts : ℕ → Bool) → ((z : ℕ) → z < size N s → accepts z ≡ true → agree N (firstId N r + x) (firstId N s + z) ≡ true) → Both N s accepts looks → Both N s accepts l) ⌝ }
+{
+    let one = looks.one;
+    if one.column != NOWHERE {
+        let two = look_with(
+            variables,
+            values,
+            variable_starts,
+            value_starts,
+            r,
+            x,
+            s,
+            y,
+            one.column,
+        );
+        return Looks { one, two };
+    }
+    let one = look_with(
+        variables,
+        values,
+        variable_starts,
+        value_starts,
+        r,
+        x,
+        s,
+        y,
+        NOWHERE,
+    );
+    if one.column == NOWHERE {
+        return looks;
+    }
+    let two = look_with(
+        variables,
+        values,
+        variable_starts,
+        value_starts,
+        r,
+        x,
+        s,
+        y,
+        one.column,
+    );
+    Looks { one, two }
 }
 
 // The first id from start on and below end whose tuple has both values; the tuples stand one after the other, the first at `at`.

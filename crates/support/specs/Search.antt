@@ -15,6 +15,8 @@ use Rattle.model.specs.Combination.{Combination}
 use Rattle.model.specs.LiveWords.{living}
 use Rattle.model.specs.Fault.{properMembers}
 use Rattle.network.specs.Layout.{tabled, Laid, starts}
+use Rattle.scan.specs.declared.Looks.{Looks}
+use Rattle.scan.specs.Candidate.{Somewhere, Both}
 use Rattle.support.specs.declared.Span.{Span}
 
 -- ---- The search
@@ -122,6 +124,20 @@ pub record Trial (N : Network) (c : Combination) (scope tuple : List ℕ) (place
   pub within : (j : ℕ) → j < k → getD chosen j 0 < size N (getD c j 0)
   pub widths : length scope ≡ length tuple
   pub seeking : place < k → cells scope tuple ≡ cellsOf N (idAt N c place (getD chosen place 0))
+
+-- What looks at member k ask: the seeking tuple and those chosen exist, and so does tuple x of member k.
+pub record Asking (N : Network) (c : Combination) (place own k : ℕ) (chosen : List ℕ) (x : ℕ) : Type 0 where
+  pub inside : k < length c
+  pub few : length c ≤ maxMembers
+  pub place-in : place < length c
+  pub own-in : own < size N (getD c place 0)
+  pub index : x < size N (getD c k 0)
+  pub within : (j : ℕ) → j < k → getD chosen j 0 < size N (getD c j 0)
+
+-- What looks at member k tell: a tuple that fits has their values, and there are two if there is one.
+pub record Looking (N : Network) (c : Combination) (place own k : ℕ) (chosen : List ℕ) (l : Looks) : Type 0 where
+  pub tells : Both N (getD c k 0) (fits N c (cellsOf N (idAt N c place own)) place k chosen) l
+  pub second : Somewhere (l .one) → Somewhere (l .two)
 
 -- ---- The answer
 

@@ -7,12 +7,18 @@ ghost use Rattle.model.specs.Network.{size, firstId, idsOf};
 ghost use Rattle.model.specs.Agreement.{cells, cellsOf, agreeing};
 ghost use Rattle.model.specs.Support.{supportFrom, completion};
 ghost use Rattle.network.specs.Layout.{tabled, Laid};
-ghost use Rattle.support.specs.Search.{searching, network, live, seeker, Ready, chosenIds, Begun, Seeking, spanAt, fits, Trial, answer};
+ghost use Rattle.support.specs.Search.{searching, network, live, seeker, Ready, chosenIds, Begun, Seeking, spanAt, fits, Trial, Asking, Looking, answer};
+use live::is_live;
 use live::next;
 use network::agreement::agree;
 use network::agreement::place_of;
 use network::agreement::tuples_agree;
 use network::wide;
+use scan::Look;
+use scan::Looks;
+use scan::NOWHERE;
+use scan::add_looks;
+use scan::step;
 
 // The indices of a support, one for each member; where there is none, ok is false.
 pub struct Found {
@@ -139,6 +145,74 @@ fn fits(
     true
 }
 
+// Looks at member k, which has tuple x: a tuple that fits has their values.
+fn looks_of(
+    variables: &[u16],
+    values: &[u16],
+    variable_starts: &[u16; 65],
+    value_starts: &[u16; 65],
+    members: &[u16],
+    place: usize,
+    own: u16,
+    k: usize,
+    chosen: [u16; 4],
+    x: u16,
+) -> Looks
+    requires { ⌜ (let N = tabled (now variables) (now values) (now «variable_starts») (now «value_starts») in Laid N (now «variable_starts») (now «value_starts») × Asking N (now members) place own k chosen x) ⌝ }
+    ensures { λ l. ⌜ Looking (tabled (now (variables .entry)) (now (values .entry)) (now («variable_starts» .entry)) (now («value_starts» .entry))) (now (members .entry)) place own k chosen l ⌝ }
+{
+    let none = Look {
+        column: NOWHERE,
+        value: 0,
+    };
+    let mut looks = Looks {
+        one: none,
+        two: none,
+    };
+    if k == place {
+        return looks;
+    }
+    let r = members[k];
+    looks = add_looks(
+        variables,
+        values,
+        variable_starts,
+        value_starts,
+        looks,
+        members[place],
+        own,
+        r,
+        x,
+    );
+    let mut j = k;
+    while 0 < j {
+        let two = looks.two;
+        if two.column != NOWHERE {
+            return looks;
+        }
+        j -= 1;
+        if j != place {
+            looks = add_looks(
+                variables,
+                values,
+                variable_starts,
+                value_starts,
+                looks,
+                members[j],
+                chosen[j],
+                r,
+                x,
+            );
+        }
+    }
+    let one = looks.one;
+    let two = looks.two;
+    if two.column == NOWHERE {
+        return Looks { one, two: one };
+    }
+    looks
+}
+
 // The first support at or after `low` that has the tuples chosen for the members before k.
 fn search(
     variables: &[u16],
@@ -167,49 +241,97 @@ fn search(
         };
     }
     let lowest = low[k];
-    let span = span_of(tuple_starts, members[k], k == place, own, resumes, lowest);
+    let r = members[k];
+    let span = span_of(tuple_starts, r, k == place, own, resumes, lowest);
     let first = span.first;
     let end = span.end;
-    let mut g = next(words, span.start, end);
+    let start = next(words, span.start, end);
+    if end <= start {
+        return Found {
+            ok: false,
+            tuples: chosen,
+        };
+    }
+    let looks = looks_of(
+        variables,
+        values,
+        variable_starts,
+        value_starts,
+        members,
+        place,
+        own,
+        k,
+        chosen,
+        start - first,
+    );
+    let one = looks.one;
+    let two = looks.two;
+    let mut g = step(
+        variables,
+        values,
+        variable_starts,
+        value_starts,
+        words,
+        r,
+        first,
+        start,
+        end,
+        one,
+        two,
+    );
     while g < end {
         let x = g - first;
-        if fits(
-            variables,
-            values,
-            variable_starts,
-            value_starts,
-            members,
-            scope,
-            tuple,
-            place,
-            k,
-            chosen,
-            x,
-        ) {
-            let mut more = chosen;
-            more[k] = x;
-            let found = search(
+        if is_live(words, g) {
+            if fits(
                 variables,
                 values,
                 variable_starts,
-                tuple_starts,
                 value_starts,
-                words,
                 members,
                 scope,
                 tuple,
                 place,
-                own,
-                low,
-                k + 1,
-                resumes && x == lowest,
-                more,
-            );
-            if found.ok {
-                return found;
+                k,
+                chosen,
+                x,
+            ) {
+                let mut more = chosen;
+                more[k] = x;
+                let found = search(
+                    variables,
+                    values,
+                    variable_starts,
+                    tuple_starts,
+                    value_starts,
+                    words,
+                    members,
+                    scope,
+                    tuple,
+                    place,
+                    own,
+                    low,
+                    k + 1,
+                    resumes && x == lowest,
+                    more,
+                );
+                if found.ok {
+                    return found;
+                }
             }
         }
-        g = next(words, g + 1, end);
+        g = step(
+            variables,
+            values,
+            variable_starts,
+            value_starts,
+            words,
+            r,
+            first,
+            g + 1,
+            end,
+            one,
+            two,
+        );
     }
     Found {
         ok: false,
