@@ -1,15 +1,16 @@
 -- Laws of tuples that stand one after the other in the value list, and of a look at one of them.
 -- From the laws of products, and the definition of `lookedAt`.
-use mathlib.Core.Path.{_≡_, sym, _∙_, ap}
-use mathlib.Core.Bool.{Bool, true, false, _&&_, and-false}
+use mathlib.Core.Path.{_≡_, refl, sym, _∙_, ap, ap₂}
+use mathlib.Core.Bool.{Bool, true, false, _&&_}
 use mathlib.Core.List.{List}
 use Prim.Native.Nat.{ℕ, suc, _+_, _-_, _*_, _≤_, _<_}
 use native.Mathlib.Nat.{mul-le-mul-left, mul-comm, mul-suc, add-mul}
 use native.Mathlib.Omega.{arith}
 use lib.Dec.{eqb}
 use lib.ListN.{getD}
-use borrow.Author.Tests.{ne-eqb}
-use Rattle.scan.specs.Candidate.{lookedAt}
+use borrow.Author.Tests.{eq-eqb, ne-eqb, eqb-true}
+use Rattle.model.proofs.Bools.{not-both}
+use Rattle.scan.specs.Candidate.{keyOf, lookedAt}
 
 -- ---- Tuples of w values each
 
@@ -30,11 +31,16 @@ rows-split a b c w h k =
 
 -- ---- A look at the tuple that begins at p
 
-module _ (values : List ℕ) (p c v d u : ℕ) where
-  pub looked-other : (getD values (p + c) 0 ≡ v → ⊥) → lookedAt values p c v d u ≡ false
-  looked-other e = ap (λ (b : Bool). b && eqb (getD values (p + d) 0) u) (ne-eqb (getD values (p + c) 0) v e)
+-- it has another key than its values' in columns c and d
+pub looked-other : (values : List ℕ) (p c d key a b : ℕ) → a ≡ getD values (p + c) 0 → b ≡ getD values (p + d) 0 → (keyOf a b ≡ key → ⊥) → lookedAt values p c d key ≡ false
+looked-other values p c d key a b e f n =
+    ne-eqb (keyOf (getD values (p + c) 0) (getD values (p + d) 0)) key (λ q. n (ap₂ keyOf e f ∙ q))
 
-  pub looked-other-two : (getD values (p + d) 0 ≡ u → ⊥) → lookedAt values p c v d u ≡ false
-  looked-other-two e =
-      ap (λ (b : Bool). eqb (getD values (p + c) 0) v && b) (ne-eqb (getD values (p + d) 0) u e)
-      ∙ and-false (eqb (getD values (p + c) 0) v)
+-- values with another key are not both the same
+pub key-other : (a b v u : ℕ) → eqb (keyOf a b) (keyOf v u) ≡ false → (eqb a v && eqb b u) ≡ false
+key-other a b v u e = go (eqb a v) refl (eqb b u) refl
+  where
+    go : (x : Bool) → eqb a v ≡ x → (y : Bool) → eqb b u ≡ y → (x && y) ≡ false
+    go true p true q = absurd (not-both (eq-eqb (keyOf a b) (keyOf v u) (ap₂ keyOf (eqb-true a v p) (eqb-true b u q))) e)
+    go true p false q = refl
+    go false p y q = refl

@@ -15,8 +15,8 @@ use Rattle.network.specs.declared.agreement.Place.{Place}
 use Rattle.network.specs.Layout.{Laid, placeAt}
 use Rattle.network.proofs.Places.{below-limit, rises, tuple-fits, place-within}
 use Rattle.scan.specs.declared.Look.{Look}
-use Rattle.scan.specs.Candidate.{nowhere, Somewhere, lookedAt, looked, candidate, Ahead, Stepping}
-use Rattle.scan.proofs.Rows.{row-next, rows-split}
+use Rattle.scan.specs.Candidate.{nowhere, Somewhere, keyOf, lookedAt, looked, candidate, Ahead, Stepping}
+use Rattle.scan.proofs.Rows.{row-next, rows-split, key-other}
 use Rattle.scan.proofs.Parts.{place-width, place-tuple, value-at}
 
 module _ {N : Network} {vs ws words : List ℕ} {r first start end : ℕ} {one two : Look} (S : Stepping N vs ws words r first start end one two) where
@@ -82,20 +82,22 @@ module _ {N : Network} {vs ws words : List ℕ} {r first start end : ℕ} {one t
           rw wide-as
           (ap (λ (i : ℕ). getD (N .values) i 0) q ∙ sym (value-at N vs ws (S .laid) r (h - first) (omega (arith, S .from-first, S .to-end)) c l))
 
-      pub step-refused : Somewhere one → (h : ℕ) → start ≤ h → h < end → lookedAt (N .values) (p .tuple + (h - start) * (p .«tuple_end» - p .tuple)) (one .column) (one .value) (two .column) (two .value) ≡ false → test h ≡ false
+      pub step-refused : Somewhere one → (h : ℕ) → start ≤ h → h < end → lookedAt (N .values) (p .tuple + (h - start) * (p .«tuple_end» - p .tuple)) (one .column) (two .column) (keyOf (one .value) (two .value)) ≡ false → test h ≡ false
       step-refused s h a b f =
+          let y = valuesAt N r (h - first) in
           candidate-refused s h
-          (ap₂ (λ (x y : ℕ). eqb x (one .value) && eqb y (two .value)) (sym (value-of h (one .column) a b (S .column-one s))) (sym (value-of h (two .column) a b (S .column-two s))) ∙ f)
+          (key-other (getD y (one .column) 0) (getD y (two .column) 0) (one .value) (two .value)
+          (ap₂ (λ (v u : ℕ). eqb (keyOf v u) (keyOf (one .value) (two .value))) (sym (value-of h (one .column) a b (S .column-one s))) (sym (value-of h (two .column) a b (S .column-two s))) ∙ f))
 
       -- the walk over all, and the walk over the live ones
-      pub step-strides : Somewhere one → (g : ℕ) → Ahead (λ (h : ℕ). lookedAt (N .values) (p .tuple + (h - start) * (p .«tuple_end» - p .tuple)) (one .column) (one .value) (two .column) (two .value)) start end g → Ahead test start end g
+      pub step-strides : Somewhere one → (g : ℕ) → Ahead (λ (h : ℕ). lookedAt (N .values) (p .tuple + (h - start) * (p .«tuple_end» - p .tuple)) (one .column) (two .column) (keyOf (one .value) (two .value))) start end g → Ahead test start end g
       step-strides s g A =
           record { from-start = A .from-start; to-end = A .to-end; passed = λ h a b. step-refused s h a (omega (arith, A .to-end)) (A .passed h a b) }
 
-      pub step-walks : Somewhere one → (g : ℕ) → Ahead (λ (h : ℕ). isLive words h && lookedAt (N .values) (p .tuple + (h - start) * (p .«tuple_end» - p .tuple)) (one .column) (one .value) (two .column) (two .value)) start end g → Ahead test start end g
+      pub step-walks : Somewhere one → (g : ℕ) → Ahead (λ (h : ℕ). isLive words h && lookedAt (N .values) (p .tuple + (h - start) * (p .«tuple_end» - p .tuple)) (one .column) (two .column) (keyOf (one .value) (two .value))) start end g → Ahead test start end g
       step-walks s g A =
           record { from-start = A .from-start; to-end = A .to-end; passed = λ h a b. go h a (omega (arith, A .to-end)) (isLive words h) refl (A .passed h a b) }
         where
-          go : (h : ℕ) → start ≤ h → h < end → (live : Bool) → isLive words h ≡ live → (isLive words h && lookedAt (N .values) (p .tuple + (h - start) * (p .«tuple_end» - p .tuple)) (one .column) (one .value) (two .column) (two .value)) ≡ false → test h ≡ false
+          go : (h : ℕ) → start ≤ h → h < end → (live : Bool) → isLive words h ≡ live → (isLive words h && lookedAt (N .values) (p .tuple + (h - start) * (p .«tuple_end» - p .tuple)) (one .column) (two .column) (keyOf (one .value) (two .value))) ≡ false → test h ≡ false
           go h a b true q f = step-refused s h a b (rw q at f)
           go h a b false q f = candidate-dead h q

@@ -36,9 +36,13 @@ pub record Tells (N : Network) (s : ℕ) (accepts : ℕ → Bool) (l : Look) : T
 abbrev pub Both : Network → ℕ → (ℕ → Bool) → Looks → Type 0
 Both N s accepts l = Tells N s accepts (l .one) × Tells N s accepts (l .two)
 
--- the tuple whose values begin at place p has value v in column c and value u in column d
-abbrev pub lookedAt : List ℕ → ℕ → ℕ → ℕ → ℕ → ℕ → Bool
-lookedAt values p c v d u = eqb (getD values (p + c) 0) v && eqb (getD values (p + d) 0) u
+-- two values as one number
+abbrev pub keyOf : ℕ → ℕ → ℕ
+keyOf v u = v * 65536 + u
+
+-- the tuple whose values begin at place p has the key in columns c and d
+abbrev pub lookedAt : List ℕ → ℕ → ℕ → ℕ → ℕ → Bool
+lookedAt values p c d key = eqb (keyOf (getD values (p + c) 0) (getD values (p + d) 0)) key
 
 -- tuple y of relation s has both looks' values
 abbrev pub looked : Network → ℕ → Look → Look → ℕ → Bool

@@ -153,7 +153,8 @@ pub fn add_looks(
     Looks { one, two }
 }
 
-// The first id from start on and below end whose tuple has both values; the tuples stand one after the other, the first at `at`.
+// The first id from start on and below end whose tuple has the key: the values in two columns as one number.
+// The tuples stand one after the other, the first at `at`.
 fn stride(
     values: &[u16],
     at: usize,
@@ -161,22 +162,17 @@ fn stride(
     start: u16,
     end: u16,
     column: usize,
-    value: u16,
     column_two: usize,
-    value_two: u16,
+    key: usize,
 ) -> u16
     requires { ⌜ (start ≤ end) × ((column < width) × ((«column_two» < width) × (at + (end - start) * width ≤ length (now values)))) ⌝ }
-    ensures { λ r. ⌜ Ahead (λ (h : ℕ). lookedAt (now (values .entry)) (at + (h - start) * width) column value «column_two» «value_two») start end r ⌝ }
+    ensures { λ r. ⌜ Ahead (λ (h : ℕ). lookedAt (now (values .entry)) (at + (h - start) * width) column «column_two» key) start end r ⌝ }
 {
     let mut g = start;
     let mut p = at;
     while g < end {
-        let a = values[p + column];
-        let b = values[p + column_two];
-        if a == value {
-            if b == value_two {
-                return g;
-            }
+        if wide(values[p + column]) * 65536 + wide(values[p + column_two]) == key {
+            return g;
         }
         g += 1;
         p += width;
@@ -184,7 +180,7 @@ fn stride(
     g
 }
 
-// The first bit of w below `limit` whose tuple has both values, the tuple of bit 0 at `at`; 64 if there is none.
+// The first bit of w below `limit` whose tuple has the key, the tuple of bit 0 at `at`; 64 if there is none.
 fn pick(
     w: u64,
     values: &[u16],
@@ -192,12 +188,11 @@ fn pick(
     width: usize,
     limit: usize,
     column: usize,
-    value: u16,
     column_two: usize,
-    value_two: u16,
+    key: usize,
 ) -> usize
     requires { ⌜ (column < width) × ((«column_two» < width) × (at + limit * width ≤ length (now values))) ⌝ }
-    ensures { λ r. ⌜ (r < 64 → (r < limit) × (isSet w r ≡ true)) × ((j : ℕ) → j < r → j < limit → (isSet w j && lookedAt (now (values .entry)) (at + j * width) column value «column_two» «value_two») ≡ false) ⌝ }
+    ensures { λ r. ⌜ (r < 64 → (r < limit) × (isSet w r ≡ true)) × ((j : ℕ) → j < r → j < limit → (isSet w j && lookedAt (now (values .entry)) (at + j * width) column «column_two» key) ≡ false) ⌝ }
 {
     let mut rest = w;
     while rest != 0 {
@@ -206,19 +201,15 @@ fn pick(
             return 64;
         }
         let p = at + t * width;
-        let a = values[p + column];
-        let b = values[p + column_two];
-        if a == value {
-            if b == value_two {
-                return t;
-            }
+        if wide(values[p + column]) * 65536 + wide(values[p + column_two]) == key {
+            return t;
         }
         rest = rest & (rest - 1);
     }
     64
 }
 
-// The first live id from start on and below end whose tuple has both values; the tuple of start is at `at`.
+// The first live id from start on and below end whose tuple has the key; the tuple of start is at `at`.
 fn walk(
     words: &[u64],
     values: &[u16],
@@ -227,12 +218,11 @@ fn walk(
     start: u16,
     end: u16,
     column: usize,
-    value: u16,
     column_two: usize,
-    value_two: u16,
+    key: usize,
 ) -> u16
     requires { ⌜ (start ≤ end) × ((end ≤ 64 * length (now words)) × ((end ≤ 4096) × ((column < width) × ((«column_two» < width) × (at + (end - start) * width ≤ length (now values)))))) ⌝ }
-    ensures { λ r. ⌜ Ahead (λ (h : ℕ). isLive (now (words .entry)) h && lookedAt (now (values .entry)) (at + (h - start) * width) column value «column_two» «value_two») start end r ⌝ }
+    ensures { λ r. ⌜ Ahead (λ (h : ℕ). isLive (now (words .entry)) h && lookedAt (now (values .entry)) (at + (h - start) * width) column «column_two» key) start end r ⌝ }
 {
     let begin = wide(start);
     let stop = wide(end);
@@ -240,17 +230,7 @@ fn walk(
     while g < stop {
         let w = words[g / 64] >> (g % 64);
         let p = at + (g - begin) * width;
-        let t = pick(
-            w,
-            values,
-            p,
-            width,
-            stop - g,
-            column,
-            value,
-            column_two,
-            value_two,
-        );
+        let t = pick(w, values, p, width, stop - g, column, column_two, key);
         if t < 64 {
             return (g + t) as u16;
         }
@@ -295,20 +275,9 @@ pub fn step(
     let width = p.tuple_end - at;
     let column = wide(one.column);
     let column_two = wide(two.column);
-    let value = one.value;
-    let value_two = two.value;
+    let key = wide(one.value) * 65536 + wide(two.value);
     if dense(words, start) {
-        return stride(
-            values,
-            at,
-            width,
-            start,
-            end,
-            column,
-            value,
-            column_two,
-            value_two,
-        );
+        return stride(values, at, width, start, end, column, column_two, key);
     }
     walk(
         words,
@@ -318,8 +287,7 @@ pub fn step(
         start,
         end,
         column,
-        value,
         column_two,
-        value_two,
+        key,
     )
 }

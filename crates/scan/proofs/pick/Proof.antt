@@ -1,9 +1,8 @@
--- `pick` passes over bits whose tuples have another value alone. The loop's invariant: so have all bits that are no longer set.
+-- `pick` passes over bits whose tuples have another key alone. The loop's invariant: so have all bits that are no longer set.
 -- From the laws of trailing zeros, of a word without its lowest bit, and of tuples that stand one after the other.
 use mathlib.Core.Path.{_≡_, refl, sym, _∙_, ap}
 use mathlib.Core.Bool.{Bool, true, false, _&&_, and-false}
 use mathlib.Core.List.{List}
-use mathlib.Core.Logic.{⊎-elim}
 use Prim.Native.Nat.{ℕ, _+_, _-_, _*_, _^_, _≤_, _<_}
 use native.Mathlib.Omega.{arith}
 use native.Mathlib.Decide.{ℕ-discrete}
@@ -15,22 +14,24 @@ use Rattle.model.specs.LiveWords.{isSet}
 use Rattle.model.proofs.Bools.{and-left, not-both}
 use Rattle.live.proofs.Bits.{isSet-high, isSet-and, trailing-below, trailing-at}
 use Rattle.scan.specs.Candidate.{lookedAt}
-use Rattle.scan.proofs.Rows.{row-within, looked-other, looked-other-two}
+use Rattle.scan.proofs.Rows.{row-within, looked-other}
 use Rattle.scan.proofs.Lowest.{lowest-less, lowest-rest}
 use Rattle.scan.proofs.pick.Statement.{statement}
 use Rattle.scan.proofs.pick.Tie as tie
 
 -- the look at the tuple of bit j
-abbrev look : List ℕ → ℕ → ℕ → ℕ → ℕ → ℕ → ℕ → ℕ → Bool
-look values at width column value column-two value-two j =
-    lookedAt values (at + j * width) column value column-two value-two
+abbrev look : List ℕ → ℕ → ℕ → ℕ → ℕ → ℕ → ℕ → Bool
+look values at width column column-two key j = lookedAt values (at + j * width) column column-two key
 
 abbrev Inv-loop : tie.InvT-loop
-Inv-loop w values at width limit column value column-two value-two rest₀ rest =
-    (rest ≤ w) × (((j : ℕ) → isSet rest j ≡ true → isSet w j ≡ true) × ((j : ℕ) → isSet rest j ≡ false → (isSet w j && look values at width column value column-two value-two j) ≡ false))
+Inv-loop w values at width limit column column-two key rest₀ rest =
+    (rest ≤ w) × (((j : ℕ) → isSet rest j ≡ true → isSet w j ≡ true) × ((j : ℕ) → isSet rest j ≡ false → (isSet w j && look values at width column column-two key j) ≡ false))
 
 abbrev μ-loop : tie.MeasureT-loop
-μ-loop w values at width limit column value column-two value-two rest₀ rest = rest
+μ-loop w values at width limit column column-two key rest₀ rest = rest
+
+abbrev lookOf : tie.Start Inv-loop μ-loop → ℕ → Bool
+lookOf s = look (s .args .values .now) (s .args .at) (s .args .width) (s .args .column) (s .args .column-two) (s .args .key)
 
 -- the lowest bit
 abbrev lowest : tie.In-loop Inv-loop μ-loop → ℕ
@@ -38,33 +39,27 @@ lowest c = trailingZeros 64 (c .before .loop .rest)
 
 lowest-set : (c : tie.In-loop Inv-loop μ-loop) → isSet (c .before .loop .rest) (lowest c) ≡ true
 lowest-set c =
-    let s = c .before .before in
+    let s = c .before .before .before in
     let l = c .before .loop in
     let t = c .loop-test .taken in
     trailing-at 64 (l .rest) (omega arith) (omega (arith, l .inv .0, s .fits .w))
 
 -- its tuple lies within the values
-within : (c : tie.Else1 Inv-loop μ-loop) → c .before .before .before .args .at + lowest (c .before) * c .before .before .before .args .width + c .before .before .before .args .width ≤ length (c .before .before .before .args .values .now)
+within : (c : tie.Else1 Inv-loop μ-loop) →
+    let s = c .before .before .before .before in
+    s .args .at + lowest (c .before) * s .args .width + s .args .width ≤ length (s .args .values .now)
 within c =
-    let s = c .before .before .before in
+    let s = c .before .before .before .before in
     omega (arith, row-within (lowest (c .before)) (s .args .limit) (s .args .width) (c .if1 .left), s .pre .1 .1)
 
--- and has another value
-other : (c : tie.Joined2 Inv-loop μ-loop) →
-    let s = c .before .before .before .before .before .before in
-    look (s .args .values .now) (s .args .at) (s .args .width) (s .args .column) (s .args .value) (s .args .column-two) (s .args .value-two) (lowest (c .before .before .before .before)) ≡ false
+-- and has another key
+other : (c : tie.Else2 Inv-loop μ-loop) → lookOf (c .before .before .before .before .before .before .before .before .before) (lowest (c .before .before .before .before .before .before)) ≡ false
 other c =
-    let a = c .before .before .before .before .before .before .args in
-    let p = a .at + lowest (c .before .before .before .before) * a .width in
-    ⊎-elim
-    (λ w. looked-other-two (a .values .now) p (a .column) (a .value) (a .column-two) (a .value-two) (w .1 .left))
-    (λ w. looked-other (a .values .now) p (a .column) (a .value) (a .column-two) (a .value-two) (w .left))
-    (c .if2 .came)
+    let a = c .before .before .before .before .before .before .before .before .before .args in
+    looked-other (a .values .now) (a .at + lowest (c .before .before .before .before .before .before) * a .width) (a .column) (a .column-two) (a .key) (c .before .before .before .wide .result) (c .before .wide2 .result) (c .before .before .before .wide .ensures .0) (c .before .wide2 .ensures .0) (c .if2 .left)
 
 loop-holds : tie.Need-loop-holds Inv-loop μ-loop
-loop-holds c =
-    let a = c .args in
-    (omega arith, (λ j e. e, λ j e. ap (λ (b : Bool). b && look (a .values .now) (a .at) (a .width) (a .column) (a .value) (a .column-two) (a .value-two) j) e))
+loop-holds c = (omega arith, (λ j e. e, λ j e. ap (λ (b : Bool). b && lookOf (c .before) j) e))
 
 cast-t : tie.Need-cast-t Inv-loop μ-loop
 cast-t c = omega (arith, trailing-le 64 (c .before .loop .rest))
@@ -81,60 +76,70 @@ mul-p c = omega (arith, within c)
 add-p : tie.Need-add-p Inv-loop μ-loop
 add-p c = omega (arith, within c)
 
-add-a : tie.Need-add-a Inv-loop μ-loop
-add-a c = omega (arith, within c, c .before .before .before .pre .0)
+add-wide : tie.Need-add-wide Inv-loop μ-loop
+add-wide c = omega (arith, within c, c .before .before .before .before .pre .0)
 
-mul-a : tie.Need-mul-a Inv-loop μ-loop
-mul-a c = omega (arith, within c, c .before .before .before .pre .0)
+mul-wide : tie.Need-mul-wide Inv-loop μ-loop
+mul-wide c = omega (arith, within c, c .before .before .before .before .pre .0)
 
-shared-slice-read-a : tie.Need-shared-slice-read-a Inv-loop μ-loop
-shared-slice-read-a c = omega (arith, within (c .before), c .before .before .before .before .pre .0)
+shared-slice-read-wide : tie.Need-shared-slice-read-wide Inv-loop μ-loop
+shared-slice-read-wide c = omega (arith, within (c .before), c .before .before .before .before .before .pre .0)
 
-add-b : tie.Need-add-b Inv-loop μ-loop
-add-b c = omega (arith, within (c .before), c .before .before .before .before .pre .1 .0)
+wide-requires : tie.Need-wide-requires Inv-loop μ-loop
+wide-requires c κs = search needs
 
-mul-b : tie.Need-mul-b Inv-loop μ-loop
-mul-b c = omega (arith, within (c .before), c .before .before .before .before .pre .1 .0)
+mul-if2 : tie.Need-mul-if2 Inv-loop μ-loop
+mul-if2 c = omega (arith, c .wide .ensures .1)
 
-shared-slice-read-b : tie.Need-shared-slice-read-b Inv-loop μ-loop
-shared-slice-read-b c = omega (arith, within (c .before .before), c .before .before .before .before .before .pre .1 .0)
+add-wide-2 : tie.Need-add-wide-2 Inv-loop μ-loop
+add-wide-2 c = omega (arith, within (c .before .before), c .before .before .before .before .before .before .pre .1 .0)
+
+mul-wide-2 : tie.Need-mul-wide-2 Inv-loop μ-loop
+mul-wide-2 c = omega (arith, within (c .before .before), c .before .before .before .before .before .before .pre .1 .0)
+
+shared-slice-read-wide-2 : tie.Need-shared-slice-read-wide-2 Inv-loop μ-loop
+shared-slice-read-wide-2 c = omega (arith, within (c .before .before .before), c .before .before .before .before .before .before .before .pre .1 .0)
+
+wide-requires-2 : tie.Need-wide-requires-2 Inv-loop μ-loop
+wide-requires-2 c κs = search needs
+
+add-if2 : tie.Need-add-if2 Inv-loop μ-loop
+add-if2 c = omega (arith, c .before .before .wide .ensures .1, c .wide2 .ensures .1)
 
 returns-2 : tie.Need-returns-2 Inv-loop μ-loop
 returns-2 c =
-    let e = c .before .before .before .before in (
-      λ h. (e .if1 .left, e .before .before .loop .inv .1 .0 (lowest (e .before)) (lowest-set (e .before))),
-      λ j h l. e .before .before .loop .inv .1 .1 j (trailing-below 64 (e .before .before .loop .rest) j h),
+    let e = c .before .before .before .before .before in
+    let l = e .before .before .loop in (
+      λ h. (e .if1 .left, l .inv .1 .0 (lowest (e .before)) (lowest-set (e .before))),
+      λ j h m. l .inv .1 .1 j (trailing-below 64 (l .rest) j h),
     )
 
 sub-rest : tie.Need-sub-rest Inv-loop μ-loop
-sub-rest c = let t = c .before .before .before .before .loop-test .taken in omega arith
+sub-rest c = let t = c .before .before .before .before .before .before .loop-test .taken in omega arith
 
 loop-less : tie.Need-loop-less Inv-loop μ-loop
-loop-less c = lowest-less (c .before .before .before .before .before .loop .rest) (c .before .before .before .before .loop-test .taken)
+loop-less c = lowest-less (c .before .before .before .before .before .before .before .loop .rest) (c .before .before .before .before .before .before .loop-test .taken)
+
+-- a bit no longer set was not set before, or is the lowest
+passed : (c : tie.Else2 Inv-loop μ-loop) (j : ℕ) → isSet (bitAnd (c .before .before .before .before .before .before .before .loop .rest) (c .before .before .before .before .before .before .before .loop .rest - 1)) j ≡ false → Dec (j ≡ lowest (c .before .before .before .before .before .before)) → (b : Bool) → isSet (c .before .before .before .before .before .before .before .loop .rest) j ≡ b → (isSet (c .before .before .before .before .before .before .before .before .before .args .w) j && lookOf (c .before .before .before .before .before .before .before .before .before) j) ≡ false
+passed c j e (yes q) b s =
+    let t = c .before .before .before .before .before .before .before .before .before in
+    ap (λ (x : Bool). isSet (t .args .w) j && x) (ap (lookOf t) q ∙ other c) ∙ and-false (isSet (t .args .w) j)
+passed c j e (no d) true s =
+    let i = c .before .before .before .before .before .before in
+    absurd (not-both (lowest-rest (i .before .loop .rest) (lowest i) j (lowest-set i) (trailing-below 64 (i .before .loop .rest)) s d) e)
+passed c j e (no d) false s = c .before .before .before .before .before .before .before .loop .inv .1 .1 j s
 
 loop-again : tie.Need-loop-again Inv-loop μ-loop
 loop-again c =
-    let i = c .before .before .before .before in
-    let l = i .before .loop in
-    let a = i .before .before .args in (
+    let i = c .before .before .before .before .before .before in
+    let l = i .before .loop in (
       omega (arith, and-le-l (l .rest) (l .rest - 1), l .inv .0),
       (
         λ j e. l .inv .1 .0 j (and-left (isSet (l .rest) j) (isSet (l .rest - 1) j) (sym (isSet-and (l .rest) (l .rest - 1) j) ∙ e)),
-        λ j e. go j e (ℕ-discrete j (lowest i)) (isSet (l .rest) j) refl,
+        λ j e. passed c j e (ℕ-discrete j (lowest i)) (isSet (l .rest) j) refl,
       ),
     )
-  where
-    go : (j : ℕ) → isSet (bitAnd (c .before .before .before .before .before .loop .rest) (c .before .before .before .before .before .loop .rest - 1)) j ≡ false → Dec (j ≡ lowest (c .before .before .before .before)) → (b : Bool) → isSet (c .before .before .before .before .before .loop .rest) j ≡ b →
-        let a = c .before .before .before .before .before .before .args in
-        (isSet (a .w) j && look (a .values .now) (a .at) (a .width) (a .column) (a .value) (a .column-two) (a .value-two) j) ≡ false
-    go j e (yes q) b s =
-        let a = c .before .before .before .before .before .before .args in
-        ap (λ (x : Bool). isSet (a .w) j && x) (ap (look (a .values .now) (a .at) (a .width) (a .column) (a .value) (a .column-two) (a .value-two)) q ∙ other c)
-        ∙ and-false (isSet (a .w) j)
-    go j e (no d) true s =
-        let i = c .before .before .before .before in
-        absurd (not-both (lowest-rest (i .before .loop .rest) (lowest i) j (lowest-set i) (trailing-below 64 (i .before .loop .rest)) s d) e)
-    go j e (no d) false s = c .before .before .before .before .before .loop .inv .1 .1 j s
 
 returns-3 : tie.Need-returns-3 Inv-loop μ-loop
 returns-3 c = (
@@ -153,12 +158,16 @@ pick-spec =
     returns
     mul-p
     add-p
-    add-a
-    mul-a
-    shared-slice-read-a
-    add-b
-    mul-b
-    shared-slice-read-b
+    add-wide
+    mul-wide
+    shared-slice-read-wide
+    wide-requires
+    mul-if2
+    add-wide-2
+    mul-wide-2
+    shared-slice-read-wide-2
+    wide-requires-2
+    add-if2
     returns-2
     sub-rest
     loop-less

@@ -1,14 +1,12 @@
 -- `step` passes over ids alone that are no candidates: by live words where there is no look, and else by the tuples' values.
 -- From what `next`, `stride` and `walk` ensure, and the laws of a step.
-use mathlib.Core.Path.{_≡_, sym, subst}
-use mathlib.Core.Bool.{_&&_}
-use Prim.Native.Nat.{ℕ, _+_, _-_, _*_}
+use mathlib.Core.Path.{sym, subst}
+use Prim.Native.Nat.{_+_, _-_, _*_, _≤_, _<_}
 use native.Mathlib.Omega.{arith}
+use lib.ListN.{length}
 use borrow.Author.Needs.{needs}
-use Rattle.model.specs.Network.{Network}
-use Rattle.model.specs.LiveWords.{isLive}
 use Rattle.network.specs.Layout.{tabled}
-use Rattle.scan.specs.Candidate.{lookedAt, candidate, Ahead}
+use Rattle.scan.specs.Candidate.{candidate, Ahead}
 use Rattle.scan.proofs.Steps.{step-live, step-none, step-place, step-forward, step-fits, step-columns, step-strides, step-walks}
 use Rattle.scan.proofs.step.Statement.{statement}
 use Rattle.scan.proofs.step.Tie as tie
@@ -44,58 +42,72 @@ wide-requires c κs = search needs
 wide-requires-2 : tie.Need-wide-requires-2
 wide-requires-2 c κs = search needs
 
+wide-requires-3 : tie.Need-wide-requires-3
+wide-requires-3 c κs = search needs
+
+mul-key : tie.Need-mul-key
+mul-key c = omega (arith, c .wide3 .ensures .1)
+
+wide-requires-4 : tie.Need-wide-requires-4
+wide-requires-4 c κs = search needs
+
+add-key : tie.Need-add-key
+add-key c = omega (arith, c .before .wide3 .ensures .1, c .wide4 .ensures .1)
+
 dense-requires : tie.Need-dense-requires
-dense-requires c κs = let b = c .before .before .before .before in omega (arith, entry b .pre .worded, b .if2 .left)
+dense-requires c κs = let b = c .before .before .before .before .before .before in omega (arith, entry b .pre .worded, b .if2 .left)
+
+-- ---- The tuples' values
+
+abbrev Widened : Type 0
+Widened = tie.After-wide4
+
+abbrev placed : Widened → tie.After-place-of
+placed w = w .before .before .before .before .before
+
+-- the columns lie within the tuples
+columns : (w : Widened) → (w .before .before .before .wide .result < placed w .place-of .result .«tuple_end» - placed w .place-of .result .tuple) × (w .before .before .wide2 .result < placed w .place-of .result .«tuple_end» - placed w .place-of .result .tuple)
+columns w =
+    let p = placed w in
+    let b = p .before in
+    let k = step-columns (entry b .pre) (b .if2 .left) (p .place-of .result) (p .place-of .ensures) (b .before .if1 .left) in
+    (omega (arith, k .0, w .before .before .before .wide .ensures .0), omega (arith, k .1, w .before .before .wide2 .ensures .0))
+
+-- and the tuples within the values
+values-in : (w : Widened) → placed w .place-of .result .tuple + (entry (placed w .before) .args .end - entry (placed w .before) .args .start) * (placed w .place-of .result .«tuple_end» - placed w .place-of .result .tuple) ≤ length (entry (placed w .before) .args .values .now)
+values-in w =
+    let p = placed w in
+    let b = p .before in
+    step-fits (entry b .pre) (b .if2 .left) (p .place-of .result) (p .place-of .ensures)
 
 stride-requires : tie.Need-stride-requires
 stride-requires c κs =
-    let p = c .before .before .before .before .before in
-    let b = p .before in
-    let k = step-columns (entry b .pre) (b .if2 .left) (p .place-of .result) (p .place-of .ensures) (b .before .if1 .left) in (
-      entry b .pre .forward,
-      (
-        omega (arith, k .0, c .before .before .before .wide .ensures .0),
-        (
-          omega (arith, k .1, c .before .before .wide2 .ensures .0),
-          step-fits (entry b .pre) (b .if2 .left) (p .place-of .result) (p .place-of .ensures),
-        ),
-      ),
-    )
+    let w = c .before .before in
+    let k = columns w in
+    (entry (placed w .before) .pre .forward, (k .0, (k .1, values-in w)))
 
 returns-3 : tie.Need-returns-3
 returns-3 c =
-    let p = c .before .before .before .before .before .before in
+    let w = c .before .before .before in
+    let p = placed w in
     let b = p .before in
     step-strides (entry b .pre) (b .if2 .left) (p .place-of .result) (p .place-of .ensures) (b .before .if1 .left) (c .stride .result)
-    (rw (c .before .before .before .before .wide .ensures .0, c .before .before .before .wide2 .ensures .0) at (c .stride .ensures))
+    (rw (w .before .before .before .wide .ensures .0, w .before .before .wide2 .ensures .0, w .before .wide3 .ensures .0, w .wide4 .ensures .0) at (c .stride .ensures))
 
 walk-requires : tie.Need-walk-requires
 walk-requires c κs =
-    let p = c .before .before .before .before .before in
-    let b = p .before in
-    let k = step-columns (entry b .pre) (b .if2 .left) (p .place-of .result) (p .place-of .ensures) (b .before .if1 .left) in (
-      entry b .pre .forward,
-      (
-        entry b .pre .worded,
-        (
-          entry b .pre .few,
-          (
-            omega (arith, k .0, c .before .before .before .wide .ensures .0),
-            (
-              omega (arith, k .1, c .before .before .wide2 .ensures .0),
-              step-fits (entry b .pre) (b .if2 .left) (p .place-of .result) (p .place-of .ensures),
-            ),
-          ),
-        ),
-      ),
-    )
+    let w = c .before .before in
+    let S = entry (placed w .before) .pre in
+    let k = columns w in
+    (S .forward, (S .worded, (S .few, (k .0, (k .1, values-in w)))))
 
 returns-4 : tie.Need-returns-4
 returns-4 c =
-    let p = c .before .before .before .before .before .before in
+    let w = c .before .before .before in
+    let p = placed w in
     let b = p .before in
     step-walks (entry b .pre) (b .if2 .left) (p .place-of .result) (p .place-of .ensures) (b .before .if1 .left) (c .walk .result)
-    (rw (c .before .before .before .before .wide .ensures .0, c .before .before .before .wide2 .ensures .0) at (c .walk .ensures))
+    (rw (w .before .before .before .wide .ensures .0, w .before .before .wide2 .ensures .0, w .before .wide3 .ensures .0, w .wide4 .ensures .0) at (c .walk .ensures))
 
 pub step-spec : {M : Type 1} → statement M
 step-spec =
@@ -109,6 +121,10 @@ step-spec =
     sub-width
     wide-requires
     wide-requires-2
+    wide-requires-3
+    mul-key
+    wide-requires-4
+    add-key
     dense-requires
     stride-requires
     returns-3

@@ -17,26 +17,26 @@ use Rattle.scan.proofs.walk.Statement.{statement}
 use Rattle.scan.proofs.walk.Tie as tie
 
 -- the test of id h
-abbrev pass : List ℕ → List ℕ → ℕ → ℕ → ℕ → ℕ → ℕ → ℕ → ℕ → ℕ → Bool
-pass words values at width start column value column-two value-two h =
-    isLive words h && lookedAt values (at + (h - start) * width) column value column-two value-two
+abbrev pass : List ℕ → List ℕ → ℕ → ℕ → ℕ → ℕ → ℕ → ℕ → ℕ → Bool
+pass words values at width start column column-two key h =
+    isLive words h && lookedAt values (at + (h - start) * width) column column-two key
 
 abbrev Inv-loop : tie.InvT-loop
-Inv-loop words values at width start end column value column-two value-two begin stop g₀ g =
-    (start ≤ g) × ((h : ℕ) → start ≤ h → h < g → h < end → pass words values at width start column value column-two value-two h ≡ false)
+Inv-loop words values at width start end column column-two key begin stop g₀ g =
+    (start ≤ g) × ((h : ℕ) → start ≤ h → h < g → h < end → pass words values at width start column column-two key h ≡ false)
 
 abbrev μ-loop : tie.MeasureT-loop
-μ-loop words values at width start end column value column-two value-two begin stop g₀ g = end - g
+μ-loop words values at width start end column column-two key begin stop g₀ g = end - g
 
 abbrev passOf : tie.Start Inv-loop μ-loop → ℕ → Bool
-passOf s = pass (s .args .words .now) (s .args .values .now) (s .args .at) (s .args .width) (s .args .start) (s .args .column) (s .args .value) (s .args .column-two) (s .args .value-two)
+passOf s = pass (s .args .words .now) (s .args .values .now) (s .args .at) (s .args .width) (s .args .start) (s .args .column) (s .args .column-two) (s .args .key)
 
 -- the id of bit j, seen from id g
-pass-bit : (words values : List ℕ) (at width start c v d u g j : ℕ) → start ≤ g → g % 64 + j < 64 → (isSet (getD words (g / 64) 0 / 2 ^ (g % 64)) j && lookedAt values (at + (g - start) * width + j * width) c v d u) ≡ false → pass words values at width start c v d u (g + j) ≡ false
-pass-bit words values at width start c v d u g j l h e =
+pass-bit : (words values : List ℕ) (at width start c d key g j : ℕ) → start ≤ g → g % 64 + j < 64 → (isSet (getD words (g / 64) 0 / 2 ^ (g % 64)) j && lookedAt values (at + (g - start) * width + j * width) c d key) ≡ false → pass words values at width start c d key (g + j) ≡ false
+pass-bit words values at width start c d key g j l h e =
     let i : g + j - start ≡ (g - start) + j = omega arith in
     let p : at + (g + j - start) * width ≡ at + (g - start) * width + j * width = omega (arith, ap (λ (n : ℕ). n * width) i, add-mul (g - start) j width) in
-    ap₂ (λ (b : Bool) (q : ℕ). b && lookedAt values q c v d u) (isLive-shr words g j h) p ∙ e
+    ap₂ (λ (b : Bool) (q : ℕ). b && lookedAt values q c d key) (isLive-shr words g j h) p ∙ e
 
 -- the tuples from the one reached on lie within the values
 within : (c : tie.In-loop Inv-loop μ-loop) →
@@ -65,7 +65,7 @@ picked c i r b h a k e = go (decLe (c .before .before .before .loop .g) h)
         let j : l .g + (h - l .g) ≡ h = omega arith in
         let d = rw (n .before .before .wide .ensures .0, n .before .wide2 .ensures .0) at (c .pick .ensures .1) in
         ap (passOf s) (sym j)
-        ∙ pass-bit (x .words .now) (x .values .now) (x .at) (x .width) (x .start) (x .column) (x .value) (x .column-two) (x .value-two) (l .g) (h - l .g) (l .inv .0) (omega arith)
+        ∙ pass-bit (x .words .now) (x .values .now) (x .at) (x .width) (x .start) (x .column) (x .column-two) (x .key) (l .g) (h - l .g) (l .inv .0) (omega arith)
         (d (h - l .g) (omega arith) (omega arith))
     go (no q) = c .before .before .before .loop .inv .1 h a (omega arith) e
 
