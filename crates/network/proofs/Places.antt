@@ -22,7 +22,7 @@ length-part from to l h k =
     length-take-le (to - from) (drop from l) (omega arith)
 
 module _ (N : Network) (vs ws : List ℕ) (laid : Laid N vs ws) (r x : ℕ) (h : x < size N r) where
-  exists : r < length (N .relations)
+  pub exists : r < length (N .relations)
   exists = size-below N r x h
 
   pub below-limit : r < 64
@@ -44,7 +44,7 @@ module _ (N : Network) (vs ws : List ℕ) (laid : Laid N vs ws) (r x : ℕ) (h :
   pub rises : getD vs r 0 ≤ getD vs (r + 1) 0
   rises = let a = scope-start in let e = scope-end in omega arith
 
-  width-in : widthIn vs r ≡ width N r
+  pub width-in : widthIn vs r ≡ width N r
   width-in = let a = scope-start in let e = scope-end in omega arith
 
   scope-fits : getD vs (r + 1) 0 ≤ length (N .variables)
@@ -61,11 +61,11 @@ module _ (N : Network) (vs ws : List ℕ) (laid : Laid N vs ws) (r x : ℕ) (h :
       let f = mul-comm (width N r) x in
       omega (arith, (faultless N (laid .faultless)) .values)
 
-  scope-part : take (getD vs (r + 1) 0 - getD vs r 0) (drop (getD vs r 0) (N .variables)) ≡ scopeOf N r
+  pub scope-part : take (getD vs (r + 1) 0 - getD vs r 0) (drop (getD vs r 0) (N .variables)) ≡ scopeOf N r
   unfolding scopeOf
   scope-part = ap₂ (λ (n m : ℕ). take n (drop m (N .variables))) width-in scope-start
 
-  tuple-start : getD ws r 0 + x * widthIn vs r ≡ before valuesIn (N .relations) r + x * width N r
+  pub tuple-start : getD ws r 0 + x * widthIn vs r ≡ before valuesIn (N .relations) r + x * width N r
   tuple-start = ap₂ (λ (a w : ℕ). a + x * w) value-start width-in
 
   tuple-part : take (getD ws r 0 + x * widthIn vs r + widthIn vs r - (getD ws r 0 + x * widthIn vs r)) (drop (getD ws r 0 + x * widthIn vs r) (N .values)) ≡ valuesAt N r x

@@ -1,9 +1,9 @@
--- Laws of one member's turn in the search: the walk from live id to live id, and what is known once one tuple more is chosen.
--- From the laws of the walk, of the tuples chosen and of the search.
+-- Laws of one member's turn in the search: the walk from candidate to candidate, and what is known once one tuple more is chosen.
+-- From the laws of the walk, of looks, of the tuples chosen and of the search.
 use mathlib.Core.Path.{_≡_, refl, sym, _∙_, ap, ap₂, subst}
-use mathlib.Core.Bool.{Bool, true, false, _&&_, false≢true}
+use mathlib.Core.Bool.{Bool, true, false, _&&_, _||_, false≢true}
 use mathlib.Core.Option.{Option, none, some, orElse}
-use mathlib.Core.List.{List, [], _∷_, _++_, map, List·Memᴰ, List·Memᴰ·tail, List·Memᴰ·eq-of-singleton}
+use mathlib.Core.List.{List, [], _∷_, _++_, map, List·Memᴰ, List·Memᴰ·tail, List·Memᴰ·eq-of-singleton, Memᴰ·append-right}
 use Prim.Native.Nat.{ℕ, suc, _+_, _-_, _*_, _≤_, _<_}
 use native.Mathlib.Numerals.{add-one}
 use native.Mathlib.Decide.{ℕ-discrete}
@@ -11,24 +11,26 @@ use native.Mathlib.Omega.{arith}
 use lib.Dec.{ltb, eqb}
 use lib.ListN.{length, getD, take, drop, set}
 use lib.Seq.{take-suc, take-suc-set, getD-set-same, getD-set-other}
-use borrow.Author.Tests.{eqb-true, eqb-false, eq-eqb, ltb-true, ltb-false}
+use borrow.Author.Tests.{eqb-true, eqb-false, eq-eqb, ne-eqb, ltb-true, ltb-false}
 use Rattle.model.specs.Lists.{all, pairwise, earlier}
-use Rattle.model.specs.Network.{size, total, firstId, idsOf, relationOf}
+use Rattle.model.specs.Network.{size, total, firstId, idsOf, relationOf, valuesAt}
 use Rattle.model.specs.Agreement.{Cell, cells, cellsOf, agreeing, agree}
 use Rattle.model.specs.TupleSet.{has}
 use Rattle.model.specs.LiveWords.{isLive, nextLive}
 use Rattle.model.specs.Support.{completion}
-use Rattle.model.proofs.Bools.{and-left, and-intro, not-both}
-use Rattle.model.proofs.Lists.{all-at, all-append, pairwise-append, earlier-above, later-append}
+use Rattle.model.proofs.Bools.{and-left, and-intro, not-both, or-false-left}
+use Rattle.model.proofs.Lists.{here, all-at, all-append, pairwise-append, earlier-above, later-append}
 use Rattle.model.proofs.Network.{relationOf-at}
 use Rattle.model.proofs.Agreement.{agree-sym}
 use Rattle.model.proofs.LiveWords.{living-has, nextLive-first}
-use Rattle.model.proofs.Search.{completion-clash, reach, reach-none, reach-step, reach-live}
-use Rattle.support.specs.Search.{Search, network, live, idAt, seeker, Ready, chosenIds, Begun, Seeking, fits, Trial}
+use Rattle.model.proofs.Search.{completion-clash, completion-dead, reach, reach-none, reach-step, reach-skip, reach-live}
+use Rattle.scan.specs.declared.Looks.{Looks}
+use Rattle.scan.specs.Candidate.{nowhere, Somewhere, looked, candidate, Ahead, Stepping}
+use Rattle.support.specs.Search.{Search, network, live, idAt, seeker, Ready, chosenIds, Begun, Seeking, fits, Trial, Asking, Looking}
 use Rattle.support.proofs.Chosen.{chosen-set, fits-own, fits-other}
 use Rattle.support.proofs.Walk.{members-differ, few-tuples, member-below, member-start, member-within, span, span-inside, walk-whole}
 
--- ---- The walk from live id to live id
+-- ---- The walk from candidate to candidate
 
 module _ (Q : Search) (k : ℕ) (chosen : List ℕ) where
   -- what there is to find once the tuples before k are chosen
@@ -44,20 +46,19 @@ abbrev pub left : Search → ℕ → Bool → List ℕ → ℕ → Option (List 
 left Q k resumes chosen g =
     reach (network Q) (live Q) (seeker Q) (Q .low) (chosenIds (network Q) (Q .members) chosen k) (map (idsOf (network Q)) (drop (suc k) (Q .members))) g (span Q k resumes .end)
 
--- The walk has come to id g: it is live, and what is left to find is all there is to find.
+-- The walk has come to id g: what is left to find is all there is to find.
 pub record Come (Q : Search) (k : ℕ) (resumes : Bool) (chosen : List ℕ) (g : ℕ) : Type 0 where
   pub from-start : span Q k resumes .start ≤ g
   pub to-end : g ≤ span Q k resumes .end
-  pub lives : g < span Q k resumes .end → isLive (Q .words) g ≡ true
   pub rest : left Q k resumes chosen g ≡ sought Q k chosen
 
 -- what `span_of` asks
-pub span-asks : (Q : Search) (k : ℕ) (R : Ready Q) → k < length (Q .members) → (getD (Q .members) k 0 < 64) × ((getD (Q .tupleStarts) (getD (Q .members) k 0) 0 + Q .own < 65535) × (getD (Q .tupleStarts) (getD (Q .members) k 0) 0 + getD (Q .low) k 0 < 65535))
+pub span-asks : (Q : Search) (k : ℕ) (R : Ready Q) → k < length (Q .members) → (getD (Q .members) k 0 < 64) × (getD (Q .tupleStarts) (getD (Q .members) k 0) 0 + getD (Q .low) k 0 < 65535)
 span-asks Q k R inside =
     let m = member-start Q R k inside in
     let w = member-within Q R k inside in
     let f = few-tuples Q R in
-    (member-below Q R k inside, (omega (arith, R .own, member-within Q R (Q .place) (R .place)), omega (arith, R .low-within k inside)))
+    (member-below Q R k inside, omega (arith, R .low-within k inside))
 
 -- What is known at the turn of member k, whose relation begins at `first`, and whose walk goes from `begin` to `end`.
 pub record Turn (Q : Search) (k : ℕ) (resumes : Bool) (chosen : List ℕ) (first begin end : ℕ) : Type 0 where
@@ -110,7 +111,6 @@ module _ {Q : Search} {k : ℕ} {resumes : Bool} {chosen : List ℕ} {first begi
       (record {
         from-start = omega (arith, f .from-i);
         to-end = f .to-end;
-        lives = f .passes;
         rest = sym (reach-live (network Q) (Q .words) (seeker Q) (Q .low) ids later i stop h stop-total) ∙ e;
       })
 
@@ -136,18 +136,34 @@ module _ {Q : Search} {k : ℕ} {resumes : Bool} {chosen : List ℕ} {first begi
         ∙ reach-step (network Q) (live Q) (seeker Q) (Q .low) ids later g stop before-stop
         ∙ ap (λ (o : Option (List ℕ)). orElse o (left Q k resumes chosen (suc g))) e
 
-    pub next-ahead : (g < nextLive (Q .words) (g + 1) end) × (nextLive (Q .words) (g + 1) end ≤ end)
-    next-ahead = let f = nextLive-first (Q .words) (g + 1) end (omega arith) in (omega (arith, f .from-i), f .to-end)
-
-    pub come-next : onward Q k chosen g ≡ none → Come Q k resumes chosen (nextLive (Q .words) (g + 1) end)
+    pub come-next : onward Q k chosen g ≡ none → Come Q k resumes chosen (g + 1)
     unfolding orElse
     come-next e =
         let b = before-stop in
-        come-live (g + 1) (omega (arith, C .from-start)) (omega arith)
-        (rw add-one
-        (sym (ap (λ (o : Option (List ℕ)). orElse o (left Q k resumes chosen (suc g))) e)
-        ∙ sym (reach-step (network Q) (live Q) (seeker Q) (Q .low) ids later g stop before-stop)
-        ∙ C .rest))
+        record {
+          from-start = omega (arith, C .from-start);
+          to-end = omega arith;
+          rest =
+              rw add-one
+              (sym (ap (λ (o : Option (List ℕ)). orElse o (left Q k resumes chosen (suc g))) e)
+              ∙ sym (reach-step (network Q) (live Q) (seeker Q) (Q .low) ids later g stop before-stop)
+              ∙ C .rest);
+        }
+
+  module _ (g : ℕ) (from : span Q k resumes .start ≤ g) (h : g < end) where
+    in-walk : g < stop
+    in-walk = omega arith
+
+    -- what `is_live` asks
+    pub live-asks : g < 64 * length (Q .words)
+    live-asks = let t = stop-total in omega (arith, R .words)
+
+    -- a dead tuple leads to nothing
+    pub come-dead : isLive (Q .words) g ≡ false → onward Q k chosen g ≡ none
+    come-dead e =
+        let t = stop-total in
+        completion-dead (network Q) (live Q) (seeker Q) (Q .low) (ids ++ (g ∷ [])) later (Memᴰ·append-right ids here)
+        (living-has (total (network Q)) (Q .words) g (omega (arith, in-walk)) ∙ e)
 
     -- ---- The tuple tried
 
@@ -155,14 +171,15 @@ module _ {Q : Search} {k : ℕ} {resumes : Bool} {chosen : List ℕ} {first begi
     index = g - first
 
     pub index-below : index < size (network Q) (getD (Q .members) k 0)
-    index-below = let i = span-inside Q k R inside resumes in let f = first-id in omega (arith, i .from-first, i .to-end, C .from-start)
+    index-below = let i = span-inside Q k R inside resumes in let f = first-id in omega (arith, i .from-first, i .to-end, from)
 
     id-back : idAt (network Q) (Q .members) k index ≡ g
-    id-back = let i = span-inside Q k R inside resumes in let f = first-id in omega (arith, i .from-first, C .from-start)
+    id-back = let i = span-inside Q k R inside resumes in let f = first-id in omega (arith, i .from-first, from)
 
-    pub trial : (scope tuple : List ℕ) → Seeking Q scope tuple → Trial (network Q) (Q .members) scope tuple (Q .place) k chosen index
-    trial scope tuple s =
+    pub trial : (k ≡ Q .place → ⊥) → (scope tuple : List ℕ) → Seeking Q scope tuple → Trial (network Q) (Q .members) scope tuple (Q .place) k chosen index
+    trial d scope tuple s =
         record {
+          other = d;
           inside = inside;
           few = R .few;
           index = index-below;
@@ -171,12 +188,25 @@ module _ {Q : Search} {k : ℕ} {resumes : Bool} {chosen : List ℕ} {first begi
           seeking = λ l. s .seeking ∙ ap (λ (x : ℕ). cellsOf (network Q) (idAt (network Q) (Q .members) (Q .place) x)) (sym (B .own l));
         }
 
+    -- what looks ask
+    pub asking : (k ≡ Q .place → ⊥) → Asking (network Q) (Q .members) (Q .place) (Q .own) k chosen index
+    asking d =
+        record {
+          other = d;
+          inside = inside;
+          few = R .few;
+          place-in = R .place;
+          own-in = R .own;
+          index = index-below;
+          within = B .within;
+        }
+
     -- at the seeking tuple's place, it is that tuple
     index-own : k ≡ Q .place → index ≡ Q .own
     index-own e =
         let t = eq-eqb k (Q .place) e in
-        let l : getD (Q .tupleStarts) (getD (Q .members) k 0) 0 + Q .own ≤ g = rw t at (C .from-start) in
-        let u : g < getD (Q .tupleStarts) (getD (Q .members) k 0) 0 + Q .own + 1 = rw t at before-stop in
+        let l : getD (Q .tupleStarts) (getD (Q .members) k 0) 0 + Q .own ≤ g = rw t at (from) in
+        let u : g < getD (Q .tupleStarts) (getD (Q .members) k 0) 0 + Q .own + 1 = rw t at in-walk in
         omega arith
 
     id-seeker : k ≡ Q .place → g ≡ seeker Q
@@ -207,7 +237,7 @@ module _ {Q : Search} {k : ℕ} {resumes : Bool} {chosen : List ℕ} {first begi
             let l : getD (Q .low) k 0 ≡ Q .own = ap (λ (j : ℕ). getD (Q .low) j 0) p ∙ R .low-own in
             omega arith
         go false q =
-            let l : getD (Q .tupleStarts) (getD (Q .members) k 0) 0 + getD (Q .low) k 0 ≤ g = rw (q, e) at (C .from-start) in
+            let l : getD (Q .tupleStarts) (getD (Q .members) k 0) 0 + getD (Q .low) k 0 ≤ g = rw (q, e) at (from) in
             omega arith
 
     module _ (scope tuple : List ℕ) (s : Seeking Q scope tuple) where
@@ -292,12 +322,12 @@ module _ {Q : Search} {k : ℕ} {resumes : Bool} {chosen : List ℕ} {first begi
           ∙ earlier-above k index (Q .low) (omega arith) (omega arith)
       more-past false q e = ap (earlier (Q .low)) take-more ∙ later-append (take k chosen) (index ∷ []) (Q .low) (B .past-low q)
 
-      begun-more : fit ≡ true → Begun Q (suc k) resumed more
-      begun-more e =
+      begun-more : isLive (Q .words) g ≡ true → fit ≡ true → Begun Q (suc k) resumed more
+      begun-more l e =
           let N = network Q in
           let t = stop-total in
-          let b = before-stop in
-          let lives : has (live Q) g ≡ true = living-has (total N) (Q .words) g (omega arith) ∙ C .lives b in
+          let b = in-walk in
+          let lives : has (live Q) g ≡ true = living-has (total N) (Q .words) g (omega arith) ∙ l in
           record {
             depth = inside;
             within = at-place (λ (j x : ℕ). x < size N (getD (Q .members) j 0)) (B .within) index-below;
@@ -312,5 +342,65 @@ module _ {Q : Search} {k : ℕ} {resumes : Bool} {chosen : List ℕ} {first begi
             past-low = more-past resumes refl;
           }
 
-      pub come-more : fit ≡ true → Begun Q (k + 1) resumed more
-      come-more e = rw add-one (begun-more e)
+      pub come-more : isLive (Q .words) g ≡ true → fit ≡ true → Begun Q (k + 1) resumed more
+      come-more l e = rw add-one (begun-more l e)
+
+  -- ---- What a step passes over
+
+  module _ (l : Looks) (L : Looking (network Q) (Q .members) (Q .place) (Q .own) k chosen l) where
+    abbrev rel : ℕ
+    rel = getD (Q .members) k 0
+
+    -- what `step` asks
+    pub step-asks : (i : ℕ) → span Q k resumes .start ≤ i → i ≤ end → Stepping (network Q) (Q .variableStarts) (Q .valueStarts) (Q .words) rel first i end (l .one) (l .two)
+    step-asks i from h =
+        let j = span-inside Q k R inside resumes in
+        let f = first-id in
+        let t = stop-total in
+        let few = few-tuples Q R in
+        let e = T .is-end in
+        record {
+          laid = R .laid;
+          is-first = f;
+          from-first = omega (arith, j .from-first);
+          forward = h;
+          to-end = omega (arith, j .to-end);
+          worded = omega (arith, R .words);
+          few = omega arith;
+          column-one = L .tells .0 .column;
+          column-two = λ m. L .tells .1 .column (L .second m);
+        }
+
+    module _ (scope tuple : List ℕ) (s : Seeking Q scope tuple) where
+      abbrev fits-at : ℕ → Bool
+      fits-at g = fits (network Q) (Q .members) (cells scope tuple) (Q .place) k chosen (g - first)
+
+      -- a live id that is no candidate does not fit
+      misfit : (g : ℕ) → span Q k resumes .start ≤ g → g < end → isLive (Q .words) g ≡ true → candidate (network Q) (Q .words) rel first (l .one) (l .two) g ≡ false → (b : Bool) → fits-at g ≡ b → b ≡ false
+      unfolding candidate
+      misfit g from h lives e true q =
+          let none : (eqb (l .one .column) nowhere || looked (network Q) rel (l .one) (l .two) (g - first)) ≡ false = rw lives at e in
+          let m : Somewhere (l .one) = eqb-false (l .one .column) nowhere (or-false-left (eqb (l .one .column) nowhere) (looked (network Q) rel (l .one) (l .two) (g - first)) none) in
+          let fit : fits (network Q) (Q .members) (cellsOf (network Q) (seeker Q)) (Q .place) k chosen (g - first) ≡ true = ap (λ (xs : List Cell). fits (network Q) (Q .members) xs (Q .place) k chosen (g - first)) (sym (s .seeking)) ∙ q in
+          let below = index-below g from h in
+          let one = L .tells .0 .value m (g - first) below fit in
+          let two = L .tells .1 .value (L .second m) (g - first) below fit in
+          absurd (not-both (and-intro (eq-eqb (getD (valuesAt (network Q) rel (g - first)) (l .one .column) 0) (l .one .value) one) (eq-eqb (getD (valuesAt (network Q) rel (g - first)) (l .two .column) 0) (l .two .value) two)) (sym (ap (λ (b : Bool). b || looked (network Q) rel (l .one) (l .two) (g - first)) (ne-eqb (l .one .column) nowhere m)) ∙ none))
+      misfit g from h lives e false q = refl
+
+      -- what is passed over leads to nothing
+      passed-none : (g : ℕ) → span Q k resumes .start ≤ g → g < end → candidate (network Q) (Q .words) rel first (l .one) (l .two) g ≡ false → (b : Bool) → isLive (Q .words) g ≡ b → onward Q k chosen g ≡ none
+      passed-none g from h e true q = come-clash g from h scope tuple s (misfit g from h q e (fits-at g) refl)
+      passed-none g from h e false q = come-dead g from h q
+
+      pub come-ahead : (i g : ℕ) → Come Q k resumes chosen i → Ahead (candidate (network Q) (Q .words) rel first (l .one) (l .two)) i end g → Come Q k resumes chosen g
+      come-ahead i g C A =
+          let e = T .is-end in
+          record {
+            from-start = omega (arith, C .from-start, A .from-start);
+            to-end = omega (arith, A .to-end);
+            rest =
+                sym (reach-skip (network Q) (live Q) (seeker Q) (Q .low) ids later i g stop (A .from-start) (omega (arith, A .to-end))
+                (λ x b. passed-none x (omega (arith, C .from-start, b .0)) (omega (arith, A .to-end, b .1)) (A .passed x (b .0) (b .1)) (isLive (Q .words) x) refl))
+                ∙ C .rest;
+          }

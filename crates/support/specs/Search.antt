@@ -5,7 +5,7 @@ use mathlib.Core.Option.{Option, none, some}
 use mathlib.Core.List.{List, map}
 use Prim.Native.Nat.{ℕ, _+_, _*_, _≤_, _<_}
 use lib.Dec.{eqb}
-use lib.ListN.{length, getD, take}
+use lib.ListN.{length, getD, take, set}
 use Rattle.model.specs.Limits.{wordBits, maxMembers}
 use Rattle.model.specs.Lists.{from, all, pairwise, earlier}
 use Rattle.model.specs.Network.{Network, size, total, firstId, tuplesIn}
@@ -15,7 +15,10 @@ use Rattle.model.specs.Combination.{Combination}
 use Rattle.model.specs.LiveWords.{living}
 use Rattle.model.specs.Fault.{properMembers}
 use Rattle.network.specs.Layout.{tabled, Laid, starts}
+use Rattle.scan.specs.declared.Looks.{Looks}
+use Rattle.scan.specs.Candidate.{Somewhere, Both}
 use Rattle.support.specs.declared.Span.{Span}
+use Rattle.support.specs.declared.Stage.{Stage}
 
 -- ---- The search
 
@@ -93,10 +96,21 @@ pub record Begun (Q : Search) (k : ℕ) (resumes : Bool) (chosen : List ℕ) : T
   pub at-low : resumes ≡ true → take k chosen ≡ take k (Q .low)
   pub past-low : resumes ≡ false → earlier (Q .low) (take k chosen) ≡ true
 
--- The scope and the values of the seeking tuple.
+-- The scope and the values of the seeking tuple, which is live.
 pub record Seeking (Q : Search) (scope tuple : List ℕ) : Type 0 where
+  pub lives : has (live Q) (seeker Q) ≡ true
   pub widths : length scope ≡ length tuple
   pub seeking : cells scope tuple ≡ cellsOf (network Q) (seeker Q)
+
+-- It is the turn of member k, which is not the seeking tuple's own.
+pub record Due (Q : Search) (k : ℕ) : Type 0 where
+  pub inside : k < length (Q .members)
+  pub other : k ≡ Q .place → ⊥
+
+-- the stage at member k, or past it if that is the seeking tuple's own, for which this tuple is chosen
+abbrev pub pastOwn : ℕ → ℕ → ℕ → List ℕ → Stage
+pastOwn place own k chosen =
+    cond (eqb k place) (record { k = k + 1; chosen = set chosen k own }) (record { k = k; chosen = chosen })
 
 -- the ids that a member's walk goes over: the seeking tuple alone, or the relation's tuples from index `from` on where the search resumes
 abbrev pub spanAt : List ℕ → ℕ → Bool → ℕ → Bool → ℕ → Span
@@ -116,12 +130,28 @@ fits N c seeker place k chosen x =
 
 -- What the test of tuple x of member k asks.
 pub record Trial (N : Network) (c : Combination) (scope tuple : List ℕ) (place k : ℕ) (chosen : List ℕ) (x : ℕ) : Type 0 where
+  pub other : k ≡ place → ⊥
   pub inside : k < length c
   pub few : length c ≤ maxMembers
   pub index : x < size N (getD c k 0)
   pub within : (j : ℕ) → j < k → getD chosen j 0 < size N (getD c j 0)
   pub widths : length scope ≡ length tuple
   pub seeking : place < k → cells scope tuple ≡ cellsOf N (idAt N c place (getD chosen place 0))
+
+-- What looks at member k ask: the seeking tuple and those chosen exist, and so does tuple x of member k.
+pub record Asking (N : Network) (c : Combination) (place own k : ℕ) (chosen : List ℕ) (x : ℕ) : Type 0 where
+  pub other : k ≡ place → ⊥
+  pub inside : k < length c
+  pub few : length c ≤ maxMembers
+  pub place-in : place < length c
+  pub own-in : own < size N (getD c place 0)
+  pub index : x < size N (getD c k 0)
+  pub within : (j : ℕ) → j < k → getD chosen j 0 < size N (getD c j 0)
+
+-- What looks at member k tell: a tuple that fits has their values, and there are two if there is one.
+pub record Looking (N : Network) (c : Combination) (place own k : ℕ) (chosen : List ℕ) (l : Looks) : Type 0 where
+  pub tells : Both N (getD c k 0) (fits N c (cellsOf N (idAt N c place own)) place k chosen) l
+  pub second : Somewhere (l .one) → Somewhere (l .two)
 
 -- ---- The answer
 
