@@ -1,5 +1,6 @@
 /* Times the proved library's functions and the same in C, each in turn, and prints the ratios of the least times over some
- * rounds. Both must give the same results. */
+ * rounds. Both must give the same results. The times of whole networks also go to the file named: lines of kind (network or
+ * growth), m, relations, tuples, values, step, left, and the two times in seconds. */
 #include "bench.h"
 #include <stdio.h>
 #include <string.h>
@@ -100,11 +101,13 @@ static unsigned left(const uint64_t *ws) {
     return k;
 }
 
+static FILE *times;
+
 /* Filters one network both ways, from all tuples live. */
-static void filters(size_t m, size_t relations, size_t tuples, unsigned values) {
+static void filters(const char *kind, size_t m, size_t relations, size_t tuples, unsigned values, size_t step) {
     double best_r = 1e9, best_c = 1e9;
-    draw_network(&n, m, relations, tuples, values);
-    for (int k = 0; k < 5; k++) {
+    draw_network(&n, m, relations, tuples, values, step);
+    for (int k = 0; k < 15; k++) {
         memset(live_r, 0, sizeof live_r);
         for (size_t g = 0; g < relations * tuples; g++) live_r[g / 64] |= 1ull << (g % 64);
         memcpy(live_c, live_r, sizeof live_c);
@@ -115,27 +118,31 @@ static void filters(size_t m, size_t relations, size_t tuples, unsigned values) 
         best_r = least(best_r, u - t);
         best_c = least(best_c, now() - u);
     }
+    if (times) fprintf(times, "%s %zu %zu %zu %u %zu %u %.9f %.9f\n", kind, m, relations, tuples, values, step, left(live_r), best_r, best_c);
     char what[64];
     snprintf(what, sizeof what, "m = %zu, %4zu tuples, %4u left", m, relations * tuples, left(live_r));
     report(what, best_r, best_c, !memcmp(live_r, live_c, sizeof live_r) && !memcmp(numbers_r, numbers_c, n.needed * sizeof *numbers_r));
 }
 
-int main(void) {
+int main(int argc, char **argv) {
+    static const size_t steps[] = {1, 1, 2}; /* so that 4,000 tuples need no more than 32,768 support numbers */
+    static const size_t sizes[] = {16, 32, 63, 125, 250};
+    times = argc > 1 ? fopen(argv[1], "w") : NULL;
     printf("%-34s %12s %12s   ratio\n", "", "Rattle", "C -O2");
     leaves();
-    filters(2, 8, 75, 6);
-    filters(2, 16, 256, 9);
-    filters(2, 16, 256, 18);
-    filters(2, 16, 250, 60);
-    filters(3, 8, 150, 6);
-    filters(3, 12, 200, 12);
-    filters(3, 8, 200, 30);
-    filters(4, 6, 150, 5);
-    filters(4, 8, 200, 9);
-    filters(4, 8, 200, 25);
+    filters("network", 2, 8, 75, 6, 1);
+    filters("network", 2, 16, 256, 9, 1);
+    filters("network", 2, 16, 256, 18, 1);
+    filters("network", 2, 16, 250, 60, 1);
+    filters("network", 3, 8, 150, 6, 1);
+    filters("network", 3, 12, 200, 12, 1);
+    filters("network", 3, 8, 200, 30, 1);
+    filters("network", 4, 6, 150, 5, 1);
+    filters("network", 4, 8, 200, 9, 1);
+    filters("network", 4, 8, 200, 25, 1);
     puts("growth:");
-    for (size_t tuples = 31; tuples <= 512; tuples *= 2) filters(2, 8, tuples, 4);
-    for (size_t tuples = 31; tuples <= 512; tuples *= 2) filters(3, 8, tuples, 4);
-    for (size_t tuples = 31; tuples <= 256; tuples *= 2) filters(4, 8, tuples, 4);
+    for (size_t m = 2; m <= 4; m++)
+        for (size_t k = 0; k < sizeof sizes / sizeof *sizes; k++) filters("growth", m, 16, sizes[k], 4, steps[m - 2]);
+    if (times) fclose(times);
     return failures != 0;
 }

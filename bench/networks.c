@@ -1,5 +1,5 @@
 /* Networks for the benchmark, drawn from a fixed seed. Relation r has the variables r, r + 1 and r + 2; its combinations are m
- * neighbouring relations each. The fewer the values, the more tuples stay. */
+ * neighbouring relations each, the next one `step` relations on. The fewer the values, the more tuples stay. */
 #include "bench.h"
 
 static uint64_t seed;
@@ -10,7 +10,7 @@ static unsigned draw(unsigned below) {
 
 enum { WIDTH = 3 };
 
-void draw_network(network *n, size_t m, size_t relations, size_t tuples, unsigned values) {
+void draw_network(network *n, size_t m, size_t relations, size_t tuples, unsigned values, size_t step) {
     seed = 7 + m * 1000 + relations * 10 + values;
     *n = (network){.m = m, .relations = relations};
     for (size_t r = 0; r < relations; r++) {
@@ -23,7 +23,7 @@ void draw_network(network *n, size_t m, size_t relations, size_t tuples, unsigne
         n->tuple_starts[r] = (uint16_t)(k * tuples);
         n->value_starts[r] = (uint16_t)(k * tuples * WIDTH);
     }
-    for (size_t first = 0; first + m <= relations; first++)
+    for (size_t first = 0; first + m <= relations; first += step)
         for (size_t j = 0; j < m; j++) {
             n->pair_starts[n->pairs] = (uint16_t)n->needed;
             n->members[n->pairs++] = (uint16_t)(first + j);
