@@ -1,0 +1,2 @@
+-- The walk that the exports share.
+pub mod Packs
