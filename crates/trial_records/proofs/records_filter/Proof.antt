@@ -1,19 +1,22 @@
--- `trial_records::records_filter` is safe: a walk of its MIR, by hand.
--- From the shared walk, and the contracts of `lent::filter` and of the packing. A reply's subject fits the packing's byte.
+-- `trial_records::records_filter` meets its contract: a walk of its MIR, by hand.
+-- From the shared walk, the contracts of `lent::filter` and of the packing, and the law that the numbers of a reply are read back from their bits.
 use mathlib.Core.Path.{_≡_, refl}
 use mathlib.Core.List.{List, [], _∷_}
 use Prim.Native.Nat.{ℕ, _<_}
 use base.Logic.{sep, emp}
 use contract.Monad.{fact, factI}
+use denote.Triple.Clauses.{Lasts}
 use denote.Enum.Laws as EL
 use Rattle.model.specs.declared.Relation.{Relation}
 use Rattle.model.specs.declared.Answer.{Answer}
-use Rattle.model.specs.Request.{filter}
-use Rattle.model.specs.Reply.{answerNumbers, reply}
+use Rattle.model.specs.Request.{Request, filter}
+use Rattle.model.specs.Reply.{Reply, answerNumbers, reply}
 use Rattle.model.proofs.Relation as T
 use Rattle.model.proofs.Answer as R
 use Rattle.model.proofs.Answer.Laws as R′
 use Rattle.changes.specs.Change.{request, replied}
+use Rattle.capi_parts.specs.Packed.{packed}
+use Rattle.trial_records.specs.Packing.{repliedIn}
 use Rattle.lent.specs.Records.{instance}
 use Rattle.lent.proofs.filter as work
 use Rattle.lent.proofs.filter.Symbol as work-def
@@ -26,7 +29,8 @@ use Rattle.capi_parts.proofs.packing.pack.Symbol as pack-def
 use Rattle.capi_parts.proofs.packing.pack.Symbol.{name as #capi-parts·packing·pack}
 use Rattle.capi_parts.proofs.packing.pack.Met as pack-thm
 use Rattle.capi_parts.proofs.Packed.{replied-subject}
-use Rattle.trial_records.proofs.Packs.{owed, asks, packs}
+use Rattle.trial_records.proofs.Packing.{repliedIn-packed}
+use Rattle.trial_records.proofs.Packs.{shown, told, asks, packs}
 use Rattle.trial_records.proofs.records_filter.Key.{name as #trial-records·records-filter}
 use Rattle.trial_records.proofs.records_filter as f
 use Rattle.trial_records.proofs.records_filter.Statement as stated
@@ -55,17 +59,35 @@ module _ {M : Type 1} (𝓤 : URA M) (H : Heap 𝓤) (A : Atoms 𝓤) (W : Given
   abbrev Said : Answer → SProp 𝓤
   Said r = ensured 𝓤 H A work.ended (work.clauses 𝓤 H A mem run) κs a tt r
 
-  abbrev Told : SProp 𝓤
-  Told = ensured 𝓤 H A f.ended (f.clauses 𝓤 H A mem run) κs a tt 0
+  abbrev Told : ℕ → SProp 𝓤
+  Told n = ensured 𝓤 H A f.ended (f.clauses 𝓤 H A mem run) κs a tt n
+
+  -- what the packing says of its number
+  abbrev Packed : Answer → ℕ → SProp 𝓤
+  Packed r n = ensured 𝓤 H A pack.ended (pack.clauses 𝓤 H A mem run) tt (r, tt) tt n
 
   -- what the packing asks
   abbrev Fits : Answer → Type 0
   Fits r = answerNumbers r .subject < 256
 
-  tells : (r : Answer) → ent 𝓤 (Said r) (sep 𝓤 Told (fact 𝓤 (Fits r)))
-  tells r =
-      owed W (λ zs. sem 𝓤 H A (lasts f.ended κs a zs)) (λ zs. replied r (zs .1 .1 .1 .1 .1 .0) (zs .1 .1 .1 .1 .1 .1 .0) ≡ reply (request (instance (now relations) (now variables) (now values) m (now members)) (now words) (now supports) filter))
-      (Fits r) (λ zs e. replied-subject _ _ e)
+  abbrev Last : Lasts f.ended κs a → SProp 𝓤
+  Last zs = sem 𝓤 H A (lasts f.ended κs a zs)
+
+  -- the request
+  abbrev q : Request
+  q = request (instance (now relations) (now variables) (now values) m (now members)) (now words) (now supports) filter
+
+  -- the lists at the end, with an answer, are its reply
+  abbrev Replies : (List ℕ → List ℕ → Reply) → Lasts f.ended κs a → Type 0
+  Replies r zs = r (zs .1 .1 .1 .1 .1 .0) (zs .1 .1 .1 .1 .1 .1 .0) ≡ reply q
+
+  fits : (r : Answer) → ent 𝓤 (Said r) (sep 𝓤 (Said r) (fact 𝓤 (Fits r)))
+  fits r = shown W Last (Replies (replied r)) (Fits r) (λ zs e. replied-subject q _ e)
+
+  tells : (r : Answer) (n : ℕ) → ent 𝓤 (sep 𝓤 (Said r) (Packed r n)) (Told n)
+  tells r n =
+      told W Last (Replies (replied r)) (λ ys. sem 𝓤 H A (lasts pack.ended tt (r, tt) ys)) (n ≡ packed (answerNumbers r)) (Replies (repliedIn n))
+      (λ zs e p. repliedIn-packed q r n (zs .1 .1 .1 .1 .1 .0) (zs .1 .1 .1 .1 .1 .1 .0) e p)
 
   walk : (𝓣 : Tables 𝓤 H) → Triple 𝓤 (𝓣 .C #lent·filter) (Work 𝓤 H A mem run) → Triple 𝓤 (𝓣 .C #capi-parts·packing·pack) (Pack 𝓤 H A mem run)
       → Are (typesAt (f.signature .params) κs) (Ises (typesAt (f.signature .params) κs)) a at
@@ -89,8 +111,8 @@ module _ {M : Type 1} (𝓤 : URA M) (H : Heap 𝓤) (A : Atoms 𝓤) (W : Given
       move ! (26 ∷ []) $ asks W R.the-row tokens Said ! (fmOf 𝓤 H (W .laws) 𝓣) (Work 𝓤 H A mem run) known-work ((κs, qs, tt, a, at), tt) (onEntry 𝓤 H A f.signature κs qs a at) (id⊢ 𝓤 _) (λ w. id⊢ 𝓤 _)
       (operand W ! 1 refl (operand W ! 1 refl (operand W ! 1 refl (operand W ! 1 refl (operand W ! 1 refl (operand W ! 1 refl (operand W ! 1 refl (no-more !)))))))) (λ w r is.
       land ! (from ! (stop !)) (init ! 11 refl (EL.lawful R.the-type R′.the-laws 𝓤 H A W tt .typed r (w ∷ []) is .0)) $
-      packs W R.the-row tokens Said Fits Told tells ! (fmOf 𝓤 H (W .laws) 𝓣) (Pack 𝓤 H A mem run) known-pack r w ((tt, tt, tt, (r, tt), (w ∷ [], tt)), tt) (fact 𝓤 (Fits r)) (factI 𝓤 (Fits r) (emp 𝓤)) (id⊢ 𝓤 _)
-      (λ n. ensured 𝓤 H A pack.ended (pack.clauses 𝓤 H A mem run) tt (r, tt) tt n) (λ v. id⊢ 𝓤 _) (bs .0) (others (code.function .locals)) (bs .1)
+      packs W R.the-row tokens Said Fits Packed Told fits tells ! (fmOf 𝓤 H (W .laws) 𝓣) (Pack 𝓤 H A mem run) known-pack r w ((tt, tt, tt, (r, tt), (w ∷ [], tt)), tt) (fact 𝓤 (Fits r)) (factI 𝓤 (Fits r) (emp 𝓤)) (id⊢ 𝓤 _)
+      (λ v. id⊢ 𝓤 _) (bs .0) (others (code.function .locals)) (bs .1)
       (sv relations, (sv variables, (sv values, (vint w16 m, (sv members, (sv words, (sv supports, (w, (vptr (ptr words .0) (ptr words .1), (sv words, (vptr (ptr supports .0) (ptr supports .1), (sv supports, tt)))))))))))) (operand W ! 3 refl (no-more !))))
 
 module _ {M : Type 1} (𝓤 : URA M) (H : Heap 𝓤) (A : Atoms 𝓤) (W : Given 𝓤 H A) (mem : Memory → SProp 𝓤) (run : Routine → Fun 𝓤) (𝓣 : Tables 𝓤 H)

@@ -1,10 +1,11 @@
--- `trial_records::records_test` is safe: a walk of its MIR, by hand.
+-- `trial_records::records_test` meets its contract: a walk of its MIR, by hand.
 -- From the shared walk, and the contracts of `lent::test` and of the packing.
-use mathlib.Core.Path.{_≡_, refl}
+use mathlib.Core.Path.{_≡_, refl, ap, _∙_}
 use mathlib.Core.List.{List, [], _∷_}
 use Prim.Native.Nat.{ℕ}
 use base.Logic.{sep, emp}
 use contract.Monad.{fact}
+use denote.Triple.Clauses.{Lasts}
 use denote.Enum.Laws as EL
 use Rattle.model.specs.declared.Relation.{Relation}
 use Rattle.model.specs.declared.Verdict.{Verdict}
@@ -12,6 +13,7 @@ use Rattle.model.specs.Reply.{verdictNumbers, testReply}
 use Rattle.model.proofs.Relation as T
 use Rattle.model.proofs.Verdict as R
 use Rattle.model.proofs.Verdict.Laws as R′
+use Rattle.capi_parts.specs.Packed.{packedPair}
 use Rattle.lent.specs.Records.{instance}
 use Rattle.lent.proofs.test as work
 use Rattle.lent.proofs.test.Symbol as work-def
@@ -23,7 +25,7 @@ use Rattle.capi_parts.proofs.packing.pack_verdict as pack
 use Rattle.capi_parts.proofs.packing.pack_verdict.Symbol as pack-def
 use Rattle.capi_parts.proofs.packing.pack_verdict.Symbol.{name as #capi-parts·packing·pack-verdict}
 use Rattle.capi_parts.proofs.packing.pack_verdict.Met as pack-thm
-use Rattle.trial_records.proofs.Packs.{owed, asks, packs}
+use Rattle.trial_records.proofs.Packs.{shown, told, asks, packs}
 use Rattle.trial_records.proofs.records_test.Key.{name as #trial-records·records-test}
 use Rattle.trial_records.proofs.records_test as f
 use Rattle.trial_records.proofs.records_test.Statement as stated
@@ -52,17 +54,31 @@ module _ {M : Type 1} (𝓤 : URA M) (H : Heap 𝓤) (A : Atoms 𝓤) (W : Given
   abbrev Said : Verdict → SProp 𝓤
   Said r = ensured 𝓤 H A work.ended (work.clauses 𝓤 H A mem run) κs a tt r
 
-  abbrev Told : SProp 𝓤
-  Told = ensured 𝓤 H A f.ended (f.clauses 𝓤 H A mem run) κs a tt 0
+  abbrev Told : ℕ → SProp 𝓤
+  Told n = ensured 𝓤 H A f.ended (f.clauses 𝓤 H A mem run) κs a tt n
+
+  -- what the packing says of its number
+  abbrev Packed : Verdict → ℕ → SProp 𝓤
+  Packed r n = ensured 𝓤 H A pack.ended (pack.clauses 𝓤 H A mem run) tt (r, tt) tt n
 
   -- the packing asks nothing
   abbrev Fits : Verdict → Type 0
   Fits r = Unit {0}
 
-  tells : (r : Verdict) → ent 𝓤 (Said r) (sep 𝓤 Told (fact 𝓤 (Fits r)))
-  tells r =
-      owed W (λ zs. sem 𝓤 H A (lasts f.ended κs a zs)) (λ zs. verdictNumbers r ≡ testReply (instance (now relations) (now variables) (now values) m (now members)) (now words))
-      (Fits r) (λ zs e. tt)
+  abbrev Last : Lasts f.ended κs a → SProp 𝓤
+  Last zs = sem 𝓤 H A (lasts f.ended κs a zs)
+
+  -- the reply
+  abbrev reply : ℕ × ℕ
+  reply = testReply (instance (now relations) (now variables) (now values) m (now members)) (now words)
+
+  fits : (r : Verdict) → ent 𝓤 (Said r) (sep 𝓤 (Said r) (fact 𝓤 (Fits r)))
+  fits r = shown W Last (λ zs. verdictNumbers r ≡ reply) (Fits r) (λ zs e. tt)
+
+  tells : (r : Verdict) (n : ℕ) → ent 𝓤 (sep 𝓤 (Said r) (Packed r n)) (Told n)
+  tells r n =
+      told W Last (λ zs. verdictNumbers r ≡ reply) (λ ys. sem 𝓤 H A (lasts pack.ended tt (r, tt) ys)) (n ≡ packedPair (verdictNumbers r)) (λ zs. n ≡ packedPair reply)
+      (λ zs e p. p ∙ ap packedPair e)
 
   walk : (𝓣 : Tables 𝓤 H) → Triple 𝓤 (𝓣 .C #lent·test) (Work 𝓤 H A mem run) → Triple 𝓤 (𝓣 .C #capi-parts·packing·pack-verdict) (Pack 𝓤 H A mem run)
       → Are (typesAt (f.signature .params) κs) (Ises (typesAt (f.signature .params) κs)) a at
@@ -79,8 +95,8 @@ module _ {M : Type 1} (𝓤 : URA M) (H : Heap 𝓤) (A : Atoms 𝓤) (W : Given
       move ! (16 ∷ []) $ asks W R.the-row tokens Said ! (fmOf 𝓤 H (W .laws) 𝓣) (Work 𝓤 H A mem run) known-work ((κs, qs, tt, a, at), tt) (onEntry 𝓤 H A f.signature κs qs a at) (id⊢ 𝓤 _) (λ w. id⊢ 𝓤 _)
       (operand W ! 1 refl (operand W ! 1 refl (operand W ! 1 refl (operand W ! 1 refl (operand W ! 1 refl (operand W ! 1 refl (no-more !))))))) (λ w r is.
       land ! (from ! (stop !)) (init ! 3 refl (EL.lawful R.the-type R′.the-laws 𝓤 H A W tt .typed r (w ∷ []) is .0)) $
-      packs W R.the-row tokens Said Fits Told tells ! (fmOf 𝓤 H (W .laws) 𝓣) (Pack 𝓤 H A mem run) known-pack r w ((tt, tt, tt, (r, tt), (w ∷ [], tt)), tt) (emp 𝓤) (λ _. id⊢ 𝓤 _) (id⊢ 𝓤 _)
-      (λ n. ensured 𝓤 H A pack.ended (pack.clauses 𝓤 H A mem run) tt (r, tt) tt n) (λ v. id⊢ 𝓤 _) (bs .0) (others (code.function .locals)) (bs .1)
+      packs W R.the-row tokens Said Fits Packed Told fits tells ! (fmOf 𝓤 H (W .laws) 𝓣) (Pack 𝓤 H A mem run) known-pack r w ((tt, tt, tt, (r, tt), (w ∷ [], tt)), tt) (emp 𝓤) (λ _. id⊢ 𝓤 _) (id⊢ 𝓤 _)
+      (λ v. id⊢ 𝓤 _) (bs .0) (others (code.function .locals)) (bs .1)
       (sv relations, (sv variables, (sv values, (vint w16 m, (sv members, (sv words, (w, tt))))))) (operand W ! 3 refl (no-more !))))
 
 module _ {M : Type 1} (𝓤 : URA M) (H : Heap 𝓤) (A : Atoms 𝓤) (W : Given 𝓤 H A) (mem : Memory → SProp 𝓤) (run : Routine → Fun 𝓤) (𝓣 : Tables 𝓤 H)
