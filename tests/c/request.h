@@ -27,4 +27,10 @@ typedef struct {
 /* Makes the call on these marks: writes the answer's numbers to out (kind, subject, left, withdrawn, deleted; of test and compare
  * the first two), and leaves in the marks and in q's supports what the call leaves there. Whether nothing else was touched. */
 bool put_to_library(request *q, words marks, uint16_t out[5]);
+
+/* The five numbers of an answer packed as include/wakhvosi.h says. */
+static inline void unpack(uint64_t answer, uint16_t out[5]) {
+    out[0] = answer & 255, out[1] = answer >> 8 & 255;
+    for (int i = 2; i < 5; i++) out[i] = (uint16_t)(answer >> (16 * i - 16));
+}
 #endif

@@ -72,9 +72,7 @@ bool put_to_library(request *q, words marks, uint16_t out[5]) {
     bytes sheets = of_entries(q->records), questions = of_entries(q->questions), codes = of_entries(q->codes);
     bytes combinations = of_entries(q->members), rows = of_entries(q->rows);
     bytes marked = of_words(marks), supports = of_entries(q->supports);
-    uint64_t answer = answer_of(q, sheets, questions, codes, combinations, marked, supports, rows);
-    out[0] = answer & 255, out[1] = answer >> 8 & 255;
-    for (int i = 2; i < 5; i++) out[i] = (uint16_t)(answer >> (16 * i - 16));
+    unpack(answer_of(q, sheets, questions, codes, combinations, marked, supports, rows), out);
     into_words(marks, marked), into_entries(q->supports, supports);
     bool whole = unchanged(sheets, q->records) & unchanged(questions, q->questions) & unchanged(codes, q->codes);
     return whole & unchanged(combinations, q->members) & unchanged(rows, q->rows) & unframed(marked) & unframed(supports);

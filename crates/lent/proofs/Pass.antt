@@ -14,14 +14,14 @@ use prog.Routine.{Routine}
 use prog.Wp.{Heap, Env, Calls, Loops}
 use ghost.Atoms.{Atoms, sem}
 use contract.Monad.{Fun}
-use types.Kit.{Given, Item, Post, Seq, runs, lands, atRet, ‵, raw, _⊛_, some, later, ⋆, _$_, _∵_, !, qed, by, move, use1, split, join, pick, rewrite, fjoin, await, updating, now as at-once, show, done}
-use types.Run.{Opds, look, init, forget, stop, from, land, returns, free1}
+use types.Kit.{Given, Item, Post, Seq, runs, lands, atRet, ‵, raw, _⊛_, mean, _$_, _∵_, !, qed, move, group, use1, split, join, rewrite, fjoin, updating, now as at-once, show, done}
+use types.Run.{Opds}
 use sound.WpLaws.{FmC}
 use denote.RattleType.{RattleType}
-use denote.Laws.{Is, shows}
+use denote.Laws.{Is}
 use denote.Ref.{RefT, now}
 use denote.Slice.{ShrSlice}
-use denote.Steps.{peeks, nothing}
+use denote.Steps.{nothing}
 use denote.Struct.Laws as LL
 use denote.Triple.Statement.{Contract, Triple}
 use denote.Triple.Call.{calls-at}
@@ -32,7 +32,7 @@ use Rattle.network.specs.declared.Shape.{Shape}
 use Rattle.network.specs.Shape.{shapeOf}
 use Rattle.network.proofs.Shape as S
 use Rattle.network.proofs.Shape.Laws as S′
-use Rattle.lent.proofs.Locals.{sv, Spots, Held, env, holding, cells, tail, gathered, released, hears}
+use Rattle.lent.proofs.Locals.{sv, Spots, Held, env, holding, returned, gives, hears}
 use Rattle.lent.proofs.shape_of as sh
 use Rattle.lent.proofs.shape_of.Symbol.{name as #lent·shape-of}
 
@@ -85,11 +85,15 @@ module _ {M : Type 1} {𝓤 : URA M} {H : Heap 𝓤} {A : Atoms 𝓤} (W : Given
     abbrev pub Ends : Val → SProp 𝓤
     Ends w = H .⇛ (ex 𝓤 (Ended w))
 
-    ends : (r : R .Denot) (w : Val) → ent 𝓤 (⋆ 𝓤 H A (‵ (R .own r (w ∷ [])) ∷ raw tokens ∷ raw (Said r) ∷ ‵ (flft κ q) ∷ [])) (Ends w)
+    -- what is had once it has returned r
+    abbrev Back : R .Denot → Val → Item 𝓤
+    Back r w = ‵ (R .own r (w ∷ [])) ⊛ (raw tokens ⊛ (raw (Said r) ⊛ ‵ (flft κ q)))
+
+    ends : (r : R .Denot) (w : Val) → ent 𝓤 (mean 𝓤 H A (Back r w)) (Ends w)
     ends r w =
-        qed W (‵ (R .own r (w ∷ [])) ∷ raw tokens ∷ raw (Said r) ∷ ‵ (flft κ q) ∷ []) ∵
-        updating ! $ at-once ! $ show ! (Ended w) r $ move ! (2 ∷ []) $ use1 W (raw (Told r)) (tells r) $
-        move ! (3 ∷ 2 ∷ []) $ join ! $ move ! (0 ∷ 2 ∷ []) $ join ! $ done !
+        qed W (Back r w ∷ []) ∵
+        updating ! $ at-once ! $ show ! (Ended w) r $ split ! $ move ! (1 ∷ []) $ split ! $ move ! (1 ∷ []) $ split ! $ use1 W (raw (Told r)) (tells r) $
+        move ! (1 ∷ 2 ∷ []) $ join ! $ move ! (0 ∷ 2 ∷ []) $ join ! $ done !
 
     -- the call's result w is the caller's, and every local is freed
     pub answers : {K : Type 0} → K → {C : Calls 𝓤 H} {Λ : Loops 𝓤 H} → FmC 𝓤 H (W .laws) C → {g : Name} (c : Contract 𝓤) → Triple 𝓤 (C g) c → (y : c .Ghost) (u : Val) (others : SProp 𝓤)
@@ -101,10 +105,5 @@ module _ {M : Type 1} {𝓤 : URA M} {H : Heap 𝓤} {A : Atoms 𝓤} (W : Given
         (runs C Λ ((τ, b) ∷ env ls bs) (seq (call g os (place 0 [])) return) (atRet ((τ, b) ∷ env ls bs) Ends))
     answers t {C} {Λ} fm c known y u others pre-is post-is b ls bs vs os =
         move t (0 ∷ 3 ∷ []) $ join t $ move t (2 ∷ 0 ∷ []) $ join t $ nothing t $ move t (1 ∷ 0 ∷ []) $ join t $ use1 W (raw (c .pre y)) pre-is $
-        calls-at t fm c known y os (λ w.
-        tail W (raw (c .post y w) ∷ ‵ (flft κ q) ∷ []) _ (‵ (cells W ls bs vs) ∷ ‵ (froom τ b 0) ∷ ‵ (fdies τ b) ∷ []) (gathered W ls bs vs _) $
-        use1 W (later (some (λ (r : R .Denot). (raw tokens ⊛ ‵ (R .own r (w ∷ []))) ⊛ raw (Said r)))) (post-is w) $ await t tt $ pick t (λ r.
-        split t $ split t $ move t (1 ∷ []) $ peeks t R (Is R) (shows 𝓤 H A R) r (w ∷ []) (λ is.
-        -- [the result; the tokens; what is said; the token; the locals; _0; and that it dies]
-        land t (from t (stop t)) (init t 5 refl (typed r w is)) $ returns t (look t 5 refl) $ forget t 5 refl $ move t (5 ∷ 6 ∷ []) $ free1 t $
-        move t (4 ∷ []) $ by t (released W ls bs vs _ (Ends w) (ends r w)))))
+        calls-at t fm c known y os (λ w. gives W R tokens Said t tt w (post-is w) (λ r is.
+        group t 4 $ returned W t τ w (typed r w is) (Back r w) Ends (ends r w) b ls bs vs))

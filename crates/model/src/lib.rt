@@ -23,7 +23,9 @@ pub const NO_SUPPORT: u16 = 65535;
 
 pub const WORD_BITS: usize = 64;
 
-// A relation record (document 01: sheet record): how many variables its scope has, and how many tuples it holds.
+// A relation record (document 01: sheet record): how many variables its scope has, and how many tuples it holds. A C program may
+// lend a list of them.
+#[repr(C)]
 pub struct Relation {
     pub width: u16,
     pub tuples: u16,

@@ -1,0 +1,3 @@
+-- The law of the crate's definition, and the walk that the exports share.
+pub mod Packing
+pub mod Packs
