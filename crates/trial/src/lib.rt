@@ -1,4 +1,4 @@
-// The library's calls on flat lists, exported for the test driver tests/calls.c.
+// The calls on plain lists, exported for the test driver of tests/c.
 use changes::choose;
 use changes::filter;
 use changes::withdraw;
