@@ -10,6 +10,7 @@ ghost use Rattle.changes.specs.Change.{request, replied};
 ghost use Rattle.capi_parts.specs.Whole.{whole};
 ghost use Rattle.capi_parts.specs.Packed.{outcome, encoded, writtenBack};
 ghost use Rattle.capi.specs.Call.{instanceIn, lent, wholeLent, asked, answered, changeIn};
+use super::NOT_WHOLE;
 use capi_parts::lengths::change_whole;
 use capi_parts::sheets::shape_at;
 use capi_parts::withdrawal::withdraw;
@@ -171,10 +172,10 @@ pub fn change_call(
         supports.len(),
     );
     if !whole {
-        return 258;
+        return NOT_WHOLE;
     }
     if ids.len() % 2 != 0 {
-        return 258;
+        return NOT_WHOLE;
     }
     change_bytes(
         call,

@@ -12,6 +12,9 @@ use reading::test_bytes;
 pub mod change; // filter, withdraw and choose
 pub mod reading; // test and compare
 
+// The answer where a list is not a whole number of entries: refused, number 1.
+const NOT_WHOLE: u64 = 258;
+
 // Filters what lives.
 #[no_mangle]
 pub extern "C" fn wakhvosi_filter(
@@ -111,10 +114,10 @@ pub extern "C" fn wakhvosi_test(
         codes.len(),
         combinations.len(),
     ) {
-        return 258;
+        return NOT_WHOLE;
     }
     if marks.len() % 8 != 0 {
-        return 258;
+        return NOT_WHOLE;
     }
     test_bytes(sheets, questions, codes, m, combinations, marks)
 }
@@ -131,7 +134,7 @@ pub extern "C" fn wakhvosi_compare(
     ensures { λ n. ⌜ n ≡ compareCall (now (sheets .entry)) (now (questions .entry)) (now (codes .entry)) a b ⌝ }
 {
     if !network_whole(sheets.len(), questions.len(), codes.len()) {
-        return 258;
+        return NOT_WHOLE;
     }
     compare_bytes(sheets, questions, codes, a, b)
 }
