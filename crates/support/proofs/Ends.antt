@@ -2,20 +2,23 @@
 -- From what a search asks, the laws of the tuples chosen and of the search.
 use mathlib.Core.Path.{_≡_, refl, _∙_, ap, subst}
 use mathlib.Core.Bool.{Bool, true, false, true≢false}
-use mathlib.Core.Option.{Option, some}
+use mathlib.Core.Option.{Option, none, some}
 use mathlib.Core.List.{List, map, List·Memᴰ}
-use Prim.Native.Nat.{ℕ}
+use Prim.Native.Nat.{ℕ, _<_}
 use native.Mathlib.Omega.{arith}
 use lib.ListN.{length, take, drop}
 use lib.Seq.{drop-length}
 use Rattle.model.specs.Lists.{earlier}
-use Rattle.model.specs.Network.{idsOf, indexOf}
+use Rattle.model.specs.Network.{total, idsOf, indexOf}
+use Rattle.model.specs.TupleSet.{has}
 use Rattle.model.specs.Support.{supportFrom, completion}
-use Rattle.model.proofs.Lists.{earlier-take, later-earlier}
-use Rattle.model.proofs.Support.{isSupport-intro}
-use Rattle.model.proofs.Search.{completion-start, completion-done}
+use Rattle.model.proofs.Bools.{not-both}
+use Rattle.model.proofs.Lists.{all-at, earlier-take, later-earlier}
+use Rattle.model.proofs.Support.{isSupport-intro, isSupport-self, isSupport-live}
+use Rattle.model.proofs.Search.{completion-start, completion-done, supportFrom-some}
 use Rattle.support.specs.Search.{Search, network, live, idAt, seeker, Ready, chosenIds, Begun}
 use Rattle.support.proofs.Chosen.{chosen-mem, chosen-indices}
+use Rattle.support.proofs.Walk.{member-within}
 
 -- ---- No member has its tuple yet
 
@@ -59,3 +62,17 @@ module _ (Q : Search) (R : Ready Q) (resumes : Bool) (chosen : List ℕ) (sized 
       (completion-done N (live Q) (seeker Q) (Q .low) all-ids (isSupport-intro N (live Q) (seeker Q) all-ids own-in (B .live) (B .pairs))
       (ap (λ (is : List ℕ). earlier is (Q .low)) names ∙ late resumes refl B)
       ∙ ap {B = Option (List ℕ)} some names)
+
+-- ---- The seeking tuple is dead
+
+pub seeker-below : (Q : Search) → Ready Q → seeker Q < total (network Q)
+seeker-below Q R = omega (arith, R .own, member-within Q R (Q .place) (R .place))
+
+pub sought-dead : (Q : Search) → has (live Q) (seeker Q) ≡ false → supportFrom (network Q) (live Q) (Q .members) (seeker Q) (Q .low) ≡ none
+sought-dead Q d = go (supportFrom (network Q) (live Q) (Q .members) (seeker Q) (Q .low)) refl
+  where
+    go : (o : Option (List ℕ)) → supportFrom (network Q) (live Q) (Q .members) (seeker Q) (Q .low) ≡ o → supportFrom (network Q) (live Q) (Q .members) (seeker Q) (Q .low) ≡ none
+    go none e = e
+    go (some is) e =
+        let S = supportFrom-some (network Q) (live Q) (seeker Q) (Q .low) (Q .members) is e in
+        absurd (not-both (all-at (has (live Q)) (S .0) (isSupport-live (network Q) (live Q) (seeker Q) (S .0) (S .2)) (isSupport-self (network Q) (live Q) (seeker Q) (S .0) (S .2))) d)

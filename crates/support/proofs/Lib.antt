@@ -3,3 +3,4 @@ pub mod Chosen
 pub mod Walk
 pub mod Ends
 pub mod Turn
+pub mod Own

@@ -53,12 +53,12 @@ pub record Come (Q : Search) (k : ℕ) (resumes : Bool) (chosen : List ℕ) (g :
   pub rest : left Q k resumes chosen g ≡ sought Q k chosen
 
 -- what `span_of` asks
-pub span-asks : (Q : Search) (k : ℕ) (R : Ready Q) → k < length (Q .members) → (getD (Q .members) k 0 < 64) × ((getD (Q .tupleStarts) (getD (Q .members) k 0) 0 + Q .own < 65535) × (getD (Q .tupleStarts) (getD (Q .members) k 0) 0 + getD (Q .low) k 0 < 65535))
+pub span-asks : (Q : Search) (k : ℕ) (R : Ready Q) → k < length (Q .members) → (getD (Q .members) k 0 < 64) × (getD (Q .tupleStarts) (getD (Q .members) k 0) 0 + getD (Q .low) k 0 < 65535)
 span-asks Q k R inside =
     let m = member-start Q R k inside in
     let w = member-within Q R k inside in
     let f = few-tuples Q R in
-    (member-below Q R k inside, (omega (arith, R .own, member-within Q R (Q .place) (R .place)), omega (arith, R .low-within k inside)))
+    (member-below Q R k inside, omega (arith, R .low-within k inside))
 
 -- What is known at the turn of member k, whose relation begins at `first`, and whose walk goes from `begin` to `end`.
 pub record Turn (Q : Search) (k : ℕ) (resumes : Bool) (chosen : List ℕ) (first begin end : ℕ) : Type 0 where

@@ -10,7 +10,7 @@ use native.Mathlib.Omega.{arith}
 use lib.Dec.{ltb, eqb}
 use lib.ListN.{length, getD, take, drop, take-append-drop}
 use lib.Seq.{take-suc, drop-cons}
-use borrow.Author.Tests.{ltb-true, eqb-true}
+use borrow.Author.Tests.{ltb-true, eqb-true, ne-eqb}
 use Rattle.model.specs.Lists.{from, all, pairwise, earlier}
 use Rattle.model.specs.Network.{size, total, firstId, idsOf, indexOf, relationOf, tuplesIn}
 use Rattle.model.specs.Support.{completion}
@@ -70,6 +70,10 @@ module _ (Q : Search) (R : Ready Q) where
 abbrev pub span : Search → ℕ → Bool → Span
 span Q k resumes =
     spanAt (Q .tupleStarts) (getD (Q .members) k 0) (eqb k (Q .place)) (Q .own) resumes (getD (Q .low) k 0)
+
+-- elsewhere than at the seeking tuple's place
+pub span-other : (Q : Search) (k : ℕ) (resumes : Bool) → (k ≡ Q .place → ⊥) → spanAt (Q .tupleStarts) (getD (Q .members) k 0) false 0 resumes (getD (Q .low) k 0) ≡ span Q k resumes
+span-other Q k resumes d = rw (ne-eqb k (Q .place) d)
 
 -- the walk lies within the relation's ids, which begin at first and are `size` many
 pub record Inside (first size : ℕ) (s : Span) : Type 0 where

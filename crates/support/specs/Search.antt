@@ -5,7 +5,7 @@ use mathlib.Core.Option.{Option, none, some}
 use mathlib.Core.List.{List, map}
 use Prim.Native.Nat.{ℕ, _+_, _*_, _≤_, _<_}
 use lib.Dec.{eqb}
-use lib.ListN.{length, getD, take}
+use lib.ListN.{length, getD, take, set}
 use Rattle.model.specs.Limits.{wordBits, maxMembers}
 use Rattle.model.specs.Lists.{from, all, pairwise, earlier}
 use Rattle.model.specs.Network.{Network, size, total, firstId, tuplesIn}
@@ -18,6 +18,7 @@ use Rattle.network.specs.Layout.{tabled, Laid, starts}
 use Rattle.scan.specs.declared.Looks.{Looks}
 use Rattle.scan.specs.Candidate.{Somewhere, Both}
 use Rattle.support.specs.declared.Span.{Span}
+use Rattle.support.specs.declared.Stage.{Stage}
 
 -- ---- The search
 
@@ -95,10 +96,21 @@ pub record Begun (Q : Search) (k : ℕ) (resumes : Bool) (chosen : List ℕ) : T
   pub at-low : resumes ≡ true → take k chosen ≡ take k (Q .low)
   pub past-low : resumes ≡ false → earlier (Q .low) (take k chosen) ≡ true
 
--- The scope and the values of the seeking tuple.
+-- The scope and the values of the seeking tuple, which is live.
 pub record Seeking (Q : Search) (scope tuple : List ℕ) : Type 0 where
+  pub lives : has (live Q) (seeker Q) ≡ true
   pub widths : length scope ≡ length tuple
   pub seeking : cells scope tuple ≡ cellsOf (network Q) (seeker Q)
+
+-- It is the turn of member k, which is not the seeking tuple's own.
+pub record Due (Q : Search) (k : ℕ) : Type 0 where
+  pub inside : k < length (Q .members)
+  pub other : k ≡ Q .place → ⊥
+
+-- the stage at member k, or past it if that is the seeking tuple's own, for which this tuple is chosen
+abbrev pub pastOwn : ℕ → ℕ → ℕ → List ℕ → Stage
+pastOwn place own k chosen =
+    cond (eqb k place) (record { k = k + 1; chosen = set chosen k own }) (record { k = k; chosen = chosen })
 
 -- the ids that a member's walk goes over: the seeking tuple alone, or the relation's tuples from index `from` on where the search resumes
 abbrev pub spanAt : List ℕ → ℕ → Bool → ℕ → Bool → ℕ → Span

@@ -1,5 +1,6 @@
 // The first support of a tuple, sought member by member.
 ghost use mathlib.Core.Path.{_≡_};
+ghost use mathlib.Core.Bool.{false};
 ghost use mathlib.Core.List.{map};
 ghost use Prim.Native.Nat.{_+_, _<_};
 ghost use lib.ListN.{length, getD, take, drop};
@@ -7,7 +8,7 @@ ghost use Rattle.model.specs.Network.{size, firstId, idsOf};
 ghost use Rattle.model.specs.Agreement.{cells, cellsOf, agreeing};
 ghost use Rattle.model.specs.Support.{supportFrom, completion};
 ghost use Rattle.network.specs.Layout.{tabled, Laid};
-ghost use Rattle.support.specs.Search.{searching, network, live, seeker, Ready, chosenIds, Begun, Seeking, spanAt, fits, Trial, Asking, Looking, answer};
+ghost use Rattle.support.specs.Search.{searching, network, live, seeker, Ready, chosenIds, Begun, Seeking, Due, pastOwn, spanAt, fits, Trial, Asking, Looking, answer};
 use live::is_live;
 use live::next;
 use network::agreement::agree;
@@ -33,25 +34,35 @@ struct Span {
     end: u16,
 }
 
-// The walk over relation r: its tuple `own` alone, or its tuples, from index `from` on if the search resumes.
-fn span_of(
-    tuple_starts: &[u16; 65],
-    r: u16,
-    alone: bool,
-    own: u16,
-    resumes: bool,
-    from: u16,
-) -> Span
-    requires { ⌜ (r < 64) × ((getD (now «tuple_starts») r 0 + own < 65535) × (getD (now «tuple_starts») r 0 + from < 65535)) ⌝ }
-    ensures { λ s. ⌜ s ≡ spanAt (now («tuple_starts» .entry)) r alone own resumes from ⌝ }
+// Where a search stands: the member whose turn it is, and the tuples chosen for those before it.
+struct Stage {
+    k: usize,
+    chosen: [u16; 4],
+}
+
+// The stage at member k, or past it if that is the seeking tuple's own, for which this tuple is chosen.
+fn past_own(place: usize, own: u16, k: usize, chosen: [u16; 4]) -> Stage
+    requires { ⌜ place < 4 ⌝ }
+    ensures { λ s. ⌜ s ≡ pastOwn place own k chosen ⌝ }
+{
+    if k == place {
+        let mut more = chosen;
+        more[k] = own;
+        return Stage {
+            k: k + 1,
+            chosen: more,
+        };
+    }
+    Stage { k, chosen }
+}
+
+// The walk over relation r: its tuples, from index `from` on if the search resumes.
+fn span_of(tuple_starts: &[u16; 65], r: u16, resumes: bool, from: u16) -> Span
+    requires { ⌜ (r < 64) × (getD (now «tuple_starts») r 0 + from < 65535) ⌝ }
+    ensures { λ s. ⌜ s ≡ spanAt (now («tuple_starts» .entry)) r false 0 resumes from ⌝ }
 {
     let relation = wide(r);
     let first = tuple_starts[relation];
-    if alone {
-        let start = first + own;
-        let end = start + 1;
-        return Span { first, start, end };
-    }
     let end = tuple_starts[relation + 1];
     if resumes {
         let start = first + from;
@@ -231,18 +242,12 @@ fn search(
     resumes: bool,
     chosen: [u16; 4],
 ) -> Found
-    requires { ⌜ (let Q = searching (now variables) (now values) (now «variable_starts») (now «tuple_starts») (now «value_starts») (now words) (now members) place own low in Ready Q × (Begun Q k resumes chosen × Seeking Q (now scope) (now tuple))) ⌝ }
+    requires { ⌜ (let Q = searching (now variables) (now values) (now «variable_starts») (now «tuple_starts») (now «value_starts») (now words) (now members) place own low in Ready Q × (Begun Q k resumes chosen × (Seeking Q (now scope) (now tuple) × Due Q k))) ⌝ }
     ensures { λ f. ⌜ (let Q = searching (now (variables .entry)) (now (values .entry)) (now («variable_starts» .entry)) (now («tuple_starts» .entry)) (now («value_starts» .entry)) (now (words .entry)) (now (members .entry)) place own low in answer (f .ok) (take (length (now (members .entry))) (f .tuples)) ≡ completion (network Q) (live Q) (seeker Q) low (chosenIds (network Q) (now (members .entry)) chosen k) (map (idsOf (network Q)) (drop k (now (members .entry))))) ⌝ }
 {
-    if k == members.len() {
-        return Found {
-            ok: true,
-            tuples: chosen,
-        };
-    }
     let lowest = low[k];
     let r = members[k];
-    let span = span_of(tuple_starts, r, k == place, own, resumes, lowest);
+    let span = span_of(tuple_starts, r, resumes, lowest);
     let first = span.first;
     let end = span.end;
     let start = next(words, span.start, end);
@@ -297,6 +302,12 @@ fn search(
             ) {
                 let mut more = chosen;
                 more[k] = x;
+                let stage = past_own(place, own, k + 1, more);
+                let on = stage.k;
+                let tuples = stage.chosen;
+                if on == members.len() {
+                    return Found { ok: true, tuples };
+                }
                 let found = search(
                     variables,
                     values,
@@ -310,9 +321,9 @@ fn search(
                     place,
                     own,
                     low,
-                    k + 1,
+                    on,
                     resumes && x == lowest,
-                    more,
+                    tuples,
                 );
                 if found.ok {
                     return found;
@@ -355,7 +366,23 @@ pub fn first_support(
     requires { ⌜ Ready (searching (now variables) (now values) (now «variable_starts») (now «tuple_starts») (now «value_starts») (now words) (now members) place own low) ⌝ }
     ensures { λ f. ⌜ (let Q = searching (now (variables .entry)) (now (values .entry)) (now («variable_starts» .entry)) (now («tuple_starts» .entry)) (now («value_starts» .entry)) (now (words .entry)) (now (members .entry)) place own low in answer (f .ok) (take (length (now (members .entry))) (f .tuples)) ≡ supportFrom (network Q) (live Q) (now (members .entry)) (seeker Q) low) ⌝ }
 {
-    let p = place_of(variable_starts, value_starts, members[place], own);
+    let r = members[place];
+    if !is_live(words, tuple_starts[wide(r)] + own) {
+        return Found {
+            ok: false,
+            tuples: low,
+        };
+    }
+    let stage = past_own(place, own, 0, low);
+    let k = stage.k;
+    let chosen = stage.chosen;
+    if k == members.len() {
+        return Found {
+            ok: true,
+            tuples: chosen,
+        };
+    }
+    let p = place_of(variable_starts, value_starts, r, own);
     let scope = p.scope;
     let scope_end = p.scope_end;
     let tuple = p.tuple;
@@ -373,8 +400,8 @@ pub fn first_support(
         place,
         own,
         low,
-        0,
+        k,
         true,
-        low,
+        chosen,
     )
 }

@@ -14,17 +14,8 @@ mul-first c = search needs
 element-copy-out-first : tie.Need-element-copy-out-first
 element-copy-out-first c = search needs
 
-add-start : tie.Need-add-start
-add-start c = rw (c .before .before .wide .ensures .0) (omega arith)
-
 add-end : tie.Need-add-end
-add-end c = rw (c .before .before .wide .ensures .0) (omega arith)
-
-returns : tie.Need-returns
-returns c = simp (c .if1 .taken, c .before .before .wide .ensures .0)
-
-add-end-2 : tie.Need-add-end-2
-add-end-2 c = search needs
+add-end c = search needs
 
 mul-end : tie.Need-mul-end
 mul-end c = search needs
@@ -32,14 +23,14 @@ mul-end c = search needs
 element-copy-out-end : tie.Need-element-copy-out-end
 element-copy-out-end c = search needs
 
-add-start-2 : tie.Need-add-start-2
-add-start-2 c = rw (c .before .before .before .before .wide .ensures .0) (omega arith)
+add-start : tie.Need-add-start
+add-start c = rw (c .before .before .before .wide .ensures .0) (omega arith)
+
+returns : tie.Need-returns
+returns c = simp (c .if1 .taken, c .before .before .before .wide .ensures .0)
 
 returns-2 : tie.Need-returns-2
-returns-2 c = simp (c .before .before .if1 .left, c .if2 .taken, c .before .before .before .before .wide .ensures .0)
-
-returns-3 : tie.Need-returns-3
-returns-3 c = simp (c .before .before .if1 .left, c .if2 .left, c .before .before .before .before .wide .ensures .0)
+returns-2 c = simp (c .if1 .left, c .before .before .before .wide .ensures .0)
 
 pub span-of-spec : {M : Type 1} → statement M
 span-of-spec =
@@ -48,12 +39,9 @@ span-of-spec =
     wide-requires
     mul-first
     element-copy-out-first
-    add-start
     add-end
-    returns
-    add-end-2
     mul-end
     element-copy-out-end
-    add-start-2
-    returns-2
-    returns-3)
+    add-start
+    returns
+    returns-2)
