@@ -176,9 +176,10 @@ module _ {Q : Search} {k : ℕ} {resumes : Bool} {chosen : List ℕ} {first begi
     id-back : idAt (network Q) (Q .members) k index ≡ g
     id-back = let i = span-inside Q k R inside resumes in let f = first-id in omega (arith, i .from-first, from)
 
-    pub trial : (scope tuple : List ℕ) → Seeking Q scope tuple → Trial (network Q) (Q .members) scope tuple (Q .place) k chosen index
-    trial scope tuple s =
+    pub trial : (k ≡ Q .place → ⊥) → (scope tuple : List ℕ) → Seeking Q scope tuple → Trial (network Q) (Q .members) scope tuple (Q .place) k chosen index
+    trial d scope tuple s =
         record {
+          other = d;
           inside = inside;
           few = R .few;
           index = index-below;
@@ -188,9 +189,10 @@ module _ {Q : Search} {k : ℕ} {resumes : Bool} {chosen : List ℕ} {first begi
         }
 
     -- what looks ask
-    pub asking : Asking (network Q) (Q .members) (Q .place) (Q .own) k chosen index
-    asking =
+    pub asking : (k ≡ Q .place → ⊥) → Asking (network Q) (Q .members) (Q .place) (Q .own) k chosen index
+    asking d =
         record {
+          other = d;
           inside = inside;
           few = R .few;
           place-in = R .place;

@@ -130,6 +130,7 @@ fits N c seeker place k chosen x =
 
 -- What the test of tuple x of member k asks.
 pub record Trial (N : Network) (c : Combination) (scope tuple : List ℕ) (place k : ℕ) (chosen : List ℕ) (x : ℕ) : Type 0 where
+  pub other : k ≡ place → ⊥
   pub inside : k < length c
   pub few : length c ≤ maxMembers
   pub index : x < size N (getD c k 0)
@@ -139,6 +140,7 @@ pub record Trial (N : Network) (c : Combination) (scope tuple : List ℕ) (place
 
 -- What looks at member k ask: the seeking tuple and those chosen exist, and so does tuple x of member k.
 pub record Asking (N : Network) (c : Combination) (place own k : ℕ) (chosen : List ℕ) (x : ℕ) : Type 0 where
+  pub other : k ≡ place → ⊥
   pub inside : k < length c
   pub few : length c ≤ maxMembers
   pub place-in : place < length c

@@ -102,7 +102,7 @@ fn agrees_with(
     )
 }
 
-// Whether tuple x of member k, unless that is the seeking tuple's place, agrees with the seeking tuple and with all chosen before it.
+// Whether tuple x of member k, not the seeking tuple's own, agrees with the seeking tuple and with all chosen before it.
 fn fits(
     variables: &[u16],
     values: &[u16],
@@ -119,9 +119,6 @@ fn fits(
     requires { ⌜ (let N = tabled (now variables) (now values) (now «variable_starts») (now «value_starts») in Laid N (now «variable_starts») (now «value_starts») × Trial N (now members) (now scope) (now tuple) place k chosen x) ⌝ }
     ensures { λ b. ⌜ b ≡ fits (tabled (now (variables .entry)) (now (values .entry)) (now («variable_starts» .entry)) (now («value_starts» .entry))) (now (members .entry)) (cells (now (scope .entry)) (now (tuple .entry))) place k chosen x ⌝ }
 {
-    if k == place {
-        return true;
-    }
     let r = members[k];
     if !agrees_with(
         variables,
@@ -180,9 +177,6 @@ fn looks_of(
         one: none,
         two: none,
     };
-    if k == place {
-        return looks;
-    }
     let r = members[k];
     looks = add_looks(
         variables,

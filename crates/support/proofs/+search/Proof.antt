@@ -139,7 +139,7 @@ search-looks-of-requires : (t : ℕ) → search-lts.Need-looks-of-requires (call
 search-looks-of-requires t c κs =
     let p = c .before .before in
     let C = come-start t (c .before) in
-    (entry t p .pre .1 .0 .laid, asking (turn t p) (c .before .next .result) (C .from-start) (c .if1 .left))
+    (entry t p .pre .1 .0 .laid, asking (turn t p) (c .before .next .result) (C .from-start) (c .if1 .left) (entry t p .pre .1 .1 .1 .1 .other))
 
 -- ---- The looks
 
@@ -184,7 +184,7 @@ search-fits-requires t c κs =
     let i = c .before .before in
     let p = spanned t (i .before) in
     let a = entry t p in
-    (a .pre .1 .0 .laid, trial (turn t p) (i .before .loop .g) (i .before .loop .inv .from-start) (i .loop-test .taken) (a .args .scope .now) (a .args .tuple .now) (seeks t a))
+    (a .pre .1 .0 .laid, trial (turn t p) (i .before .loop .g) (i .before .loop .inv .from-start) (i .loop-test .taken) (a .pre .1 .1 .1 .1 .other) (a .args .scope .now) (a .args .tuple .now) (seeks t a))
 
 abbrev Tried : ℕ → Type 0
 Tried t = search-lts.After-fits2 (callees t) (search-at t) search′.Post search-Inv-loop search-μ-loop
@@ -285,8 +285,7 @@ search-search-requires t c κs =
     let b = c .before .before .before in
     let p = spanned t (looping t (tried t b)) in
     let a = entry t p in
-    let S = stage t b in
-    (
+    let S = stage t b in (
       omega (arith, a .pre .0, turn t p .inside, S .forth),
       (a .pre .1 .0, (begun-on t c, (seeks t a, record { inside = omega (arith, S .begun .depth, c .before .if4 .left); other = S .other }))),
     )

@@ -15,7 +15,7 @@ use Rattle.model.specs.Network.{Network}
 use Rattle.model.specs.Agreement.{Cell, cells, cellsOf, agreeing, agree}
 use Rattle.network.specs.Layout.{tabled}
 use Rattle.support.specs.Search.{idAt, chosenIds}
-use Rattle.support.proofs.Chosen.{chosen-all, fits-own, fits-clash, fits-clash-chosen, fits-all}
+use Rattle.support.proofs.Chosen.{chosen-all, fits-clash, fits-clash-chosen, fits-all}
 use Rattle.support.proofs.fits.Statement.{statement}
 use Rattle.support.proofs.fits.Tie as tie
 
@@ -31,7 +31,7 @@ abbrev Entry : Type 0
 Entry = tie.Start Inv-loop μ-loop
 
 abbrev entry : tie.After-agrees-with Inv-loop μ-loop → Entry
-entry c = c .before .before .before .before .before .before .before .before
+entry c = c .before .before .before .before .before .before .before
 
 abbrev net : Entry → Network
 net s = tabled (s .args .variables .now) (s .args .values .now) (s .args .variable-starts .now) (s .args .value-starts .now)
@@ -43,11 +43,6 @@ seeking s = cells (s .args .scope .now) (s .args .tuple .now)
 abbrev tried : Entry → ℕ
 tried s = idAt (net s) (s .args .members .now) (s .args .k) (s .args .x)
 
-returns : tie.Need-returns Inv-loop μ-loop
-returns c =
-    let s = c .before .before .before .before .before .before in
-    sym (fits-own (net s) (s .args .members .now) (seeking s) (s .args .place) (s .args .k) (s .args .t10) (s .args .x) (c .if1 .taken))
-
 mul-r : tie.Need-mul-r Inv-loop μ-loop
 mul-r c = search needs
 
@@ -56,14 +51,14 @@ shared-slice-read-r c = search needs
 
 agrees-with-requires : tie.Need-agrees-with-requires Inv-loop μ-loop
 agrees-with-requires c κs =
-    let s = c .before .before .before .before .before .before .before in
+    let s = c .before .before .before .before .before .before in
     (s .pre .0, (s .pre .1 .index, s .pre .1 .widths))
 
-returns-2 : tie.Need-returns-2 Inv-loop μ-loop
-returns-2 c =
+returns : tie.Need-returns Inv-loop μ-loop
+returns c =
     let s = entry (c .before) in
-    sym (fits-clash (net s) (s .args .members .now) (seeking s) (s .args .place) (s .args .k) (s .args .t10) (s .args .x) (c .before .before .before .if1 .left)
-    (sym (c .before .agrees-with .ensures) ∙ not-true _ (c .if2 .taken)))
+    sym (fits-clash (net s) (s .args .members .now) (seeking s) (s .args .place) (s .args .k) (s .args .t10) (s .args .x) (s .pre .1 .other)
+    (sym (c .before .agrees-with .ensures) ∙ not-true _ (c .if1 .taken)))
 
 loop-holds : tie.Need-loop-holds Inv-loop μ-loop
 unfolding chosenIds
@@ -87,13 +82,13 @@ tuples-agree-requires c κs =
     let s = entry (l .before .before) in
     (s .pre .0, (s .pre .1 .within (l .loop .j) (c .before .before .loop-test .taken), s .pre .1 .index))
 
-returns-3 : tie.Need-returns-3 Inv-loop μ-loop
-returns-3 c =
+returns-2 : tie.Need-returns-2 Inv-loop μ-loop
+returns-2 c =
     let l = c .before .before .before .before .before in
     let s = entry (l .before .before) in
-    sym (fits-clash-chosen (net s) (s .args .members .now) (seeking s) (s .args .place) (s .args .k) (s .args .t10) (s .args .x) (l .before .before .before .before .if1 .left)
+    sym (fits-clash-chosen (net s) (s .args .members .now) (seeking s) (s .args .place) (s .args .k) (s .args .t10) (s .args .x) (s .pre .1 .other)
     (l .loop .j) (c .before .before .before .before .loop-test .taken)
-    (sym (c .before .tuples-agree .ensures) ∙ not-true _ (c .if4 .taken)))
+    (sym (c .before .tuples-agree .ensures) ∙ not-true _ (c .if3 .taken)))
 
 add-j : tie.Need-add-j Inv-loop μ-loop
 add-j c = search needs
@@ -102,8 +97,8 @@ loop-less : tie.Need-loop-less Inv-loop μ-loop
 loop-less c = search needs
 
 -- the tuple agrees with the seeking tuple
-agrees : (c : tie.Else2 Inv-loop μ-loop) → agreeing (seeking (entry (c .before))) (cellsOf (net (entry (c .before))) (tried (entry (c .before)))) ≡ true
-agrees c = sym (c .before .agrees-with .ensures) ∙ not-false _ (c .if2 .left)
+agrees : (c : tie.Else1 Inv-loop μ-loop) → agreeing (seeking (entry (c .before))) (cellsOf (net (entry (c .before))) (tried (entry (c .before)))) ≡ true
+agrees c = sym (c .before .agrees-with .ensures) ∙ not-false _ (c .if1 .left)
 
 -- and so with the tuple chosen for the seeking tuple's member, which is that tuple
 agrees-own : (c : tie.In-loop Inv-loop μ-loop) → c .before .loop .j ≡ entry (c .before .before .before) .args .place → agree (net (entry (c .before .before .before))) (idAt (net (entry (c .before .before .before))) (entry (c .before .before .before) .args .members .now) (c .before .loop .j) (getD (entry (c .before .before .before) .args .t10) (c .before .loop .j) 0)) (tried (entry (c .before .before .before))) ≡ true
@@ -123,15 +118,15 @@ loop-again c =
           (⊎-elim
           (λ w. sym (w .2 .ensures) ∙ not-false _ (w .3 .left))
           (λ w. agrees-own (c .before) (w .left))
-          (c .if3 .came))),
+          (c .if2 .came))),
     )
 
-returns-4 : tie.Need-returns-4 Inv-loop μ-loop
-returns-4 c =
+returns-3 : tie.Need-returns-3 Inv-loop μ-loop
+returns-3 c =
     let l = c .before in
     let s = entry (l .before .before) in
     let e : l .loop .j ≡ s .args .k = omega arith in
-    sym (fits-all (net s) (s .args .members .now) (seeking s) (s .args .place) (s .args .k) (s .args .t10) (s .args .x) (l .before .before .before .before .if1 .left)
+    sym (fits-all (net s) (s .args .members .now) (seeking s) (s .args .place) (s .args .k) (s .args .t10) (s .args .x) (s .pre .1 .other)
     (agrees (l .before)) (rw e at (l .loop .inv .1)))
 
 pub fits-spec : {M : Type 1} → statement M
@@ -140,19 +135,18 @@ fits-spec =
     (tie.spec
     Inv-loop
     μ-loop
-    returns
     mul-r
     shared-slice-read-r
     agrees-with-requires
-    returns-2
+    returns
     loop-holds
     mul-tuples-agree
     shared-slice-read-tuples-agree
     mul-tuples-agree-2
     array-read-tuples-agree
     tuples-agree-requires
-    returns-3
+    returns-2
     add-j
     loop-less
     loop-again
-    returns-4)
+    returns-3)

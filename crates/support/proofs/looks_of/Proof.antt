@@ -57,31 +57,28 @@ agrees s d j l z h e =
     let c = s .args .members .now in
     fits-chosen N c (cellsOf N (idAt N c (s .args .place) (s .args .own))) (s .args .place) (s .args .k) (s .args .t9) z d e j l
 
-returns : tie.Need-returns Inv-loop μ-loop
-returns c = record { tells = none (c .before .before .before .before); second = λ m. absurd (m refl) }
-
 mul-r : tie.Need-mul-r Inv-loop μ-loop
-mul-r c = let A = c .before .before .before .before .pre .1 in omega (arith, A .inside, A .few)
+mul-r c = let A = c .before .before .before .pre .1 in omega (arith, A .inside, A .few)
 
 shared-slice-read-r : tie.Need-shared-slice-read-r Inv-loop μ-loop
-shared-slice-read-r c = c .before .before .before .before .before .pre .1 .inside
+shared-slice-read-r c = c .before .before .before .before .pre .1 .inside
 
 mul-add-looks : tie.Need-mul-add-looks Inv-loop μ-loop
-mul-add-looks c = let A = c .before .before .before .before .before .pre .1 in omega (arith, A .place-in, A .few)
+mul-add-looks c = let A = c .before .before .before .before .pre .1 in omega (arith, A .place-in, A .few)
 
 shared-slice-read-add-looks : tie.Need-shared-slice-read-add-looks Inv-loop μ-loop
-shared-slice-read-add-looks c = c .before .before .before .before .before .before .pre .1 .place-in
+shared-slice-read-add-looks c = c .before .before .before .before .before .pre .1 .place-in
 
 add-looks-requires : tie.Need-add-looks-requires Inv-loop μ-loop
-add-looks-requires c κs = let s = c .before .before .before .before .before .before in (s .pre .0, (s .pre .1 .own-in, s .pre .1 .index))
+add-looks-requires c κs = let s = c .before .before .before .before .before in (s .pre .0, (s .pre .1 .own-in, s .pre .1 .index))
 
 loop-holds : tie.Need-loop-holds Inv-loop μ-loop
 loop-holds c =
-    let s = c .before .before .before .before .before .before .before in
-    (omega arith, c .add-looks .ensures (fit s) (seeks s (c .before .before .before .if1 .left)) (none s))
+    let s = c .before .before .before .before .before .before in
+    (omega arith, c .add-looks .ensures (fit s) (seeks s (s .pre .1 .other)) (none s))
 
-returns-2 : tie.Need-returns-2 Inv-loop μ-loop
-returns-2 c = record { tells = c .before .before .before .before .loop .inv .1; second = λ m. c .if2 .taken }
+returns : tie.Need-returns Inv-loop μ-loop
+returns c = record { tells = c .before .before .before .before .loop .inv .1; second = λ m. c .if1 .taken }
 
 sub-j : tie.Need-sub-j Inv-loop μ-loop
 sub-j c = search needs
@@ -89,30 +86,30 @@ sub-j c = search needs
 mul-add-looks-2 : tie.Need-mul-add-looks-2 Inv-loop μ-loop
 mul-add-looks-2 c =
     let l = c .before .before .before .before .before in
-    let A = l .before .before .before .before .before .before .before .before .pre .1 in
+    let A = l .before .before .before .before .before .before .before .pre .1 in
     omega (arith, l .loop .inv .0, A .inside, A .few)
 
 shared-slice-read-add-looks-2 : tie.Need-shared-slice-read-add-looks-2 Inv-loop μ-loop
 shared-slice-read-add-looks-2 c =
     let l = c .before .before .before .before .before .before in
-    omega (arith, l .loop .inv .0, c .before .before .before .before .before .loop-test .taken, l .before .before .before .before .before .before .before .before .pre .1 .inside)
+    omega (arith, l .loop .inv .0, c .before .before .before .before .before .loop-test .taken, l .before .before .before .before .before .before .before .pre .1 .inside)
 
 mul-add-looks-3 : tie.Need-mul-add-looks-3 Inv-loop μ-loop
 mul-add-looks-3 c =
     let l = c .before .before .before .before .before .before in
-    let A = l .before .before .before .before .before .before .before .before .pre .1 in
+    let A = l .before .before .before .before .before .before .before .pre .1 in
     omega (arith, l .loop .inv .0, A .inside, A .few)
 
 array-read-add-looks : tie.Need-array-read-add-looks Inv-loop μ-loop
 array-read-add-looks c =
     let l = c .before .before .before .before .before .before in
-    let A = l .before .before .before .before .before .before .before .before .pre .1 in
+    let A = l .before .before .before .before .before .before .before .pre .1 in
     omega (arith, l .loop .inv .0, c .before .before .before .before .before .loop-test .taken, A .inside, A .few)
 
 add-looks-requires-2 : tie.Need-add-looks-requires-2 Inv-loop μ-loop
 add-looks-requires-2 c κs =
     let l = c .before .before .before .before .before .before in
-    let s = l .before .before .before .before .before .before .before .before in
+    let s = l .before .before .before .before .before .before .before in
     (s .pre .0, (s .pre .1 .within (l .loop .j - 1) (omega (arith, l .loop .inv .0, c .before .before .before .before .before .loop-test .taken)), s .pre .1 .index))
 
 loop-less : tie.Need-loop-less Inv-loop μ-loop
@@ -121,9 +118,9 @@ loop-less c = let t = c .before .before .before .before .before .before .loop-te
 loop-again : tie.Need-loop-again Inv-loop μ-loop
 loop-again c =
     let l = c .before .before .before .before .before .before .before in
-    let s = l .before .before .before .before .before .before .before .before in (
+    let s = l .before .before .before .before .before .before .before in (
       omega (arith, l .loop .inv .0),
-      c .add-looks2 .ensures (fit s) (agrees s (l .before .before .before .before .if1 .left) (l .loop .j - 1) (omega (arith, l .loop .inv .0, c .before .before .before .before .before .before .loop-test .taken))) (l .loop .inv .1),
+      c .add-looks2 .ensures (fit s) (agrees s (s .pre .1 .other) (l .loop .j - 1) (omega (arith, l .loop .inv .0, c .before .before .before .before .before .before .loop-test .taken))) (l .loop .inv .1),
     )
 
 loop-less-2 : tie.Need-loop-less-2 Inv-loop μ-loop
@@ -132,11 +129,11 @@ loop-less-2 c = let t = c .before .before .before .before .loop-test .taken in o
 loop-again-2 : tie.Need-loop-again-2 Inv-loop μ-loop
 loop-again-2 c = let l = c .before .before .before .before .before in (omega (arith, l .loop .inv .0), l .loop .inv .1)
 
-returns-3 : tie.Need-returns-3 Inv-loop μ-loop
-returns-3 c = let b = c .before .before .before .before .before .loop .inv .1 in record { tells = (b .0, b .0); second = λ m. m }
+returns-2 : tie.Need-returns-2 Inv-loop μ-loop
+returns-2 c = let b = c .before .before .before .before .before .loop .inv .1 in record { tells = (b .0, b .0); second = λ m. m }
 
-returns-4 : tie.Need-returns-4 Inv-loop μ-loop
-returns-4 c = record { tells = c .before .before .before .before .before .loop .inv .1; second = λ m. c .if4 .left }
+returns-3 : tie.Need-returns-3 Inv-loop μ-loop
+returns-3 c = record { tells = c .before .before .before .before .before .loop .inv .1; second = λ m. c .if3 .left }
 
 pub looks-of-spec : {M : Type 1} → statement M
 looks-of-spec =
@@ -144,14 +141,13 @@ looks-of-spec =
     (tie.spec
     Inv-loop
     μ-loop
-    returns
     mul-r
     shared-slice-read-r
     mul-add-looks
     shared-slice-read-add-looks
     add-looks-requires
     loop-holds
-    returns-2
+    returns
     sub-j
     mul-add-looks-2
     shared-slice-read-add-looks-2
@@ -162,5 +158,5 @@ looks-of-spec =
     loop-again
     loop-less-2
     loop-again-2
-    returns-3
-    returns-4)
+    returns-2
+    returns-3)
