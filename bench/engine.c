@@ -21,7 +21,6 @@ typedef struct {
 } search_for;
 
 static bool fits(const search_for *q, size_t k, const uint16_t *chosen, size_t x) {
-    if (k == q->place) return true;
     size_t r = q->members[k];
     if (!agree_at(q->n, q->members[q->place], q->own, r, x)) return false;
     for (size_t j = 0; j < k; j++)
@@ -60,7 +59,6 @@ static looks add_looks(const network *n, looks l, size_t r, size_t x, size_t s) 
 /* Up to two columns of member k with the values that the seeking tuple and those chosen ask for. */
 static looks looks_of(const search_for *q, size_t k, const uint16_t *chosen) {
     looks l = {{NOWHERE, 0}, {NOWHERE, 0}};
-    if (k == q->place) return l;
     l = add_looks(q->n, l, q->members[q->place], q->own, q->members[k]);
     for (size_t j = k; j > 0 && l.two.column == NOWHERE;) {
         j--;
@@ -109,22 +107,33 @@ static size_t step(const network *n, const uint64_t *words, size_t r, size_t g, 
     return walk(words, n->values, at, width, g, end, l);
 }
 
+/* The member whose turn it is from k on; at its own member the seeking tuple is chosen. */
+static size_t past_own(const search_for *q, size_t k, uint16_t *chosen) {
+    if (k != q->place) return k;
+    chosen[k] = (uint16_t)q->own;
+    return k + 1;
+}
+
 static bool search(const search_for *q, size_t k, bool resumes, uint16_t *chosen) {
     const network *n = q->n;
-    if (k == n->m) return true;
-    size_t r = q->members[k], first = n->tuple_starts[r];
-    size_t start = k == q->place ? first + q->own : resumes ? first + q->low[k] : first;
-    size_t end = k == q->place ? start + 1 : n->tuple_starts[r + 1];
-    size_t g = next(q->words, 0, (uint16_t)start, (uint16_t)end);
+    size_t r = q->members[k], first = n->tuple_starts[r], end = n->tuple_starts[r + 1];
+    size_t g = next(q->words, 0, (uint16_t)(resumes ? first + q->low[k] : first), (uint16_t)end);
     if (end <= g) return false;
     looks l = looks_of(q, k, chosen);
     for (g = step(n, q->words, r, g, end, l); g < end; g = step(n, q->words, r, g + 1, end, l)) {
         size_t x = g - first;
         if (!live_at(q->words, g) || !fits(q, k, chosen, x)) continue;
         chosen[k] = (uint16_t)x;
-        if (search(q, k + 1, resumes && x == q->low[k], chosen)) return true;
+        size_t on = past_own(q, k + 1, chosen);
+        if (on == n->m || search(q, on, resumes && x == q->low[k], chosen)) return true;
     }
     return false;
+}
+
+static bool first_support(const search_for *q, uint16_t *chosen) {
+    if (!live_at(q->words, q->n->tuple_starts[q->members[q->place]] + q->own)) return false;
+    size_t k = past_own(q, 0, chosen);
+    return k == q->n->m || search(q, k, true, chosen);
 }
 
 static bool all_live(const network *n, const uint64_t *words, const uint16_t *members, const uint16_t *held) {
@@ -145,7 +154,7 @@ static bool renew(const network *n, uint64_t *words, uint16_t *held, size_t p, s
         low[place] = (uint16_t)x;
     }
     search_for q = {n, words, members, place, x, low};
-    if (search(&q, 0, true, chosen)) {
+    if (first_support(&q, chosen)) {
         for (size_t j = 0; j < m; j++) held[j] = chosen[j];
         return true;
     }
