@@ -1,7 +1,7 @@
 -- Laws of the seeking tuple's own member: this tuple is chosen for it, and what there is to find stays.
 -- From the laws of a member's turn, whose walk there goes over this tuple alone.
-use mathlib.Core.Path.{_≡_, refl, sym, _∙_, ap, ap₂, subst}
-use mathlib.Core.Bool.{Bool, true, false, _&&_, and-true, cond}
+use mathlib.Core.Path.{_≡_, refl, sym, _∙_, ap, subst}
+use mathlib.Core.Bool.{Bool, true, false, _&&_, and-true}
 use mathlib.Core.Option.{Option, none, some, orElse}
 use mathlib.Core.List.{List, map}
 use Prim.Native.Nat.{ℕ, suc, _+_, _-_, _≤_, _<_}
@@ -18,8 +18,8 @@ use Rattle.model.proofs.Search.{reach-step, reach-none}
 use Rattle.support.specs.declared.Stage.{Stage}
 use Rattle.support.specs.Search.{Search, network, live, seeker, Ready, chosenIds, Begun, pastOwn, fits}
 use Rattle.support.proofs.Chosen.{fits-own}
-use Rattle.support.proofs.Walk.{few-tuples, member-start, member-within, span, span-inside, walk-whole}
-use Rattle.support.proofs.Turn.{sought, onward, left, Come, Turn, come-more, onward-more}
+use Rattle.support.proofs.Walk.{member-start, member-within, span, span-inside, walk-whole}
+use Rattle.support.proofs.Turn.{sought, onward, Turn, come-more, onward-more}
 
 or-else-none : (o : Option (List ℕ)) → orElse o none ≡ o
 unfolding orElse

@@ -14,7 +14,7 @@ use lib.Seq.{take-suc, take-suc-set, getD-set-same, getD-set-other}
 use borrow.Author.Tests.{eqb-true, eqb-false, eq-eqb, ne-eqb, ltb-true, ltb-false}
 use Rattle.model.specs.Lists.{all, pairwise, earlier}
 use Rattle.model.specs.Network.{size, total, firstId, idsOf, relationOf, valuesAt}
-use Rattle.model.specs.Agreement.{Cell, cells, cellsOf, agreeing, agree}
+use Rattle.model.specs.Agreement.{cellsOf, agreeing, agree}
 use Rattle.model.specs.TupleSet.{has}
 use Rattle.model.specs.LiveWords.{isLive, nextLive}
 use Rattle.model.specs.Support.{completion}

@@ -9,7 +9,7 @@ use lib.ListN.{length, getD, take, set}
 use Rattle.model.specs.Limits.{wordBits, maxMembers}
 use Rattle.model.specs.Lists.{from, all, pairwise, earlier}
 use Rattle.model.specs.Network.{Network, size, total, firstId, tuplesIn}
-use Rattle.model.specs.Agreement.{Cell, cells, cellsOf, agreeing, agree}
+use Rattle.model.specs.Agreement.{Cell, cellsOf, agreeing, agree}
 use Rattle.model.specs.TupleSet.{TupleSet, has}
 use Rattle.model.specs.Combination.{Combination}
 use Rattle.model.specs.LiveWords.{living}

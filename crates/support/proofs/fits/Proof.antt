@@ -1,7 +1,7 @@
 -- `fits` decides whether a tuple may be chosen. The loop's invariant: the tuple agrees with those chosen for the members before j.
 -- From what `tuples_agree` ensures, and the laws of the test.
-use mathlib.Core.Path.{_≡_, refl, sym, ap, _∙_}
-use mathlib.Core.Bool.{true, false}
+use mathlib.Core.Path.{_≡_, refl, sym, _∙_}
+use mathlib.Core.Bool.{true}
 use mathlib.Core.List.{List}
 use mathlib.Core.Logic.{⊎-elim}
 use Prim.Native.Nat.{ℕ, _-_, _≤_}
