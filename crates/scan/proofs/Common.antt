@@ -1,7 +1,7 @@
 -- Laws of a variable that two scopes share: tuples that agree have the same value under it.
 -- From the laws of agreement by places.
 use mathlib.Core.Path.{_≡_, refl, sym}
-use mathlib.Core.Bool.{Bool, true, false}
+use mathlib.Core.Bool.{Bool, true}
 use mathlib.Core.List.{List}
 use Prim.Native.Nat.{ℕ, _<_}
 use native.Mathlib.Decide.{ℕ-discrete}

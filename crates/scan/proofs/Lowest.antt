@@ -1,7 +1,7 @@
 -- Laws of `w & (w - 1)`: the word without its lowest bit.
 -- From the laws of the machine's operations on words.
-use mathlib.Core.Path.{_≡_, sym, _∙_, ap, ap₂}
-use mathlib.Core.Bool.{Bool, true, false, _&&_}
+use mathlib.Core.Path.{_≡_, sym, _∙_, ap}
+use mathlib.Core.Bool.{true, false}
 use Prim.Native.Nat.{ℕ, suc, _+_, _-_, _*_, _/_, _%_, _^_, _≤_, _<_}
 use native.Mathlib.Nat.{pow-suc, mul-comm, div-div-eq-div-mul, div-mul-le-self, le-div-iff-mul-le, div-lt-iff-lt-mul, lt-mul-div-succ}
 use native.Mathlib.Omega.{arith}

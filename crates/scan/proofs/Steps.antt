@@ -1,6 +1,6 @@
 -- Laws of a step: its tuples lie within the value list, and an id that a look refuses, or that is dead, is no candidate.
 -- From what a step asks, and the laws of a relation's parts and of tuples that stand one after the other.
-use mathlib.Core.Path.{_≡_, refl, sym, _∙_, ap, ap₂, subst}
+use mathlib.Core.Path.{_≡_, refl, sym, _∙_, ap, ap₂}
 use mathlib.Core.Bool.{Bool, true, false, _&&_, _||_, and-false}
 use mathlib.Core.List.{List}
 use Prim.Native.Nat.{ℕ, suc, _+_, _-_, _*_, _≤_, _<_}
@@ -8,11 +8,11 @@ use native.Mathlib.Omega.{arith}
 use lib.Dec.{eqb}
 use lib.ListN.{length, getD}
 use borrow.Author.Tests.{ne-eqb}
-use Rattle.model.specs.Network.{Network, width, size, firstId, valuesIn, before, valuesAt}
+use Rattle.model.specs.Network.{Network, width, size, valuesIn, before, valuesAt}
 use Rattle.model.specs.LiveWords.{isLive, nextLive}
 use Rattle.model.proofs.LiveWords.{nextLive-first}
 use Rattle.network.specs.declared.agreement.Place.{Place}
-use Rattle.network.specs.Layout.{Laid, placeAt}
+use Rattle.network.specs.Layout.{placeAt}
 use Rattle.network.proofs.Places.{below-limit, rises, tuple-fits, place-within}
 use Rattle.scan.specs.declared.Look.{Look}
 use Rattle.scan.specs.Candidate.{nowhere, Somewhere, keyOf, lookedAt, looked, candidate, Ahead, Stepping}

@@ -1,11 +1,10 @@
 -- Laws of a walk: it starts with nothing passed over, and goes on past ids that do not pass the test.
 -- From the definition of `Ahead` alone.
-use mathlib.Core.Path.{_≡_, sym, _∙_, ap, subst}
-use mathlib.Core.Bool.{Bool, true, false}
-use mathlib.Core.Logic.{_⊎_, ⊎-elim}
+use mathlib.Core.Path.{_≡_, sym, _∙_, ap}
+use mathlib.Core.Bool.{Bool, false}
 use Prim.Native.Nat.{ℕ, _+_, _≤_, _<_}
 use native.Mathlib.Omega.{arith}
-use native.Mathlib.Decide.{ℕ-discrete, decLe}
+use native.Mathlib.Decide.{decLe}
 use Rattle.scan.specs.Candidate.{Ahead}
 
 module _ (passes : ℕ → Bool) (start end : ℕ) where

@@ -1,7 +1,7 @@
 -- Laws of the seeking tuple's own member: this tuple is chosen for it, and what there is to find stays.
 -- From the laws of a member's turn, whose walk there goes over this tuple alone.
-use mathlib.Core.Path.{_≡_, refl, sym, _∙_, ap, ap₂, subst}
-use mathlib.Core.Bool.{Bool, true, false, _&&_, and-true, cond}
+use mathlib.Core.Path.{_≡_, refl, sym, _∙_, ap, subst}
+use mathlib.Core.Bool.{Bool, true, false, _&&_, and-true}
 use mathlib.Core.Option.{Option, none, some, orElse}
 use mathlib.Core.List.{List, map}
 use Prim.Native.Nat.{ℕ, suc, _+_, _-_, _≤_, _<_}
@@ -10,23 +10,23 @@ use lib.Dec.{eqb}
 use lib.ListN.{length, getD, drop, set, length-set}
 use borrow.Author.Tests.{eq-eqb, eqb-true, eqb-false}
 use Rattle.model.specs.Network.{total, firstId, idsOf}
-use Rattle.model.specs.Agreement.{cells}
+use Rattle.model.specs.Agreement.{cellsOf}
 use Rattle.model.specs.TupleSet.{has}
 use Rattle.model.specs.LiveWords.{isLive}
 use Rattle.model.proofs.LiveWords.{living-has}
 use Rattle.model.proofs.Search.{reach-step, reach-none}
 use Rattle.support.specs.declared.Stage.{Stage}
-use Rattle.support.specs.Search.{Search, network, live, seeker, Ready, chosenIds, Begun, Seeking, pastOwn, fits}
+use Rattle.support.specs.Search.{Search, network, live, seeker, Ready, chosenIds, Begun, pastOwn, fits}
 use Rattle.support.proofs.Chosen.{fits-own}
-use Rattle.support.proofs.Walk.{few-tuples, member-start, member-within, span, span-inside, walk-whole}
-use Rattle.support.proofs.Turn.{sought, onward, left, Come, Turn, come-more, onward-more}
+use Rattle.support.proofs.Walk.{member-start, member-within, span, span-inside, walk-whole}
+use Rattle.support.proofs.Turn.{sought, onward, Turn, come-more, onward-more}
 
 or-else-none : (o : Option (List ℕ)) → orElse o none ≡ o
 unfolding orElse
 or-else-none none = refl
 or-else-none (some x) = refl
 
-module _ (Q : Search) (R : Ready Q) (resumes : Bool) (chosen : List ℕ) (sized : length chosen ≡ 4) (low-sized : length (Q .low) ≡ 4) (scope tuple : List ℕ) (s : Seeking Q scope tuple) (k : ℕ) (e : k ≡ Q .place) (B : Begun Q k resumes chosen) where
+module _ (Q : Search) (R : Ready Q) (resumes : Bool) (chosen : List ℕ) (sized : length chosen ≡ 4) (low-sized : length (Q .low) ≡ 4) (lively : has (live Q) (seeker Q) ≡ true) (k : ℕ) (e : k ≡ Q .place) (B : Begun Q k resumes chosen) where
   inside : k < length (Q .members)
   inside = rw e (R .place)
 
@@ -66,7 +66,7 @@ module _ (Q : Search) (R : Ready Q) (resumes : Bool) (chosen : List ℕ) (sized 
       let i = span-inside Q k R inside resumes in
       sym (living-has (total (network Q)) (Q .words) begin (omega (arith, alone, i .to-end, member-within Q R k inside)))
       ∙ ap (has (live Q)) seeker-is
-      ∙ s .lives
+      ∙ lively
 
   -- and what there is to find is what is found onward from it
   sought-onward : sought Q k chosen ≡ onward Q k chosen begin
@@ -79,8 +79,8 @@ module _ (Q : Search) (R : Ready Q) (resumes : Bool) (chosen : List ℕ) (sized 
       ∙ ap (orElse (onward Q k chosen begin)) (reach-none (network Q) (live Q) (seeker Q) (Q .low) ids later (suc begin) end (omega arith))
       ∙ or-else-none (onward Q k chosen begin)
 
-  own-fits : fits (network Q) (Q .members) (cells scope tuple) (Q .place) k chosen (begin - first) ≡ true
-  own-fits = fits-own (network Q) (Q .members) (cells scope tuple) (Q .place) k chosen (begin - first) e
+  own-fits : fits (network Q) (Q .members) (cellsOf (network Q) (seeker Q)) (Q .place) k chosen (begin - first) ≡ true
+  own-fits = fits-own (network Q) (Q .members) (cellsOf (network Q) (seeker Q)) (Q .place) k chosen (begin - first) e
 
   goes-on : (resumes && eqb (begin - first) (getD (Q .low) k 0)) ≡ resumes
   goes-on =
@@ -91,12 +91,12 @@ module _ (Q : Search) (R : Ready Q) (resumes : Bool) (chosen : List ℕ) (sized 
   own-begun =
       subst (λ (x : ℕ). Begun Q (k + 1) resumes (set chosen k x)) own-index
       (subst (λ (on : Bool). Begun Q (k + 1) on (set chosen k (begin - first))) goes-on
-      (come-more turn begin (omega arith) alone scope tuple s lives own-fits))
+      (come-more turn begin (omega arith) alone lives own-fits))
 
   own-sought : sought Q (k + 1) (set chosen k (Q .own)) ≡ sought Q k chosen
   own-sought =
       ap (λ (x : ℕ). sought Q (k + 1) (set chosen k x)) (sym own-index)
-      ∙ onward-more turn begin (omega arith) alone scope tuple s
+      ∙ onward-more turn begin (omega arith) alone
       ∙ sym sought-onward
 
 -- ---- The next stage
@@ -109,8 +109,8 @@ pub record Staged (Q : Search) (resumes : Bool) (k : ℕ) (chosen : List ℕ) (s
   pub forth : k ≤ s .k
   pub sized : length (s .chosen) ≡ 4
 
-pub staged : (Q : Search) → Ready Q → (resumes : Bool) (k : ℕ) (chosen : List ℕ) → length chosen ≡ 4 → length (Q .low) ≡ 4 → (scope tuple : List ℕ) → Seeking Q scope tuple → Begun Q k resumes chosen → (s : Stage) → s ≡ pastOwn (Q .place) (Q .own) k chosen → Staged Q resumes k chosen s
-staged Q R resumes k chosen sized low-sized scope tuple seek B s e = go (eqb k (Q .place)) refl
+pub staged : (Q : Search) → Ready Q → (resumes : Bool) (k : ℕ) (chosen : List ℕ) → length chosen ≡ 4 → length (Q .low) ≡ 4 → has (live Q) (seeker Q) ≡ true → Begun Q k resumes chosen → (s : Stage) → s ≡ pastOwn (Q .place) (Q .own) k chosen → Staged Q resumes k chosen s
+staged Q R resumes k chosen sized low-sized lively B s e = go (eqb k (Q .place)) refl
   where
     go : (b : Bool) → eqb k (Q .place) ≡ b → Staged Q resumes k chosen s
     go true q =
@@ -118,8 +118,8 @@ staged Q R resumes k chosen sized low-sized scope tuple seek B s e = go (eqb k (
         let is : s ≡ record { k = k + 1; chosen = set chosen k (Q .own) } = rw q at e in
         rw is
         (record {
-          begun = own-begun Q R resumes chosen sized low-sized scope tuple seek k p B;
-          same = own-sought Q R resumes chosen sized low-sized scope tuple seek k p B;
+          begun = own-begun Q R resumes chosen sized low-sized lively k p B;
+          same = own-sought Q R resumes chosen sized low-sized lively k p B;
           other = λ f. omega arith;
           forth = omega arith;
           sized = length-set chosen k (Q .own) ∙ sized;

@@ -14,7 +14,7 @@ use lib.Seq.{take-suc, take-suc-set, getD-set-same, getD-set-other}
 use borrow.Author.Tests.{eqb-true, eqb-false, eq-eqb, ne-eqb, ltb-true, ltb-false}
 use Rattle.model.specs.Lists.{all, pairwise, earlier}
 use Rattle.model.specs.Network.{size, total, firstId, idsOf, relationOf, valuesAt}
-use Rattle.model.specs.Agreement.{Cell, cells, cellsOf, agreeing, agree}
+use Rattle.model.specs.Agreement.{cellsOf, agreeing, agree}
 use Rattle.model.specs.TupleSet.{has}
 use Rattle.model.specs.LiveWords.{isLive, nextLive}
 use Rattle.model.specs.Support.{completion}
@@ -26,7 +26,7 @@ use Rattle.model.proofs.LiveWords.{living-has, nextLive-first}
 use Rattle.model.proofs.Search.{completion-clash, completion-dead, reach, reach-none, reach-step, reach-skip, reach-live}
 use Rattle.scan.specs.declared.Looks.{Looks}
 use Rattle.scan.specs.Candidate.{nowhere, Somewhere, looked, candidate, Ahead, Stepping}
-use Rattle.support.specs.Search.{Search, network, live, idAt, seeker, Ready, chosenIds, Begun, Seeking, fits, Trial, Asking, Looking}
+use Rattle.support.specs.Search.{Search, network, live, idAt, seeker, Ready, chosenIds, Begun, fits, Trial, Looking}
 use Rattle.support.proofs.Chosen.{chosen-set, fits-own, fits-other}
 use Rattle.support.proofs.Walk.{members-differ, few-tuples, member-below, member-start, member-within, span, span-inside, walk-whole}
 
@@ -176,21 +176,8 @@ module _ {Q : Search} {k : ℕ} {resumes : Bool} {chosen : List ℕ} {first begi
     id-back : idAt (network Q) (Q .members) k index ≡ g
     id-back = let i = span-inside Q k R inside resumes in let f = first-id in omega (arith, i .from-first, from)
 
-    pub trial : (k ≡ Q .place → ⊥) → (scope tuple : List ℕ) → Seeking Q scope tuple → Trial (network Q) (Q .members) scope tuple (Q .place) k chosen index
-    trial d scope tuple s =
-        record {
-          other = d;
-          inside = inside;
-          few = R .few;
-          index = index-below;
-          within = B .within;
-          widths = s .widths;
-          seeking = λ l. s .seeking ∙ ap (λ (x : ℕ). cellsOf (network Q) (idAt (network Q) (Q .members) (Q .place) x)) (sym (B .own l));
-        }
-
-    -- what looks ask
-    pub asking : (k ≡ Q .place → ⊥) → Asking (network Q) (Q .members) (Q .place) (Q .own) k chosen index
-    asking d =
+    pub trial : (k ≡ Q .place → ⊥) → Trial (network Q) (Q .members) (Q .place) (Q .own) k chosen index
+    trial d =
         record {
           other = d;
           inside = inside;
@@ -199,6 +186,7 @@ module _ {Q : Search} {k : ℕ} {resumes : Bool} {chosen : List ℕ} {first begi
           own-in = R .own;
           index = index-below;
           within = B .within;
+          own-chosen = B .own;
         }
 
     -- at the seeking tuple's place, it is that tuple
@@ -240,110 +228,109 @@ module _ {Q : Search} {k : ℕ} {resumes : Bool} {chosen : List ℕ} {first begi
             let l : getD (Q .tupleStarts) (getD (Q .members) k 0) 0 + getD (Q .low) k 0 ≤ g = rw (q, e) at (from) in
             omega arith
 
-    module _ (scope tuple : List ℕ) (s : Seeking Q scope tuple) where
-      abbrev fit : Bool
-      fit = fits (network Q) (Q .members) (cells scope tuple) (Q .place) k chosen index
+    abbrev fit : Bool
+    fit = fits (network Q) (Q .members) (cellsOf (network Q) (seeker Q)) (Q .place) k chosen index
 
-      -- the test, elsewhere than at the seeking tuple's place
-      fit-other : (k ≡ Q .place → ⊥) → fit ≡ all (λ (y : ℕ). agree (network Q) y g) (seeker Q ∷ ids)
-      unfolding agree
-      fit-other d =
-          fits-other (network Q) (Q .members) (cells scope tuple) (Q .place) k chosen index d
-          ∙ ap₂ (λ (xs : List Cell) (y : ℕ). agreeing xs (cellsOf (network Q) y) && all (λ (z : ℕ). agree (network Q) z y) ids) (s .seeking) id-back
+    -- the test, elsewhere than at the seeking tuple's place
+    fit-other : (k ≡ Q .place → ⊥) → fit ≡ all (λ (y : ℕ). agree (network Q) y g) (seeker Q ∷ ids)
+    unfolding agree
+    fit-other d =
+        fits-other (network Q) (Q .members) (cellsOf (network Q) (seeker Q)) (Q .place) k chosen index d
+        ∙ ap (λ (y : ℕ). agreeing (cellsOf (network Q) (seeker Q)) (cellsOf (network Q) y) && all (λ (z : ℕ). agree (network Q) z y) ids) id-back
 
-      pub come-clash : fit ≡ false → onward Q k chosen g ≡ none
-      come-clash e = go (ℕ-discrete k (Q .place))
-        where
-          go : Dec (k ≡ Q .place) → onward Q k chosen g ≡ none
-          go (yes p) = absurd (not-both (fits-own (network Q) (Q .members) (cells scope tuple) (Q .place) k chosen index p) e)
-          go (no d) = completion-clash (network Q) (live Q) (seeker Q) (Q .low) ids g later (id-other d) (sym (fit-other d) ∙ e)
+    pub come-clash : fit ≡ false → onward Q k chosen g ≡ none
+    come-clash e = go (ℕ-discrete k (Q .place))
+      where
+        go : Dec (k ≡ Q .place) → onward Q k chosen g ≡ none
+        go (yes p) = absurd (not-both (fits-own (network Q) (Q .members) (cellsOf (network Q) (seeker Q)) (Q .place) k chosen index p) e)
+        go (no d) = completion-clash (network Q) (live Q) (seeker Q) (Q .low) ids g later (id-other d) (sym (fit-other d) ∙ e)
 
-      -- ---- The tuple chosen
+    -- ---- The tuple chosen
 
-      abbrev more : List ℕ
-      more = set chosen k index
+    abbrev more : List ℕ
+    more = set chosen k index
 
-      abbrev resumed : Bool
-      resumed = resumes && eqb index (getD (Q .low) k 0)
+    abbrev resumed : Bool
+    resumed = resumes && eqb index (getD (Q .low) k 0)
 
-      k-small : k < 4
-      k-small = omega (arith, R .few)
+    k-small : k < 4
+    k-small = omega (arith, R .few)
 
-      ids-more : chosenIds (network Q) (Q .members) more (suc k) ≡ ids ++ (g ∷ [])
-      ids-more =
-          let l = k-small in
-          chosen-set (network Q) (Q .members) chosen k index (omega arith) ∙ ap (λ (x : ℕ). ids ++ (x ∷ [])) id-back
+    ids-more : chosenIds (network Q) (Q .members) more (suc k) ≡ ids ++ (g ∷ [])
+    ids-more =
+        let l = k-small in
+        chosen-set (network Q) (Q .members) chosen k index (omega arith) ∙ ap (λ (x : ℕ). ids ++ (x ∷ [])) id-back
 
-      take-more : take (suc k) more ≡ take k chosen ++ (index ∷ [])
-      take-more = let l = k-small in take-suc-set chosen k index (omega arith)
+    take-more : take (suc k) more ≡ take k chosen ++ (index ∷ [])
+    take-more = let l = k-small in take-suc-set chosen k index (omega arith)
 
-      -- at the next member's turn, what there is to find is what is found onward
-      pub onward-more : completion (network Q) (live Q) (seeker Q) (Q .low) (chosenIds (network Q) (Q .members) more (k + 1)) (map (idsOf (network Q)) (drop (k + 1) (Q .members))) ≡ onward Q k chosen g
-      onward-more = rw (add-one, ids-more) refl
+    -- at the next member's turn, what there is to find is what is found onward
+    pub onward-more : completion (network Q) (live Q) (seeker Q) (Q .low) (chosenIds (network Q) (Q .members) more (k + 1)) (map (idsOf (network Q)) (drop (k + 1) (Q .members))) ≡ onward Q k chosen g
+    onward-more = rw (add-one, ids-more) refl
 
-      -- each place up to k
-      at-place : (P : ℕ → ℕ → Type 0) → ((j : ℕ) → j < k → P j (getD chosen j 0)) → P k index → (j : ℕ) → j < suc k → P j (getD more j 0)
-      at-place P f x j l = go (ℕ-discrete j k)
-        where
-          go : Dec (j ≡ k) → P j (getD more j 0)
-          go (yes e) =
-              let b = k-small in
-              subst (λ (i : ℕ). P i (getD more i 0)) (sym e) (subst (P k) (sym (getD-set-same chosen k index 0 (omega arith))) x)
-          go (no d) = subst (P j) (sym (getD-set-other chosen k j index 0 d)) (f j (omega arith))
+    -- each place up to k
+    at-place : (P : ℕ → ℕ → Type 0) → ((j : ℕ) → j < k → P j (getD chosen j 0)) → P k index → (j : ℕ) → j < suc k → P j (getD more j 0)
+    at-place P f x j l = go (ℕ-discrete j k)
+      where
+        go : Dec (j ≡ k) → P j (getD more j 0)
+        go (yes e) =
+            let b = k-small in
+            subst (λ (i : ℕ). P i (getD more i 0)) (sym e) (subst (P k) (sym (getD-set-same chosen k index 0 (omega arith))) x)
+        go (no d) = subst (P j) (sym (getD-set-other chosen k j index 0 d)) (f j (omega arith))
 
-      agrees-seeker : fit ≡ true → (k ≡ Q .place → ⊥) → all (λ (y : ℕ). agree (network Q) y g) (seeker Q ∷ ids) ≡ true
-      agrees-seeker e d = sym (fit-other d) ∙ e
+    agrees-seeker : fit ≡ true → (k ≡ Q .place → ⊥) → all (λ (y : ℕ). agree (network Q) y g) (seeker Q ∷ ids) ≡ true
+    agrees-seeker e d = sym (fit-other d) ∙ e
 
-      -- the tuple agrees with each chosen before
-      agrees-chosen : fit ≡ true → (y : ℕ) → List·Memᴰ y ids → agree (network Q) y g ≡ true
-      agrees-chosen e y m = go (ℕ-discrete k (Q .place))
-        where
-          go : Dec (k ≡ Q .place) → agree (network Q) y g ≡ true
-          go (yes p) =
-              ap (agree (network Q) y) (id-seeker p)
-              ∙ agree-sym (network Q) y (seeker Q)
-              ∙ all-at (agree (network Q) (seeker Q)) ids (B .seeker (omega arith)) m
-          go (no d) = all-at (λ (y : ℕ). agree (network Q) y g) (seeker Q ∷ ids) (agrees-seeker e d) (List·Memᴰ·tail m)
+    -- the tuple agrees with each chosen before
+    agrees-chosen : fit ≡ true → (y : ℕ) → List·Memᴰ y ids → agree (network Q) y g ≡ true
+    agrees-chosen e y m = go (ℕ-discrete k (Q .place))
+      where
+        go : Dec (k ≡ Q .place) → agree (network Q) y g ≡ true
+        go (yes p) =
+            ap (agree (network Q) y) (id-seeker p)
+            ∙ agree-sym (network Q) y (seeker Q)
+            ∙ all-at (agree (network Q) (seeker Q)) ids (B .seeker (omega arith)) m
+        go (no d) = all-at (λ (y : ℕ). agree (network Q) y g) (seeker Q ∷ ids) (agrees-seeker e d) (List·Memᴰ·tail m)
 
-      more-at : (b : Bool) → resumes ≡ b → (b && eqb index (getD (Q .low) k 0)) ≡ true → take (suc k) more ≡ take (suc k) (Q .low)
-      more-at true q e =
-          let l = k-small in
-          take-more
-          ∙ ap₂ (λ (is : List ℕ) (x : ℕ). is ++ (x ∷ [])) (B .at-low q) (eqb-true index (getD (Q .low) k 0) e)
-          ∙ sym (take-suc (Q .low) k 0 (omega arith))
-      more-at false q e = absurd (false≢true e)
+    more-at : (b : Bool) → resumes ≡ b → (b && eqb index (getD (Q .low) k 0)) ≡ true → take (suc k) more ≡ take (suc k) (Q .low)
+    more-at true q e =
+        let l = k-small in
+        take-more
+        ∙ ap₂ (λ (is : List ℕ) (x : ℕ). is ++ (x ∷ [])) (B .at-low q) (eqb-true index (getD (Q .low) k 0) e)
+        ∙ sym (take-suc (Q .low) k 0 (omega arith))
+    more-at false q e = absurd (false≢true e)
 
-      more-past : (b : Bool) → resumes ≡ b → (b && eqb index (getD (Q .low) k 0)) ≡ false → earlier (Q .low) (take (suc k) more) ≡ true
-      more-past true q e =
-          let l = k-small in
-          let n = index-low q in
-          let d = eqb-false index (getD (Q .low) k 0) e in
-          ap (earlier (Q .low)) (take-more ∙ ap (λ (is : List ℕ). is ++ (index ∷ [])) (B .at-low q))
-          ∙ earlier-above k index (Q .low) (omega arith) (omega arith)
-      more-past false q e = ap (earlier (Q .low)) take-more ∙ later-append (take k chosen) (index ∷ []) (Q .low) (B .past-low q)
+    more-past : (b : Bool) → resumes ≡ b → (b && eqb index (getD (Q .low) k 0)) ≡ false → earlier (Q .low) (take (suc k) more) ≡ true
+    more-past true q e =
+        let l = k-small in
+        let n = index-low q in
+        let d = eqb-false index (getD (Q .low) k 0) e in
+        ap (earlier (Q .low)) (take-more ∙ ap (λ (is : List ℕ). is ++ (index ∷ [])) (B .at-low q))
+        ∙ earlier-above k index (Q .low) (omega arith) (omega arith)
+    more-past false q e = ap (earlier (Q .low)) take-more ∙ later-append (take k chosen) (index ∷ []) (Q .low) (B .past-low q)
 
-      begun-more : isLive (Q .words) g ≡ true → fit ≡ true → Begun Q (suc k) resumed more
-      begun-more l e =
-          let N = network Q in
-          let t = stop-total in
-          let b = in-walk in
-          let lives : has (live Q) g ≡ true = living-has (total N) (Q .words) g (omega arith) ∙ l in
-          record {
-            depth = inside;
-            within = at-place (λ (j x : ℕ). x < size N (getD (Q .members) j 0)) (B .within) index-below;
-            own = λ l. at-place (λ (j x : ℕ). j ≡ Q .place → x ≡ Q .own) (λ j m q. ap (λ (i : ℕ). getD chosen i 0) q ∙ B .own (omega arith)) index-own (Q .place) l refl;
-            live = ap (all (has (live Q))) ids-more ∙ all-append (has (live Q)) ids (g ∷ []) (B .live) (and-intro lives refl);
-            pairs = ap (pairwise (agree N)) ids-more ∙ pairwise-append (agree N) ids (g ∷ []) (B .pairs) refl (λ y z m n. ap (agree N y) (List·Memᴰ·eq-of-singleton n) ∙ agrees-chosen e y m);
-            seeker = λ l.
-                ap (all (agree N (seeker Q))) ids-more
-                ∙ all-append (agree N (seeker Q)) ids (g ∷ []) (B .seeker (omega arith))
-                (and-intro (and-left (agree N (seeker Q) g) (all (λ (y : ℕ). agree N y g) ids) (agrees-seeker e (λ q. omega arith))) refl);
-            at-low = more-at resumes refl;
-            past-low = more-past resumes refl;
-          }
+    begun-more : isLive (Q .words) g ≡ true → fit ≡ true → Begun Q (suc k) resumed more
+    begun-more l e =
+        let N = network Q in
+        let t = stop-total in
+        let b = in-walk in
+        let lives : has (live Q) g ≡ true = living-has (total N) (Q .words) g (omega arith) ∙ l in
+        record {
+          depth = inside;
+          within = at-place (λ (j x : ℕ). x < size N (getD (Q .members) j 0)) (B .within) index-below;
+          own = λ l. at-place (λ (j x : ℕ). j ≡ Q .place → x ≡ Q .own) (λ j m q. ap (λ (i : ℕ). getD chosen i 0) q ∙ B .own (omega arith)) index-own (Q .place) l refl;
+          live = ap (all (has (live Q))) ids-more ∙ all-append (has (live Q)) ids (g ∷ []) (B .live) (and-intro lives refl);
+          pairs = ap (pairwise (agree N)) ids-more ∙ pairwise-append (agree N) ids (g ∷ []) (B .pairs) refl (λ y z m n. ap (agree N y) (List·Memᴰ·eq-of-singleton n) ∙ agrees-chosen e y m);
+          seeker = λ l.
+              ap (all (agree N (seeker Q))) ids-more
+              ∙ all-append (agree N (seeker Q)) ids (g ∷ []) (B .seeker (omega arith))
+              (and-intro (and-left (agree N (seeker Q) g) (all (λ (y : ℕ). agree N y g) ids) (agrees-seeker e (λ q. omega arith))) refl);
+          at-low = more-at resumes refl;
+          past-low = more-past resumes refl;
+        }
 
-      pub come-more : isLive (Q .words) g ≡ true → fit ≡ true → Begun Q (k + 1) resumed more
-      come-more l e = rw add-one (begun-more l e)
+    pub come-more : isLive (Q .words) g ≡ true → fit ≡ true → Begun Q (k + 1) resumed more
+    come-more l e = rw add-one (begun-more l e)
 
   -- ---- What a step passes over
 
@@ -371,36 +358,34 @@ module _ {Q : Search} {k : ℕ} {resumes : Bool} {chosen : List ℕ} {first begi
           column-two = λ m. L .tells .1 .column (L .second m);
         }
 
-    module _ (scope tuple : List ℕ) (s : Seeking Q scope tuple) where
-      abbrev fits-at : ℕ → Bool
-      fits-at g = fits (network Q) (Q .members) (cells scope tuple) (Q .place) k chosen (g - first)
+    abbrev fits-at : ℕ → Bool
+    fits-at g = fits (network Q) (Q .members) (cellsOf (network Q) (seeker Q)) (Q .place) k chosen (g - first)
 
-      -- a live id that is no candidate does not fit
-      misfit : (g : ℕ) → span Q k resumes .start ≤ g → g < end → isLive (Q .words) g ≡ true → candidate (network Q) (Q .words) rel first (l .one) (l .two) g ≡ false → (b : Bool) → fits-at g ≡ b → b ≡ false
-      unfolding candidate
-      misfit g from h lives e true q =
-          let none : (eqb (l .one .column) nowhere || looked (network Q) rel (l .one) (l .two) (g - first)) ≡ false = rw lives at e in
-          let m : Somewhere (l .one) = eqb-false (l .one .column) nowhere (or-false-left (eqb (l .one .column) nowhere) (looked (network Q) rel (l .one) (l .two) (g - first)) none) in
-          let fit : fits (network Q) (Q .members) (cellsOf (network Q) (seeker Q)) (Q .place) k chosen (g - first) ≡ true = ap (λ (xs : List Cell). fits (network Q) (Q .members) xs (Q .place) k chosen (g - first)) (sym (s .seeking)) ∙ q in
-          let below = index-below g from h in
-          let one = L .tells .0 .value m (g - first) below fit in
-          let two = L .tells .1 .value (L .second m) (g - first) below fit in
-          absurd (not-both (and-intro (eq-eqb (getD (valuesAt (network Q) rel (g - first)) (l .one .column) 0) (l .one .value) one) (eq-eqb (getD (valuesAt (network Q) rel (g - first)) (l .two .column) 0) (l .two .value) two)) (sym (ap (λ (b : Bool). b || looked (network Q) rel (l .one) (l .two) (g - first)) (ne-eqb (l .one .column) nowhere m)) ∙ none))
-      misfit g from h lives e false q = refl
+    -- a live id that is no candidate does not fit
+    misfit : (g : ℕ) → span Q k resumes .start ≤ g → g < end → isLive (Q .words) g ≡ true → candidate (network Q) (Q .words) rel first (l .one) (l .two) g ≡ false → (b : Bool) → fits-at g ≡ b → b ≡ false
+    unfolding candidate
+    misfit g from h lives e true q =
+        let none : (eqb (l .one .column) nowhere || looked (network Q) rel (l .one) (l .two) (g - first)) ≡ false = rw lives at e in
+        let m : Somewhere (l .one) = eqb-false (l .one .column) nowhere (or-false-left (eqb (l .one .column) nowhere) (looked (network Q) rel (l .one) (l .two) (g - first)) none) in
+        let below = index-below g from h in
+        let one = L .tells .0 .value m (g - first) below q in
+        let two = L .tells .1 .value (L .second m) (g - first) below q in
+        absurd (not-both (and-intro (eq-eqb (getD (valuesAt (network Q) rel (g - first)) (l .one .column) 0) (l .one .value) one) (eq-eqb (getD (valuesAt (network Q) rel (g - first)) (l .two .column) 0) (l .two .value) two)) (sym (ap (λ (b : Bool). b || looked (network Q) rel (l .one) (l .two) (g - first)) (ne-eqb (l .one .column) nowhere m)) ∙ none))
+    misfit g from h lives e false q = refl
 
-      -- what is passed over leads to nothing
-      passed-none : (g : ℕ) → span Q k resumes .start ≤ g → g < end → candidate (network Q) (Q .words) rel first (l .one) (l .two) g ≡ false → (b : Bool) → isLive (Q .words) g ≡ b → onward Q k chosen g ≡ none
-      passed-none g from h e true q = come-clash g from h scope tuple s (misfit g from h q e (fits-at g) refl)
-      passed-none g from h e false q = come-dead g from h q
+    -- what is passed over leads to nothing
+    passed-none : (g : ℕ) → span Q k resumes .start ≤ g → g < end → candidate (network Q) (Q .words) rel first (l .one) (l .two) g ≡ false → (b : Bool) → isLive (Q .words) g ≡ b → onward Q k chosen g ≡ none
+    passed-none g from h e true q = come-clash g from h (misfit g from h q e (fits-at g) refl)
+    passed-none g from h e false q = come-dead g from h q
 
-      pub come-ahead : (i g : ℕ) → Come Q k resumes chosen i → Ahead (candidate (network Q) (Q .words) rel first (l .one) (l .two)) i end g → Come Q k resumes chosen g
-      come-ahead i g C A =
-          let e = T .is-end in
-          record {
-            from-start = omega (arith, C .from-start, A .from-start);
-            to-end = omega (arith, A .to-end);
-            rest =
-                sym (reach-skip (network Q) (live Q) (seeker Q) (Q .low) ids later i g stop (A .from-start) (omega (arith, A .to-end))
-                (λ x b. passed-none x (omega (arith, C .from-start, b .0)) (omega (arith, A .to-end, b .1)) (A .passed x (b .0) (b .1)) (isLive (Q .words) x) refl))
-                ∙ C .rest;
-          }
+    pub come-ahead : (i g : ℕ) → Come Q k resumes chosen i → Ahead (candidate (network Q) (Q .words) rel first (l .one) (l .two)) i end g → Come Q k resumes chosen g
+    come-ahead i g C A =
+        let e = T .is-end in
+        record {
+          from-start = omega (arith, C .from-start, A .from-start);
+          to-end = omega (arith, A .to-end);
+          rest =
+              sym (reach-skip (network Q) (live Q) (seeker Q) (Q .low) ids later i g stop (A .from-start) (omega (arith, A .to-end))
+              (λ x b. passed-none x (omega (arith, C .from-start, b .0)) (omega (arith, A .to-end, b .1)) (A .passed x (b .0) (b .1)) (isLive (Q .words) x) refl))
+              ∙ C .rest;
+        }

@@ -9,7 +9,7 @@ use lib.ListN.{length, getD, take, set}
 use Rattle.model.specs.Limits.{wordBits, maxMembers}
 use Rattle.model.specs.Lists.{from, all, pairwise, earlier}
 use Rattle.model.specs.Network.{Network, size, total, firstId, tuplesIn}
-use Rattle.model.specs.Agreement.{Cell, cells, cellsOf, agreeing, agree}
+use Rattle.model.specs.Agreement.{Cell, cellsOf, agreeing, agree}
 use Rattle.model.specs.TupleSet.{TupleSet, has}
 use Rattle.model.specs.Combination.{Combination}
 use Rattle.model.specs.LiveWords.{living}
@@ -96,12 +96,6 @@ pub record Begun (Q : Search) (k : ℕ) (resumes : Bool) (chosen : List ℕ) : T
   pub at-low : resumes ≡ true → take k chosen ≡ take k (Q .low)
   pub past-low : resumes ≡ false → earlier (Q .low) (take k chosen) ≡ true
 
--- The scope and the values of the seeking tuple, which is live.
-pub record Seeking (Q : Search) (scope tuple : List ℕ) : Type 0 where
-  pub lives : has (live Q) (seeker Q) ≡ true
-  pub widths : length scope ≡ length tuple
-  pub seeking : cells scope tuple ≡ cellsOf (network Q) (seeker Q)
-
 -- It is the turn of member k, which is not the seeking tuple's own.
 pub record Due (Q : Search) (k : ℕ) : Type 0 where
   pub inside : k < length (Q .members)
@@ -128,18 +122,8 @@ fits N c seeker place k chosen x =
     eqb k place
     || (agreeing seeker (cellsOf N (idAt N c k x)) && all (λ (y : ℕ). agree N y (idAt N c k x)) (chosenIds N c chosen k))
 
--- What the test of tuple x of member k asks.
-pub record Trial (N : Network) (c : Combination) (scope tuple : List ℕ) (place k : ℕ) (chosen : List ℕ) (x : ℕ) : Type 0 where
-  pub other : k ≡ place → ⊥
-  pub inside : k < length c
-  pub few : length c ≤ maxMembers
-  pub index : x < size N (getD c k 0)
-  pub within : (j : ℕ) → j < k → getD chosen j 0 < size N (getD c j 0)
-  pub widths : length scope ≡ length tuple
-  pub seeking : place < k → cells scope tuple ≡ cellsOf N (idAt N c place (getD chosen place 0))
-
--- What looks at member k ask: the seeking tuple and those chosen exist, and so does tuple x of member k.
-pub record Asking (N : Network) (c : Combination) (place own k : ℕ) (chosen : List ℕ) (x : ℕ) : Type 0 where
+-- What the test of tuple x of member k asks, and what looks at this member ask, which has tuple x.
+pub record Trial (N : Network) (c : Combination) (place own k : ℕ) (chosen : List ℕ) (x : ℕ) : Type 0 where
   pub other : k ≡ place → ⊥
   pub inside : k < length c
   pub few : length c ≤ maxMembers
@@ -147,6 +131,7 @@ pub record Asking (N : Network) (c : Combination) (place own k : ℕ) (chosen : 
   pub own-in : own < size N (getD c place 0)
   pub index : x < size N (getD c k 0)
   pub within : (j : ℕ) → j < k → getD chosen j 0 < size N (getD c j 0)
+  pub own-chosen : place < k → getD chosen place 0 ≡ own
 
 -- What looks at member k tell: a tuple that fits has their values, and there are two if there is one.
 pub record Looking (N : Network) (c : Combination) (place own k : ℕ) (chosen : List ℕ) (l : Looks) : Type 0 where

@@ -1,18 +1,17 @@
 // The first support of a tuple, sought member by member.
 ghost use mathlib.Core.Path.{_≡_};
-ghost use mathlib.Core.Bool.{false};
+ghost use mathlib.Core.Bool.{true, false};
 ghost use mathlib.Core.List.{map};
 ghost use Prim.Native.Nat.{_+_, _<_};
 ghost use lib.ListN.{length, getD, take, drop};
-ghost use Rattle.model.specs.Network.{size, firstId, idsOf};
-ghost use Rattle.model.specs.Agreement.{cells, cellsOf, agreeing};
+ghost use Rattle.model.specs.Network.{idsOf};
+ghost use Rattle.model.specs.Agreement.{cellsOf};
+ghost use Rattle.model.specs.TupleSet.{has};
 ghost use Rattle.model.specs.Support.{supportFrom, completion};
 ghost use Rattle.network.specs.Layout.{tabled, Laid};
-ghost use Rattle.support.specs.Search.{searching, network, live, seeker, Ready, chosenIds, Begun, Seeking, Due, pastOwn, spanAt, fits, Trial, Asking, Looking, answer};
+ghost use Rattle.support.specs.Search.{searching, network, live, idAt, seeker, Ready, chosenIds, Begun, Due, pastOwn, spanAt, fits, Trial, Looking, answer};
 use live::is_live;
 use live::next;
-use network::agreement::agree;
-use network::agreement::place_of;
 use network::agreement::tuples_agree;
 use network::wide;
 use scan::Look;
@@ -75,33 +74,6 @@ fn span_of(tuple_starts: &[u16; 65], r: u16, resumes: bool, from: u16) -> Span
     }
 }
 
-// Whether the tuple with this scope and these values agrees with tuple x of relation r.
-fn agrees_with(
-    variables: &[u16],
-    values: &[u16],
-    variable_starts: &[u16; 65],
-    value_starts: &[u16; 65],
-    scope: &[u16],
-    tuple: &[u16],
-    r: u16,
-    x: u16,
-) -> bool
-    requires { ⌜ (let N = tabled (now variables) (now values) (now «variable_starts») (now «value_starts») in Laid N (now «variable_starts») (now «value_starts») × ((x < size N r) × (length (now scope) ≡ length (now tuple)))) ⌝ }
-    ensures { λ b. ⌜ (let N = tabled (now (variables .entry)) (now (values .entry)) (now («variable_starts» .entry)) (now («value_starts» .entry)) in b ≡ agreeing (cells (now (scope .entry)) (now (tuple .entry))) (cellsOf N (firstId N r + x))) ⌝ }
-{
-    let p = place_of(variable_starts, value_starts, r, x);
-    let other = p.scope;
-    let other_end = p.scope_end;
-    let b = p.tuple;
-    let b_end = p.tuple_end;
-    agree(
-        scope,
-        tuple,
-        &variables[other..other_end],
-        &values[b..b_end],
-    )
-}
-
 // Whether tuple x of member k, not the seeking tuple's own, agrees with the seeking tuple and with all chosen before it.
 fn fits(
     variables: &[u16],
@@ -109,24 +81,24 @@ fn fits(
     variable_starts: &[u16; 65],
     value_starts: &[u16; 65],
     members: &[u16],
-    scope: &[u16],
-    tuple: &[u16],
     place: usize,
+    own: u16,
     k: usize,
     chosen: [u16; 4],
     x: u16,
 ) -> bool
-    requires { ⌜ (let N = tabled (now variables) (now values) (now «variable_starts») (now «value_starts») in Laid N (now «variable_starts») (now «value_starts») × Trial N (now members) (now scope) (now tuple) place k chosen x) ⌝ }
-    ensures { λ b. ⌜ b ≡ fits (tabled (now (variables .entry)) (now (values .entry)) (now («variable_starts» .entry)) (now («value_starts» .entry))) (now (members .entry)) (cells (now (scope .entry)) (now (tuple .entry))) place k chosen x ⌝ }
+    requires { ⌜ (let N = tabled (now variables) (now values) (now «variable_starts») (now «value_starts») in Laid N (now «variable_starts») (now «value_starts») × Trial N (now members) place own k chosen x) ⌝ }
+    ensures { λ b. ⌜ (let N = tabled (now (variables .entry)) (now (values .entry)) (now («variable_starts» .entry)) (now («value_starts» .entry)) in b ≡ fits N (now (members .entry)) (cellsOf N (idAt N (now (members .entry)) place own)) place k chosen x) ⌝ }
 {
     let r = members[k];
-    if !agrees_with(
+    let seeking = members[place];
+    if !tuples_agree(
         variables,
         values,
         variable_starts,
         value_starts,
-        scope,
-        tuple,
+        seeking,
+        own,
         r,
         x,
     ) {
@@ -166,7 +138,7 @@ fn looks_of(
     chosen: [u16; 4],
     x: u16,
 ) -> Looks
-    requires { ⌜ (let N = tabled (now variables) (now values) (now «variable_starts») (now «value_starts») in Laid N (now «variable_starts») (now «value_starts») × Asking N (now members) place own k chosen x) ⌝ }
+    requires { ⌜ (let N = tabled (now variables) (now values) (now «variable_starts») (now «value_starts») in Laid N (now «variable_starts») (now «value_starts») × Trial N (now members) place own k chosen x) ⌝ }
     ensures { λ l. ⌜ Looking (tabled (now (variables .entry)) (now (values .entry)) (now («variable_starts» .entry)) (now («value_starts» .entry))) (now (members .entry)) place own k chosen l ⌝ }
 {
     let none = Look {
@@ -227,8 +199,6 @@ fn search(
     value_starts: &[u16; 65],
     words: &[u64],
     members: &[u16],
-    scope: &[u16],
-    tuple: &[u16],
     place: usize,
     own: u16,
     low: [u16; 4],
@@ -236,7 +206,7 @@ fn search(
     resumes: bool,
     chosen: [u16; 4],
 ) -> Found
-    requires { ⌜ (let Q = searching (now variables) (now values) (now «variable_starts») (now «tuple_starts») (now «value_starts») (now words) (now members) place own low in Ready Q × (Begun Q k resumes chosen × (Seeking Q (now scope) (now tuple) × Due Q k))) ⌝ }
+    requires { ⌜ (let Q = searching (now variables) (now values) (now «variable_starts») (now «tuple_starts») (now «value_starts») (now words) (now members) place own low in Ready Q × (Begun Q k resumes chosen × ((has (live Q) (seeker Q) ≡ true) × Due Q k))) ⌝ }
     ensures { λ f. ⌜ (let Q = searching (now (variables .entry)) (now (values .entry)) (now («variable_starts» .entry)) (now («tuple_starts» .entry)) (now («value_starts» .entry)) (now (words .entry)) (now (members .entry)) place own low in answer (f .ok) (take (length (now (members .entry))) (f .tuples)) ≡ completion (network Q) (live Q) (seeker Q) low (chosenIds (network Q) (now (members .entry)) chosen k) (map (idsOf (network Q)) (drop k (now (members .entry))))) ⌝ }
 {
     let lowest = low[k];
@@ -287,9 +257,8 @@ fn search(
                 variable_starts,
                 value_starts,
                 members,
-                scope,
-                tuple,
                 place,
+                own,
                 k,
                 chosen,
                 x,
@@ -310,8 +279,6 @@ fn search(
                     value_starts,
                     words,
                     members,
-                    scope,
-                    tuple,
                     place,
                     own,
                     low,
@@ -376,11 +343,6 @@ pub fn first_support(
             tuples: chosen,
         };
     }
-    let p = place_of(variable_starts, value_starts, r, own);
-    let scope = p.scope;
-    let scope_end = p.scope_end;
-    let tuple = p.tuple;
-    let tuple_end = p.tuple_end;
     search(
         variables,
         values,
@@ -389,8 +351,6 @@ pub fn first_support(
         value_starts,
         words,
         members,
-        &variables[scope..scope_end],
-        &values[tuple..tuple_end],
         place,
         own,
         low,

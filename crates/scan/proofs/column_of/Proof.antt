@@ -1,6 +1,5 @@
 -- `column_of` answers only a place where the variable stands.
 -- From its test alone.
-use mathlib.Core.Path.{_≡_}
 use Prim.Native.Nat.{_-_, _≤_}
 use native.Mathlib.Omega.{arith}
 use lib.ListN.{length}

@@ -1,6 +1,6 @@
 -- `shared` answers a column under whose variable both scopes stand, with the tuple's value there.
 -- From what `column_of` ensures and the law of a variable that two scopes share.
-use mathlib.Core.Path.{_≡_, sym, _∙_, ap}
+use mathlib.Core.Path.{_∙_, ap}
 use Prim.Native.Nat.{ℕ, _-_, _≤_, _<_}
 use native.Mathlib.Omega.{arith}
 use lib.ListN.{length, getD}

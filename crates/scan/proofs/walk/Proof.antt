@@ -1,7 +1,7 @@
 -- `walk` passes over ids that are dead or have another value alone, a word at a time.
 -- From what `pick` ensures, and the laws of shifted words and of tuples that stand one after the other.
 use mathlib.Core.Path.{_≡_, sym, _∙_, ap, ap₂}
-use mathlib.Core.Bool.{Bool, true, false, _&&_}
+use mathlib.Core.Bool.{Bool, false, _&&_}
 use mathlib.Core.List.{List}
 use Prim.Native.Nat.{ℕ, _+_, _-_, _*_, _/_, _%_, _^_, _≤_, _<_}
 use native.Mathlib.Nat.{add-mul}
@@ -11,7 +11,7 @@ use lib.ListN.{length, getD}
 use borrow.Author.Needs.{needs}
 use Rattle.model.specs.LiveWords.{isSet, isLive}
 use Rattle.live.proofs.Bits.{isSet-shr, isSet-below, isLive-shr}
-use Rattle.scan.specs.Candidate.{lookedAt, Ahead}
+use Rattle.scan.specs.Candidate.{lookedAt}
 use Rattle.scan.proofs.Rows.{rows-split}
 use Rattle.scan.proofs.walk.Statement.{statement}
 use Rattle.scan.proofs.walk.Tie as tie

@@ -13,12 +13,13 @@ use borrow.Kind.Array.{eInt, good-length}
 use mir.Syntax.{w16}
 use borrow.Fn.Kinds.{In}
 use borrow.Fn.PlainCycle.{Measures, is, falls, and}
+use Rattle.model.specs.TupleSet.{has}
 use Rattle.support.specs.declared.Span.{Span}
-use Rattle.support.specs.Search.{Search, searching, Begun, Seeking, answer}
+use Rattle.support.specs.Search.{Search, searching, live, seeker, Begun, answer}
 use Rattle.support.proofs.Ends.{turn-done}
 use Rattle.support.proofs.Walk.{span, span-other}
 use Rattle.support.proofs.Own.{Staged, staged}
-use Rattle.support.proofs.Turn.{sought, onward, Come, span-asks, Turn, walk-asks, walk-forward, come-first, come-from, come-none, come-found, come-next, live-asks, come-dead, trial, asking, come-clash, onward-more, come-more, step-asks, come-ahead}
+use Rattle.support.proofs.Turn.{sought, onward, Come, span-asks, Turn, walk-asks, walk-forward, come-first, come-from, come-none, come-found, come-next, live-asks, come-dead, trial, come-clash, onward-more, come-more, step-asks, come-ahead}
 use Rattle.live.proofs.is_live.Reads as is-live-reads
 use Rattle.live.proofs.next.Reads as next-reads
 use Rattle.scan.proofs.step.Reads as step-reads
@@ -34,25 +35,25 @@ use Rattle.support.proofs.+search.Tie.{close}
 
 -- ---- The measure, the invariant and the callees
 
-abbrev μ-search : Measures 9 search-kinds.ps ℕ
-μ-search κs a = length (a .1 .1 .1 .1 .1 .1 .0 .now) - a .1 .1 .1 .1 .1 .1 .1 .1 .1 .1 .1 .1 .0
+abbrev μ-search : Measures 7 search-kinds.ps ℕ
+μ-search κs a = length (a .1 .1 .1 .1 .1 .1 .0 .now) - a .1 .1 .1 .1 .1 .1 .1 .1 .1 .1 .0
 
-abbrev search-at : ℕ → In 9 search-kinds.ps
-search-at t = and 9 search-kinds.ps (is 9 search-kinds.ps μ-search t) search′.Pre
+abbrev search-at : ℕ → In 7 search-kinds.ps
+search-at t = and 7 search-kinds.ps (is 7 search-kinds.ps μ-search t) search′.Pre
 
-abbrev search-below : ℕ → In 9 search-kinds.ps
-search-below t = and 9 search-kinds.ps (falls 9 search-kinds.ps _<_ μ-search t) search′.Pre
+abbrev search-below : ℕ → In 7 search-kinds.ps
+search-below t = and 7 search-kinds.ps (falls 7 search-kinds.ps _<_ μ-search t) search′.Pre
 
 abbrev callees : ℕ → search-lts.Claims
 callees t =
     (span-of-reads.Asked, span-of-reads.Learnt, next-reads.Asked, next-reads.Learnt, looks-of-reads.Asked, looks-of-reads.Learnt, step-reads.Asked, step-reads.Learnt, is-live-reads.Asked, is-live-reads.Learnt, fits-reads.Asked, fits-reads.Learnt, past-own-reads.Asked, past-own-reads.Learnt, search-below t, search′.Post)
 
 abbrev search-Inv-loop : search-lts.InvT-loop
-search-Inv-loop variables values variable-starts tuple-starts value-starts words members scope tuple place own k resumes chosen low lowest r first end start one two g₀ g =
+search-Inv-loop variables values variable-starts tuple-starts value-starts words members place own k resumes chosen low lowest r first end start one two g₀ g =
     Come (searching variables values variable-starts tuple-starts value-starts words members place own low) k resumes chosen g
 
 abbrev search-μ-loop : search-lts.MeasureT-loop
-search-μ-loop variables values variable-starts tuple-starts value-starts words members scope tuple place own k resumes chosen low lowest r first end start one two g₀ g = end - g
+search-μ-loop variables values variable-starts tuple-starts value-starts words members place own k resumes chosen low lowest r first end start one two g₀ g = end - g
 
 -- ---- Places on the way
 
@@ -63,21 +64,22 @@ abbrev Spanned : ℕ → Type 0
 Spanned t = search-lts.After-span-of (callees t) (search-at t) search′.Post search-Inv-loop search-μ-loop
 
 abbrev entry : (t : ℕ) → Spanned t → Entry t
-entry t p = p .before .before .before .before .before .before .before .before
+entry t p = p .before .before .before .before .before .before
 
 -- what the search is called on
 abbrev searchOf : (t : ℕ) → Entry t → Search
 searchOf t a =
-    searching (a .args .variables .now) (a .args .values .now) (a .args .variable-starts .now) (a .args .tuple-starts .now) (a .args .value-starts .now) (a .args .words .now) (a .args .members .now) (a .args .place) (a .args .own) (a .args .t12)
+    searching (a .args .variables .now) (a .args .values .now) (a .args .variable-starts .now) (a .args .tuple-starts .now) (a .args .value-starts .now) (a .args .words .now) (a .args .members .now) (a .args .place) (a .args .own) (a .args .t10)
 
-abbrev seeks : (t : ℕ) (a : Entry t) → Seeking (searchOf t a) (a .args .scope .now) (a .args .tuple .now)
-seeks t a = a .pre .1 .1 .1 .0
+-- the seeking tuple is live
+abbrev lives : (t : ℕ) (a : Entry t) → has (live (searchOf t a)) (seeker (searchOf t a)) ≡ true
+lives t a = a .pre .1 .1 .1 .0
 
 chosen-length : (t : ℕ) (a : Entry t) → length (a .args .chosen) ≡ 4
-chosen-length t a = good-length (eInt w16) 4 (a .args .chosen) _ (a .good .1 .1 .1 .1 .1 .1 .1 .1 .1 .1 .1 .1 .1 .1 .0)
+chosen-length t a = good-length (eInt w16) 4 (a .args .chosen) _ (a .good .1 .1 .1 .1 .1 .1 .1 .1 .1 .1 .1 .1 .0)
 
-low-length : (t : ℕ) (a : Entry t) → length (a .args .t12) ≡ 4
-low-length t a = good-length (eInt w16) 4 (a .args .t12) _ (a .good .1 .1 .1 .1 .1 .1 .1 .1 .1 .1 .1 .0)
+low-length : (t : ℕ) (a : Entry t) → length (a .args .t10) ≡ 4
+low-length t a = good-length (eInt w16) 4 (a .args .t10) _ (a .good .1 .1 .1 .1 .1 .1 .1 .1 .1 .0)
 
 spans : (t : ℕ) (p : Spanned t) → p .span-of .result ≡ span (searchOf t (entry t p)) (entry t p .args .k) (entry t p .args .resumes)
 spans t p =
@@ -101,20 +103,20 @@ turn t p =
 -- ---- The needs
 
 search-mul-lowest : (t : ℕ) → search-lts.Need-mul-lowest (callees t) (search-at t) search′.Post search-Inv-loop search-μ-loop
-search-mul-lowest t c = omega (arith, c .before .before .before .before .before .before .pre .1 .0 .few, c .before .before .before .before .before .before .pre .1 .1 .0 .depth)
+search-mul-lowest t c = omega (arith, c .before .before .before .before .pre .1 .0 .few, c .before .before .before .before .pre .1 .1 .0 .depth)
 
 search-array-read-lowest : (t : ℕ) → search-lts.Need-array-read-lowest (callees t) (search-at t) search′.Post search-Inv-loop search-μ-loop
-search-array-read-lowest t c = omega (arith, c .before .before .before .before .before .before .pre .1 .0 .few, c .before .before .before .before .before .before .pre .1 .1 .1 .1 .inside)
+search-array-read-lowest t c = omega (arith, c .before .before .before .before .pre .1 .0 .few, c .before .before .before .before .pre .1 .1 .1 .1 .inside)
 
 search-mul-r : (t : ℕ) → search-lts.Need-mul-r (callees t) (search-at t) search′.Post search-Inv-loop search-μ-loop
-search-mul-r t c = omega (arith, c .before .before .before .before .before .before .pre .1 .0 .few, c .before .before .before .before .before .before .pre .1 .1 .0 .depth)
+search-mul-r t c = omega (arith, c .before .before .before .before .pre .1 .0 .few, c .before .before .before .before .pre .1 .1 .0 .depth)
 
 search-shared-slice-read-r : (t : ℕ) → search-lts.Need-shared-slice-read-r (callees t) (search-at t) search′.Post search-Inv-loop search-μ-loop
-search-shared-slice-read-r t c = c .before .before .before .before .before .before .before .pre .1 .1 .1 .1 .inside
+search-shared-slice-read-r t c = c .before .before .before .before .before .pre .1 .1 .1 .1 .inside
 
 search-span-of-requires : (t : ℕ) → search-lts.Need-span-of-requires (callees t) (search-at t) search′.Post search-Inv-loop search-μ-loop
 search-span-of-requires t c κs =
-    let a = c .before .before .before .before .before .before .before in
+    let a = c .before .before .before .before .before in
     span-asks (searchOf t a) (a .args .k) (a .pre .1 .0) (a .pre .1 .1 .1 .1 .inside)
 
 search-next-requires : (t : ℕ) → search-lts.Need-next-requires (callees t) (search-at t) search′.Post search-Inv-loop search-μ-loop
@@ -139,7 +141,7 @@ search-looks-of-requires : (t : ℕ) → search-lts.Need-looks-of-requires (call
 search-looks-of-requires t c κs =
     let p = c .before .before in
     let C = come-start t (c .before) in
-    (entry t p .pre .1 .0 .laid, asking (turn t p) (c .before .next .result) (C .from-start) (c .if1 .left) (entry t p .pre .1 .1 .1 .1 .other))
+    (entry t p .pre .1 .0 .laid, trial (turn t p) (c .before .next .result) (C .from-start) (c .if1 .left) (entry t p .pre .1 .1 .1 .1 .other))
 
 -- ---- The looks
 
@@ -160,7 +162,7 @@ search-loop-holds t c =
     let o = c .before .before .before in
     let p = looked-span t o in
     let a = entry t p in
-    come-ahead (turn t p) (o .looks-of .result) (o .looks-of .ensures) (a .args .scope .now) (a .args .tuple .now) (seeks t a) (o .before .before .next .result) (c .step .result) (come-start t (o .before .before)) (c .step .ensures)
+    come-ahead (turn t p) (o .looks-of .result) (o .looks-of .ensures) (o .before .before .next .result) (c .step .result) (come-start t (o .before .before)) (c .step .ensures)
 
 -- ---- The tuple tried, at the loop's turn
 
@@ -184,7 +186,7 @@ search-fits-requires t c κs =
     let i = c .before .before in
     let p = spanned t (i .before) in
     let a = entry t p in
-    (a .pre .1 .0 .laid, trial (turn t p) (i .before .loop .g) (i .before .loop .inv .from-start) (i .loop-test .taken) (a .pre .1 .1 .1 .1 .other) (a .args .scope .now) (a .args .tuple .now) (seeks t a))
+    (a .pre .1 .0 .laid, trial (turn t p) (i .before .loop .g) (i .before .loop .inv .from-start) (i .loop-test .taken) (a .pre .1 .1 .1 .1 .other))
 
 abbrev Tried : ℕ → Type 0
 Tried t = search-lts.After-fits2 (callees t) (search-at t) search′.Post search-Inv-loop search-μ-loop
@@ -220,7 +222,7 @@ tried t c = c .before .before
 abbrev resumed : (t : ℕ) → Chosen t → Bool
 resumed t c =
     let a = entry t (spanned t (looping t (tried t c))) in
-    a .args .resumes && eqb (indexOf t (tried t c)) (getD (a .args .t12) (a .args .k) 0)
+    a .args .resumes && eqb (indexOf t (tried t c)) (getD (a .args .t10) (a .args .k) 0)
 
 abbrev more : (t : ℕ) → Chosen t → List ℕ
 more t c = let a = entry t (spanned t (looping t (tried t c))) in set (a .args .chosen) (a .args .k) (indexOf t (tried t c))
@@ -233,8 +235,8 @@ stage t c =
     let l = looping t u in
     let p = spanned t l in
     let a = entry t p in
-    staged (searchOf t a) (a .pre .1 .0) (resumed t c) (a .args .k + 1) (more t c) (length-set (a .args .chosen) (a .args .k) (indexOf t u) ∙ chosen-length t a) (low-length t a) (a .args .scope .now) (a .args .tuple .now) (seeks t a)
-    (come-more (turn t p) (l .loop .g) (l .loop .inv .from-start) (u .before .before .before .loop-test .taken) (a .args .scope .now) (a .args .tuple .now) (seeks t a) (sym (u .before .before .is-live .ensures) ∙ u .before .if2 .taken) (sym (u .fits2 .ensures) ∙ c .before .if3 .taken))
+    staged (searchOf t a) (a .pre .1 .0) (resumed t c) (a .args .k + 1) (more t c) (length-set (a .args .chosen) (a .args .k) (indexOf t u) ∙ chosen-length t a) (low-length t a) (lives t a)
+    (come-more (turn t p) (l .loop .g) (l .loop .inv .from-start) (u .before .before .before .loop-test .taken) (sym (u .before .before .is-live .ensures) ∙ u .before .if2 .taken) (sym (u .fits2 .ensures) ∙ c .before .if3 .taken))
     (c .past-own .result) (c .past-own .ensures)
 
 -- what there is to find then is what there is to find onward
@@ -247,7 +249,7 @@ stage-onward t c =
     let l = looping t u in
     let p = spanned t l in
     let a = entry t p in
-    stage t c .same ∙ onward-more (turn t p) (l .loop .g) (l .loop .inv .from-start) (u .before .before .before .loop-test .taken) (a .args .scope .now) (a .args .tuple .now) (seeks t a)
+    stage t c .same ∙ onward-more (turn t p) (l .loop .g) (l .loop .inv .from-start) (u .before .before .before .loop-test .taken)
 
 search-returns-2 : (t : ℕ) → search-lts.Need-returns-2 (callees t) (search-at t) search′.Post search-Inv-loop search-μ-loop
 search-returns-2 t c =
@@ -277,7 +279,7 @@ begun-on t c =
     let b = c .before .before .before in
     let u = tried t b in
     let a = entry t (spanned t (looping t u)) in
-    let e = flag (a .args .resumes) (eqb (indexOf t u) (getD (a .args .t12) (a .args .k) 0)) (c .if5 .search) (⊎-elim (λ w. _⊎_.inl (w .0 .taken, w .1)) (λ w. _⊎_.inr (w .0 .left, w .1)) (c .if5 .came)) in
+    let e = flag (a .args .resumes) (eqb (indexOf t u) (getD (a .args .t10) (a .args .k) 0)) (c .if5 .search) (⊎-elim (λ w. _⊎_.inl (w .0 .taken, w .1)) (λ w. _⊎_.inr (w .0 .left, w .1)) (c .if5 .came)) in
     subst (λ (on : Bool). Begun (searchOf t a) (b .past-own .result .k) on (b .past-own .result .chosen)) e (stage t b .begun)
 
 search-search-requires : (t : ℕ) → search-lts.Need-search-requires (callees t) (search-at t) search′.Post search-Inv-loop search-μ-loop
@@ -287,7 +289,7 @@ search-search-requires t c κs =
     let a = entry t p in
     let S = stage t b in (
       omega (arith, a .pre .0, turn t p .inside, S .forth),
-      (a .pre .1 .0, (begun-on t c, (seeks t a, record { inside = omega (arith, S .begun .depth, c .before .if4 .left); other = S .other }))),
+      (a .pre .1 .0, (begun-on t c, (lives t a, record { inside = omega (arith, S .begun .depth, c .before .if4 .left); other = S .other }))),
     )
 
 -- what the deeper search answers is what there is to find onward
@@ -322,7 +324,7 @@ nowhere t c =
     deeper t (record { before = record { before = record { before = record { before = record { before = record { before = record { before = record { before = c .before; if2 = w .0 }; fits2 = w .1 }; if3 = w .2 }; past-own = w .3 }; tuples = w .4 }; if4 = w .5 }; if5 = w .6 }; search = w .7 })
     ∙ ap (λ (b : Bool). answer b (take (length (a .args .members .now)) (w .7 .result .tuples))) (w .8 .left))
     (⊎-elim
-    (λ w. come-clash (turn t p) (l .loop .g) (l .loop .inv .from-start) (i .loop-test .taken) (a .args .scope .now) (a .args .tuple .now) (seeks t a) (sym (w .1 .ensures) ∙ w .2 .left))
+    (λ w. come-clash (turn t p) (l .loop .g) (l .loop .inv .from-start) (i .loop-test .taken) (sym (w .1 .ensures) ∙ w .2 .left))
     (λ w. come-dead (turn t p) (l .loop .g) (l .loop .inv .from-start) (i .loop-test .taken) (sym (c .before .is-live .ensures) ∙ w .left)))
     (c .if2 .came)
 
@@ -351,7 +353,7 @@ search-loop-again t c =
     let o = looks t l in
     let p = spanned t l in
     let a = entry t p in
-    come-ahead (turn t p) (o .looks-of .result) (o .looks-of .ensures) (a .args .scope .now) (a .args .tuple .now) (seeks t a) (l .loop .g + 1) (c .step2 .result)
+    come-ahead (turn t p) (o .looks-of .result) (o .looks-of .ensures) (l .loop .g + 1) (c .step2 .result)
     (come-next (turn t p) (l .loop .g) (l .loop .inv) (i .loop-test .taken) (nowhere t (c .before))) (c .step2 .ensures)
 
 search-returns-4 : (t : ℕ) → search-lts.Need-returns-4 (callees t) (search-at t) search′.Post search-Inv-loop search-μ-loop

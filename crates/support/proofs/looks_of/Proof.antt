@@ -9,7 +9,6 @@ use borrow.Author.Needs.{needs}
 use Rattle.model.specs.Network.{Network, size, firstId}
 use Rattle.model.specs.Agreement.{cellsOf, agree}
 use Rattle.network.specs.Layout.{tabled}
-use Rattle.scan.specs.declared.Looks.{Looks}
 use Rattle.scan.specs.Candidate.{nowhere, Both}
 use Rattle.support.specs.Search.{idAt, fits}
 use Rattle.support.proofs.Chosen.{fits-seeker, fits-chosen}
