@@ -4,6 +4,7 @@
 --   changes::filter, changes::withdraw, changes::choose    (plain lists)
 --   lent::filter, lent::withdraw, lent::choose             (the records as one lent slice)
 -- is `Keeps q a words supports` and nothing more, with q the request of its arguments at entry. It has no `requires`.
+-- The functions for C give the same replies, as one number and bytes (capi/specs/Call.antt).
 -- test and compare write nothing; their contracts are the equations `Tested` and `Compared`.
 -- The promises are the records of the model's specs/Promises.antt; `reply` is in its specs/Reply.antt.
 use mathlib.Core.Path.{_≡_, refl, sym, _∙_, ap, subst}
