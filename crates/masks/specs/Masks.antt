@@ -1,0 +1,43 @@
+-- The table of marks: for each column and bucket of values, the tuples that have such a value in the column.
+use mathlib.Core.Path.{_≡_}
+use mathlib.Core.Bool.{Bool, true, _||_}
+use mathlib.Core.List.{List}
+use Prim.Native.Nat.{ℕ, _+_, _-_, _*_, _%_, _≤_, _<_}
+use lib.Dec.{ltb, leb}
+use lib.ListN.{getD}
+use Rattle.model.specs.Limits.{maxTuples}
+use Rattle.model.specs.Network.{Network, width, size, firstId, valuesAt}
+use Rattle.model.specs.LiveWords.{isLive}
+
+-- the bucket of a value, one of 16
+abbrev pub bucketOf : ℕ → ℕ
+bucketOf v = v % 16
+
+-- where the mark of column c, bucket b and id g stands among the table's bits: 64 words for each column and bucket
+abbrev pub markPlace : ℕ → ℕ → ℕ → ℕ
+markPlace c b g = (c * 16 + b) * maxTuples + g
+
+-- the tuple with id g is marked under column c and bucket b
+unfoldable pub marked : List ℕ → ℕ → ℕ → ℕ → Bool
+marked table c b g = isLive table (markPlace c b g)
+
+-- every tuple is marked under each of its columns and the bucket of its value there
+pub record Marks (N : Network) (table : List ℕ) : Type 0 where
+  pub at : (r x c : ℕ) → x < size N r → c < width N r → marked table c (bucketOf (getD (valuesAt N r x) c 0)) (firstId N r + x) ≡ true
+
+-- no mark is lost
+abbrev pub Grows : List ℕ → List ℕ → Type 0
+Grows before after = (p : ℕ) → isLive before p ≡ true → isLive after p ≡ true
+
+-- the tuple with id g, whose values begin at `at`, is marked under each of its columns
+abbrev pub MarksTuple : List ℕ → ℕ → ℕ → ℕ → List ℕ → Type 0
+MarksTuple values at columns g table = (c : ℕ) → c < columns → marked table c (bucketOf (getD values (at + c) 0)) g ≡ true
+
+-- .. and so are the tuples from id start on and below id end, which stand one after the other
+abbrev pub MarksTuples : List ℕ → ℕ → ℕ → ℕ → ℕ → List ℕ → Type 0
+MarksTuples values at columns start end table =
+    (g : ℕ) → start ≤ g → g < end → MarksTuple values (at + (g - start) * columns) columns g table
+
+-- id g stays when the ids from start on and below end are narrowed to those marked under the column and the value's bucket
+abbrev pub stays : List ℕ → ℕ → ℕ → ℕ → ℕ → ℕ → Bool
+stays table start end column value g = ltb g start || (leb end g || marked table column (bucketOf value) g)
