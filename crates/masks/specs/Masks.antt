@@ -2,11 +2,13 @@
 use mathlib.Core.Path.{_≡_}
 use mathlib.Core.Bool.{Bool, true, _||_}
 use mathlib.Core.List.{List}
+use mathlib.Core.Logic.{_⊎_}
 use Prim.Native.Nat.{ℕ, _+_, _-_, _*_, _%_, _≤_, _<_}
 use lib.Dec.{ltb, leb}
-use lib.ListN.{getD}
+use lib.ListN.{length, getD}
 use Rattle.model.specs.Limits.{maxTuples}
 use Rattle.model.specs.Network.{Network, width, size, firstId, valuesAt}
+use Rattle.model.specs.Agreement.{agree}
 use Rattle.model.specs.LiveWords.{isLive}
 
 -- the bucket of a value, one of 16
@@ -41,3 +43,17 @@ MarksTuples values at columns start end table =
 -- id g stays when the ids from start on and below end are narrowed to those marked under the column and the value's bucket
 abbrev pub stays : List ℕ → ℕ → ℕ → ℕ → ℕ → ℕ → Bool
 stays table start end column value g = ltb g start || (leb end g || marked table column (bucketOf value) g)
+
+-- ---- Narrowing
+
+-- No id is raised, the ids outside stay, and so does an id that is marked under each of its columns by accepted values.
+pub record Narrows (accepts : List ℕ → Bool) (columns : ℕ) (table : List ℕ) (start end : ℕ) (before after : List ℕ) : Type 0 where
+  pub inside : (g : ℕ) → isLive after g ≡ true → isLive before g ≡ true
+  pub outside : (g : ℕ) → (g < start) ⊎ (end ≤ g) → isLive after g ≡ isLive before g
+  pub keeps : (g : ℕ) (b : List ℕ) → columns ≡ length b → ((c : ℕ) → c < columns → marked table c (bucketOf (getD b c 0)) g ≡ true) → accepts b ≡ true → isLive before g ≡ true → isLive after g ≡ true
+
+-- No id is raised, the ids outside relation s stay, and so does a tuple of it that agrees with tuple x of relation r.
+pub record Agreeing (N : Network) (r x s : ℕ) (before after : List ℕ) : Type 0 where
+  pub inside : (g : ℕ) → isLive after g ≡ true → isLive before g ≡ true
+  pub outside : (g : ℕ) → (g < firstId N s) ⊎ (firstId N s + size N s ≤ g) → isLive after g ≡ isLive before g
+  pub keeps : (z : ℕ) → z < size N s → agree N (firstId N r + x) (firstId N s + z) ≡ true → isLive before (firstId N s + z) ≡ true → isLive after (firstId N s + z) ≡ true

@@ -29,7 +29,7 @@ pub struct Looks {
 }
 
 // A place where x stands in a scope; the scope's length if nowhere.
-fn column_of(scope: &[u16], x: u16) -> usize
+pub fn column_of(scope: &[u16], x: u16) -> usize
     ensures { λ i. ⌜ (i < length (now (scope .entry)) → getD (now (scope .entry)) i 0 ≡ x) ⌝ }
 {
     let mut i = 0;

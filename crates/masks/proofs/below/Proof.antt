@@ -1,6 +1,6 @@
 -- `below` answers the word of the ids below a bound: none of a word's ids, all of them, or the lowest ones.
 -- From the laws of such words.
-use Prim.Native.Nat.{_-_, _^_}
+use Prim.Native.Nat.{_-_}
 use native.Mathlib.Omega.{arith}
 use lib.Pow.{pow-pos, pow-lt}
 use borrow.Author.Needs.{needs}

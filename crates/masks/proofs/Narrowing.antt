@@ -1,0 +1,64 @@
+-- Laws of narrowing: by no column, by one, and one after the other; and relation s narrowed for a tuple of relation r.
+-- From what `keep` ensures and what a shared variable tells of tuples that agree.
+use mathlib.Core.Path.{_≡_, refl, sym, _∙_, ap, subst}
+use mathlib.Core.Bool.{Bool, true, _&&_, _||_, and-true, or-true}
+use mathlib.Core.List.{List}
+use mathlib.Core.Logic.{_⊎_, ⊎-elim}
+use Prim.Native.Nat.{ℕ, _+_, _≤_, _<_}
+use native.Mathlib.Omega.{arith}
+use lib.Dec.{ltb, leb}
+use lib.ListN.{length, getD}
+use borrow.Author.Tests.{lt-ltb, le-leb}
+use Rattle.model.specs.Network.{Network, width, size, firstId, scopeOf, valuesAt}
+use Rattle.model.specs.Agreement.{Cell, cells, cellsOf, agreeing, agree}
+use Rattle.model.specs.LiveWords.{isLive}
+use Rattle.model.proofs.Bools.{and-left, and-intro, or-right}
+use Rattle.model.proofs.Agreement.{cellsOf-at}
+use Rattle.network.specs.Layout.{Laid}
+use Rattle.scan.proofs.Parts.{scope-length, values-length}
+use Rattle.masks.specs.Masks.{bucketOf, marked, Marks, stays, Narrows, Agreeing}
+
+module _ (accepts : List ℕ → Bool) (columns : ℕ) (table : List ℕ) (start end : ℕ) where
+  pub narrows-none : (ws : List ℕ) → Narrows accepts columns table start end ws ws
+  narrows-none ws = record { inside = λ g e. e; outside = λ g o. refl; keeps = λ g b l m a e. e }
+
+  pub narrows-on : (a b c : List ℕ) → Narrows accepts columns table start end a b → Narrows accepts columns table start end b c → Narrows accepts columns table start end a c
+  narrows-on a b c f g =
+      record {
+        inside = λ h e. f .inside h (g .inside h e);
+        outside = λ h o. g .outside h o ∙ f .outside h o;
+        keeps = λ h v l m p e. g .keeps h v l m p (f .keeps h v l m p e);
+      }
+
+  -- a column in which accepted values have value v
+  pub narrows-keep : (column v : ℕ) (before after : List ℕ) → column < columns → ((b : List ℕ) → columns ≡ length b → accepts b ≡ true → getD b column 0 ≡ v) → ((g : ℕ) → isLive after g ≡ (isLive before g && stays table start end column v g)) → Narrows accepts columns table start end before after
+  narrows-keep column v before after h told kept =
+      record {
+        inside = λ g e. and-left (isLive before g) (stays table start end column v g) (sym (kept g) ∙ e);
+        outside = λ g o. kept g ∙ ap (λ (x : Bool). isLive before g && x) (⊎-elim (low g) (high g) o) ∙ and-true (isLive before g);
+        keeps = λ g b l m a e. kept g ∙ and-intro e (or-right (ltb g start) (or-right (leb end g) (subst (λ (x : ℕ). marked table column (bucketOf x) g ≡ true) (told b l a) (m column h))));
+      }
+    where
+      low : (g : ℕ) → g < start → stays table start end column v g ≡ true
+      low g l = ap (λ (x : Bool). x || (leb end g || marked table column (bucketOf v) g)) (lt-ltb g start l)
+
+      high : (g : ℕ) → end ≤ g → stays table start end column v g ≡ true
+      high g l = ap (λ (x : Bool). ltb g start || (x || marked table column (bucketOf v) g)) (le-leb end g l) ∙ or-true (ltb g start)
+
+-- relation s, by its scope and the values of its tuples
+pub narrows-agreeing : (N : Network) (vs ws : List ℕ) → Laid N vs ws → (table : List ℕ) → Marks N table → (r x s start end : ℕ) → start ≡ firstId N s → end ≡ firstId N s + size N s → (xs : List Cell) → xs ≡ cellsOf N (firstId N r + x) → (scope : List ℕ) → scope ≡ scopeOf N s → (before after : List ℕ) → Narrows (λ (b : List ℕ). agreeing xs (cells scope b)) (length scope) table start end before after → Agreeing N r x s before after
+unfolding agree
+narrows-agreeing N vs ws laid table marks r x s start end es ee xs ex scope ep before after n =
+    record {
+      inside = n .inside;
+      outside = λ g o. n .outside g (subst (λ (k : ℕ). (g < k) ⊎ (end ≤ g)) (sym es) (subst (λ (k : ℕ). (g < firstId N s) ⊎ (k ≤ g)) (sym ee) o));
+      keeps = λ z h a e.
+          let l : length scope ≡ width N s = ap (λ (p : List ℕ). length p) ep ∙ scope-length N vs ws laid s z h in
+          n .keeps (firstId N s + z) (valuesAt N s z) (l ∙ sym (values-length N vs ws laid s z h))
+          (λ c k. marks .at s z c h (omega arith))
+          (ap (λ (p : List ℕ). agreeing xs (cells p (valuesAt N s z))) ep
+          ∙ ap (agreeing xs) (sym (cellsOf-at N s z h))
+          ∙ ap (λ (ys : List Cell). agreeing ys (cellsOf N (firstId N s + z))) ex
+          ∙ a)
+          e;
+    }
