@@ -5,6 +5,7 @@ use mathlib.Core.Bool.{Bool, true, _&&_, _||_, and-true, or-true}
 use mathlib.Core.List.{List}
 use mathlib.Core.Logic.{_⊎_, ⊎-elim}
 use Prim.Native.Nat.{ℕ, _+_, _≤_, _<_}
+use native.Mathlib.Nat.{le-refl, le-trans}
 use native.Mathlib.Omega.{arith}
 use lib.Dec.{ltb, leb}
 use lib.ListN.{length, getD}
@@ -16,24 +17,26 @@ use Rattle.model.proofs.Bools.{and-left, and-intro, or-right}
 use Rattle.model.proofs.Agreement.{cellsOf-at}
 use Rattle.network.specs.Layout.{Laid}
 use Rattle.scan.proofs.Parts.{scope-length, values-length}
-use Rattle.masks.specs.Masks.{bucketOf, marked, Marks, stays, Narrows, Agreeing}
+use Rattle.masks.specs.Masks.{bucketOf, marked, Marks, stays, Lower, Narrows, Agreeing}
 
 module _ (accepts : List ℕ → Bool) (columns : ℕ) (table : List ℕ) (start end : ℕ) where
   pub narrows-none : (ws : List ℕ) → Narrows accepts columns table start end ws ws
-  narrows-none ws = record { inside = λ g e. e; outside = λ g o. refl; keeps = λ g b l m a e. e }
+  narrows-none ws = record { lower = λ i. le-refl (getD ws i 0); inside = λ g e. e; outside = λ g o. refl; keeps = λ g b l m a e. e }
 
   pub narrows-on : (a b c : List ℕ) → Narrows accepts columns table start end a b → Narrows accepts columns table start end b c → Narrows accepts columns table start end a c
   narrows-on a b c f g =
       record {
+        lower = λ i. le-trans (g .lower i) (f .lower i);
         inside = λ h e. f .inside h (g .inside h e);
         outside = λ h o. g .outside h o ∙ f .outside h o;
         keeps = λ h v l m p e. g .keeps h v l m p (f .keeps h v l m p e);
       }
 
   -- a column in which accepted values have value v
-  pub narrows-keep : (column v : ℕ) (before after : List ℕ) → column < columns → ((b : List ℕ) → columns ≡ length b → accepts b ≡ true → getD b column 0 ≡ v) → ((g : ℕ) → isLive after g ≡ (isLive before g && stays table start end column v g)) → Narrows accepts columns table start end before after
-  narrows-keep column v before after h told kept =
+  pub narrows-keep : (column v : ℕ) (before after : List ℕ) → Lower before after → column < columns → ((b : List ℕ) → columns ≡ length b → accepts b ≡ true → getD b column 0 ≡ v) → ((g : ℕ) → isLive after g ≡ (isLive before g && stays table start end column v g)) → Narrows accepts columns table start end before after
+  narrows-keep column v before after lower h told kept =
       record {
+        lower = lower;
         inside = λ g e. and-left (isLive before g) (stays table start end column v g) (sym (kept g) ∙ e);
         outside = λ g o. kept g ∙ ap (λ (x : Bool). isLive before g && x) (⊎-elim (low g) (high g) o) ∙ and-true (isLive before g);
         keeps = λ g b l m a e. kept g ∙ and-intro e (or-right (ltb g start) (or-right (leb end g) (subst (λ (x : ℕ). marked table column (bucketOf x) g ≡ true) (told b l a) (m column h))));
@@ -50,6 +53,7 @@ pub narrows-agreeing : (N : Network) (vs ws : List ℕ) → Laid N vs ws → (ta
 unfolding agree
 narrows-agreeing N vs ws laid table marks r x s start end es ee xs ex scope ep before after n =
     record {
+      lower = n .lower;
       inside = n .inside;
       outside = λ g o. n .outside g (subst (λ (k : ℕ). (g < k) ⊎ (end ≤ g)) (sym es) (subst (λ (k : ℕ). (g < firstId N s) ⊎ (k ≤ g)) (sym ee) o));
       keeps = λ z h a e.

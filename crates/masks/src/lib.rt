@@ -10,7 +10,7 @@ ghost use Rattle.model.specs.Network.{tuplesIn, size};
 ghost use Rattle.model.specs.Agreement.{cells, agreeing};
 ghost use Rattle.model.specs.LiveWords.{isSet, isLive};
 ghost use Rattle.network.specs.Layout.{tabled, Laid, starts};
-ghost use Rattle.masks.specs.Masks.{stays, Marks, Grows, MarksTuple, MarksTuples, Narrows, Agreeing};
+ghost use Rattle.masks.specs.Masks.{stays, Marks, Grows, MarksTuple, MarksTuples, Lower, Narrows, Agreeing};
 use model::MAX_RELATIONS;
 use network::agreement::place_of;
 use network::wide;
@@ -41,7 +41,7 @@ pub fn keep(
     value: u16,
 )
     requires { ⌜ (length (now words) ≡ 64) × ((end ≤ maxTuples) × (column < maxWidth)) ⌝ }
-    ensures { λ _. ⌜ (length (now (words .exit)) ≡ 64) × ((g : ℕ) → isLive (now (words .exit)) g ≡ (isLive (now (words .entry)) g && stays (now (table .entry)) start end column value g)) ⌝ }
+    ensures { λ _. ⌜ (length (now (words .exit)) ≡ 64) × (Lower (now (words .entry)) (now (words .exit)) × ((g : ℕ) → isLive (now (words .exit)) g ≡ (isLive (now (words .entry)) g && stays (now (table .entry)) start end column value g))) ⌝ }
 {
     let begin = wide(start);
     let stop = wide(end);

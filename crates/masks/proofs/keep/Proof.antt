@@ -2,11 +2,13 @@
 -- From the laws of one word narrowed.
 use mathlib.Core.Path.{_≡_, ap, ap₂, _∙_}
 use Prim.Native.Nat.{ℕ, _+_, _-_, _*_, _%_, _≤_, _<_}
+use native.Mathlib.Nat.{le-refl}
 use native.Mathlib.Omega.{arith}
 use lib.Dec.{ltb}
 use lib.ListN.{length, getD, length-set}
 use borrow.Author.Needs.{needs}
-use Rattle.masks.proofs.Words.{Narrowed, narrowed-none, narrowed-more, narrowed-all}
+use Rattle.masks.specs.Masks.{Lower}
+use Rattle.masks.proofs.Words.{lower-more, Narrowed, narrowed-none, narrowed-more, narrowed-all}
 use Rattle.masks.proofs.keep.Statement.{statement}
 use Rattle.masks.proofs.keep.Tie as tie
 
@@ -15,7 +17,7 @@ Inv-loop table words₀ start end column value begin stop first i₀ words i =
     (i ≤ 1024)
     × ((begin ≡ start)
     × ((stop ≡ end)
-    × ((first ≡ (column * 16 + value % 16) * 64) × ((length words ≡ 64) × Narrowed i table start end column value words₀ words))))
+    × ((first ≡ (column * 16 + value % 16) * 64) × ((length words ≡ 64) × (Lower words₀ words × Narrowed i table start end column value words₀ words)))))
 
 abbrev μ-loop : tie.MeasureT-loop
 μ-loop table words₀ start end column value begin stop first i₀ words i = 64 - i
@@ -55,7 +57,7 @@ loop-holds c =
             ap₂ (λ (n v : ℕ). (n * 16 + v % 16) * 64) (c .before .wide3 .ensures .0) (c .wide4 .ensures .0),
             (
               start .pre .0,
-              rw e (narrowed-none (a .table .now) (a .start) (a .end) (a .column) (a .value) (a .words .now)),
+              (λ i. le-refl (getD (a .words .now) i 0), rw e (narrowed-none (a .table .now) (a .start) (a .end) (a .column) (a .value) (a .words .now))),
             ),
           ),
         ),
@@ -120,12 +122,15 @@ loop-again c =
             inv .1 .1 .1 .0,
             (
               length-set (l .words) (l .i) _ ∙ inv .1 .1 .1 .1 .0,
-              narrowed-more (a .table .now) (a .start) (a .end) (a .column) (a .value) (a .words .now) (l .i) (l .words) (omega arith) (c .before .before .before .below .result) (c .before .before .below2 .result) _
-                  (λ j h. c .before .before .before .below .ensures .1 j h ∙ ap (ltb (l .i * 64 + j)) (inv .1 .0))
-                  (c .before .before .below2 .ensures .0)
-                  (λ j h. c .before .before .below2 .ensures .1 j h ∙ ap (ltb (l .i * 64 + j)) (inv .1 .1 .0))
-                  (ap (λ (n : ℕ). getD (a .table .now) (n + l .i) 0) (inv .1 .1 .1 .0))
-                  (inv .1 .1 .1 .1 .1),
+              (
+                lower-more (a .words .now) (l .words) (l .i) _ (omega arith) (inv .1 .1 .1 .1 .1 .0),
+                narrowed-more (a .table .now) (a .start) (a .end) (a .column) (a .value) (a .words .now) (l .i) (l .words) (omega arith) (c .before .before .before .below .result) (c .before .before .below2 .result) _
+                    (λ j h. c .before .before .before .below .ensures .1 j h ∙ ap (ltb (l .i * 64 + j)) (inv .1 .0))
+                    (c .before .before .below2 .ensures .0)
+                    (λ j h. c .before .before .below2 .ensures .1 j h ∙ ap (ltb (l .i * 64 + j)) (inv .1 .1 .0))
+                    (ap (λ (n : ℕ). getD (a .table .now) (n + l .i) 0) (inv .1 .1 .1 .0))
+                    (inv .1 .1 .1 .1 .1 .1),
+              ),
             ),
           ),
         ),
@@ -136,7 +141,7 @@ returns : tie.Need-returns Inv-loop μ-loop
 returns c =
     let a = c .before .before .before .before .before .before .args in
     let l = c .before .loop in
-    (l .inv .1 .1 .1 .1 .0, narrowed-all (a .table .now) (a .start) (a .end) (a .column) (a .value) (a .words .now) (l .i) (l .words) (omega arith) (l .inv .1 .1 .1 .1 .1))
+    (l .inv .1 .1 .1 .1 .0, (l .inv .1 .1 .1 .1 .1 .0, narrowed-all (a .table .now) (a .start) (a .end) (a .column) (a .value) (a .words .now) (l .i) (l .words) (omega arith) (l .inv .1 .1 .1 .1 .1 .1)))
 
 pub keep-spec : {M : Type 1} → statement M
 keep-spec =
