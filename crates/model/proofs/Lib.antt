@@ -10,6 +10,7 @@ pub mod Combination
 pub mod LiveWords
 pub mod Support
 pub mod Search
+pub mod Narrowing
 pub mod Consistency
 pub mod SupportList
 pub mod Work

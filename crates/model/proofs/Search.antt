@@ -20,7 +20,7 @@ use Rattle.model.specs.Combination.{Combination}
 use Rattle.model.specs.LiveWords.{living, nextLive}
 use Rattle.model.specs.Support.{candidates, isSupport, supports, firstSupport, firstAmong, supportFrom, completion}
 use Rattle.model.proofs.Bools.{not-both, and-intro, iff-eq}
-use Rattle.model.proofs.Lists.{here, all-at, all-intro, all-map, pairwise-at, pairwise-cross, Picks, choices-picks, picks-append, select-append, select-all, select-mem, mem-select, select-none, head-append, head-mem, head-none, firstOr-head, from-append, from-mem, earlier-append, earlier-within, earlier-least, later-earlier, any-at, any-intro}
+use Rattle.model.proofs.Lists.{here, all-at, all-intro, all-map, pairwise-at, pairwise-cross, Picks, choices-picks, picks-at, picks-append, select-append, select-all, select-mem, mem-select, select-none, head-append, head-mem, head-none, firstOr-head, from-append, from-mem, earlier-append, earlier-within, earlier-least, later-earlier, any-at, any-intro}
 use Rattle.model.proofs.Agreement.{agree-sym}
 use Rattle.model.proofs.LiveWords.{living-has, nextLive-first}
 use Rattle.model.proofs.Support.{isSupport-self, isSupport-live, isSupport-agree, isSupport-mono, picks-same, candidates-length, candidates-own, Supported, firstSupport-least}
@@ -93,6 +93,14 @@ module _ (N : Network) (S : TupleSet) (g : ℕ) (low : List ℕ) where
   pub completion-dead : (ch : List ℕ) (xss : List (List ℕ)) {x : ℕ} → List·Memᴰ x ch → has S x ≡ false → completion N S g low ch xss ≡ none
   completion-dead ch xss m e =
       completion-hopeless ch xss (λ t p s l. not-both (all-at (has S) (ch ++ t) (isSupport-live N S g (ch ++ t) s) (Memᴰ·append-left t m)) e)
+
+  -- a member still to be chosen from has no live tuple
+  pub completion-bare : (ch : List ℕ) (xss : List (List ℕ)) (j : ℕ) → j < length xss → ((x : ℕ) → List·Memᴰ x (getD xss j []) → has S x ≡ false) → completion N S g low ch xss ≡ none
+  completion-bare ch xss j h f =
+      completion-hopeless ch xss
+      (λ t p s l.
+      let k = picks-at p j 0 h in
+      not-both (all-at (has S) (ch ++ t) (isSupport-live N S g (ch ++ t) s) (Memᴰ·append-right ch (k .0))) (f (getD t j 0) (k .1)))
 
   -- what is chosen is earlier than low
   pub completion-early : (ch : List ℕ) (xss : List (List ℕ)) → earlier (map (indexOf N) ch) low ≡ true → completion N S g low ch xss ≡ none
