@@ -1,5 +1,5 @@
 -- Laws of narrowing: by no column, by one, and one after the other; and relation s narrowed for a tuple of relation r.
--- From what `keep` ensures and what a shared variable tells of tuples that agree.
+-- From what `keep` ensures, and the laws of agreement by places.
 use mathlib.Core.Path.{_≡_, refl, sym, _∙_, ap, subst}
 use mathlib.Core.Bool.{Bool, true, _&&_, _||_, and-true, or-true}
 use mathlib.Core.List.{List}
@@ -7,17 +7,18 @@ use mathlib.Core.Logic.{_⊎_, ⊎-elim}
 use Prim.Native.Nat.{ℕ, _+_, _≤_, _<_}
 use native.Mathlib.Nat.{le-refl, le-trans}
 use native.Mathlib.Omega.{arith}
+use native.Mathlib.Decide.{ℕ-discrete}
 use lib.Dec.{ltb, leb}
 use lib.ListN.{length, getD}
 use borrow.Author.Tests.{lt-ltb, le-leb}
 use Rattle.model.specs.Network.{Network, width, size, firstId, scopeOf, valuesAt}
 use Rattle.model.specs.Agreement.{Cell, cells, cellsOf, agreeing, agree}
 use Rattle.model.specs.LiveWords.{isLive}
-use Rattle.model.proofs.Bools.{and-left, and-intro, or-right}
-use Rattle.model.proofs.Agreement.{cellsOf-at}
+use Rattle.model.proofs.Bools.{and-left, and-intro, or-right, not-both}
+use Rattle.model.proofs.Agreement.{cellAt, cellsOf-at, agreeing-clash, clash-different-value}
 use Rattle.network.specs.Layout.{Laid}
-use Rattle.scan.proofs.Parts.{scope-length, values-length}
 use Rattle.masks.specs.Masks.{bucketOf, marked, Marks, stays, Lower, Narrows, Agreeing}
+use Rattle.masks.proofs.Tables.{scope-length, values-length}
 
 module _ (accepts : List ℕ → Bool) (columns : ℕ) (table : List ℕ) (start end : ℕ) where
   pub narrows-none : (ws : List ℕ) → Narrows accepts columns table start end ws ws
@@ -47,6 +48,15 @@ module _ (accepts : List ℕ → Bool) (columns : ℕ) (table : List ℕ) (start
 
       high : (g : ℕ) → end ≤ g → stays table start end column v g ≡ true
       high g l = ap (λ (x : Bool). ltb g start || (x || marked table column (bucketOf v) g)) (le-leb end g l) ∙ or-true (ltb g start)
+
+-- tuples that agree have the same value under a variable that stands at place i of the one scope and at place j of the other
+module _ (scopeA a scopeB : List ℕ) (i j : ℕ) (widths : length scopeA ≡ length a) (hi : i < length scopeA) (hj : j < length scopeB) (same : getD scopeA i 0 ≡ getD scopeB j 0) where
+  pub same-value : (b : List ℕ) → length scopeB ≡ length b → agreeing (cells scopeA a) (cells scopeB b) ≡ true → getD b j 0 ≡ getD a i 0
+  same-value b l e = go (ℕ-discrete (getD a i 0) (getD b j 0))
+    where
+      go : Dec (getD a i 0 ≡ getD b j 0) → getD b j 0 ≡ getD a i 0
+      go (yes q) = sym q
+      go (no d) = absurd (not-both e (agreeing-clash scopeA a scopeB b i j widths l hi hj (clash-different-value (cellAt scopeA a i) (cellAt scopeB b j) same d)))
 
 -- relation s, by its scope and the values of its tuples
 pub narrows-agreeing : (N : Network) (vs ws : List ℕ) → Laid N vs ws → (table : List ℕ) → Marks N table → (r x s start end : ℕ) → start ≡ firstId N s → end ≡ firstId N s + size N s → (xs : List Cell) → xs ≡ cellsOf N (firstId N r + x) → (scope : List ℕ) → scope ≡ scopeOf N s → (before after : List ℕ) → Narrows (λ (b : List ℕ). agreeing xs (cells scope b)) (length scope) table start end before after → Agreeing N r x s before after

@@ -14,7 +14,6 @@ ghost use Rattle.masks.specs.Masks.{stays, Marks, Grows, MarksTuple, Mar
 use model::MAX_RELATIONS;
 use network::agreement::place_of;
 use network::wide;
-use scan::column_of;
 
 // The word whose bit j is 1 where base + j is below the bound.
 fn below(base: usize, bound: usize) -> u64
@@ -123,6 +122,20 @@ pub fn mark_all(
         );
         r += 1;
     }
+}
+
+// A place where x stands in a scope; the scope's length if nowhere.
+fn column_of(scope: &[u16], x: u16) -> usize
+    ensures { λ i. ⌜ (i < length (now (scope .entry)) → getD (now (scope .entry)) i 0 ≡ x) ⌝ }
+{
+    let mut i = 0;
+    while i < scope.len() {
+        if scope[i] == x {
+            return i;
+        }
+        i += 1;
+    }
+    i
 }
 
 // The ids from start on and below end narrowed by the column whose variable is v, where scope a has it: to a's value there.
