@@ -1,9 +1,10 @@
 -- Laws of a table that is filled: the marks of the columns, tuples and relations passed, and one more of each.
--- From the laws of the table's bits, and of a relation's part of the value list.
+-- From the laws of the table's bits, of products, and of a relation's part of the value list.
 use mathlib.Core.Path.{_≡_, sym, _∙_, ap, ap₂, subst}
 use mathlib.Core.Bool.{true, _||_}
 use mathlib.Core.List.{List}
-use Prim.Native.Nat.{ℕ, _+_, _-_, _*_, _≤_, _<_}
+use Prim.Native.Nat.{ℕ, suc, _+_, _-_, _*_, _≤_, _<_}
+use native.Mathlib.Nat.{mul-le-mul-left, mul-comm, mul-suc}
 use native.Mathlib.Omega.{arith}
 use native.Mathlib.Decide.{decLt}
 use borrow.Author.Count.{below-more}
@@ -15,8 +16,8 @@ use Rattle.model.specs.LiveWords.{isLive}
 use Rattle.model.proofs.Bools.{or-left, or-right}
 use Rattle.network.specs.Layout.{Laid, tabled}
 use Rattle.network.proofs.Places.{below-limit}
-use Rattle.scan.proofs.Parts.{value-at}
 use Rattle.masks.specs.Masks.{bucketOf, markPlace, marked, Marks, Grows, MarksTuple, MarksTuples}
+use Rattle.masks.proofs.Tables.{value-at}
 
 -- ---- No mark is lost
 
@@ -40,6 +41,16 @@ tuple-more values at n g before after p e f m =
     (let q = markPlace n (bucketOf (getD values (at + n) 0)) g in f q ∙ or-right (isLive before q) (eq-eqb p q e))
 
 -- ---- One tuple more
+
+-- tuples of w values each stand one after the other
+pub row-next : (i w : ℕ) → suc i * w ≡ i * w + w
+row-next i w = mul-comm (suc i) w ∙ mul-suc w i ∙ ap (λ (x : ℕ). x + w) (mul-comm w i)
+
+-- tuple i of n ends within them
+pub row-within : (i n w : ℕ) → i < n → i * w + w ≤ n * w
+row-within i n w h =
+    let l : w * suc i ≤ w * n = mul-le-mul-left w h in
+    omega (arith, l, mul-suc w i, mul-comm w i, mul-comm w n)
 
 pub tuples-more : (values : List ℕ) (at columns start n p : ℕ) (before after : List ℕ) → start ≤ n → p ≡ at + (n - start) * columns → Grows before after → MarksTuple values p columns n after → MarksTuples values at columns start n before → MarksTuples values at columns start (n + 1) after
 tuples-more values at columns start n p before after h e f one m g l k c b = go (decLt g n)

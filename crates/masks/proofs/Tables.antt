@@ -1,6 +1,7 @@
 -- Laws of a network's tables at every number below 64, a relation or not: what begins and ends there, and its bounds.
+-- Laws of a relation's parts of the lists: how long its scope and its tuples are, and where their values stand.
 -- From the definition of `Laid`, and what a network without network faults has.
-use mathlib.Core.Path.{_≡_, refl, _∙_, ap, ap₂}
+use mathlib.Core.Path.{_≡_, refl, sym, _∙_, ap, ap₂}
 use mathlib.Core.List.{List}
 use Prim.Native.Nat.{ℕ, suc, _+_, _-_, _*_, _≤_, _<_}
 use native.Mathlib.Nat.{mul-comm}
@@ -9,10 +10,11 @@ use native.Mathlib.Decide.{decLt}
 use native.Mathlib.Omega.{arith}
 use lib.Dec.{leb}
 use lib.ListN.{length, getD, take, drop, List·getD-eq-default}
+use lib.Seq.{getD-take, getD-drop}
 use borrow.Author.Tests.{leb-true}
 use Rattle.model.specs.declared.Relation.{Relation}
 use Rattle.model.specs.Limits.{maxWidth, maxTuples}
-use Rattle.model.specs.Network.{Network, noRelation, width, size, firstId, variablesIn, tuplesIn, valuesIn, before, scopeOf}
+use Rattle.model.specs.Network.{Network, noRelation, width, size, firstId, variablesIn, tuplesIn, valuesIn, before, scopeOf, valuesAt}
 use Rattle.model.specs.Fault.{within}
 use Rattle.model.proofs.Bools.{and-right}
 use Rattle.model.proofs.Lists.{all-getD}
@@ -21,7 +23,7 @@ use Rattle.model.proofs.Fault.{faultless}
 use Rattle.network.specs.declared.agreement.Place.{Place}
 use Rattle.network.specs.Layout.{Laid, starts, placeAt}
 use Rattle.network.proofs.Starts.{start-at}
-use Rattle.network.proofs.Places.{length-part}
+use Rattle.network.proofs.Places.{length-part, width-in, scope-part, place-within, tuple-fits}
 
 past : (Rs : List Relation) (r : ℕ) → length Rs ≤ r → getD Rs r noRelation ≡ noRelation
 past Rs r h = List·getD-eq-default Rs noRelation h
@@ -110,3 +112,26 @@ module _ (N : Network) (vs ts ws : List ℕ) (laid : Laid N vs ws) (tuples : ts 
     part-few =
         let n : q .«scope_end» - q .scope ≡ width N r = rw e width-at in
         omega (arith, length-part (q .scope) (q .«scope_end») (N .variables) part-rises part-within, n, columns-few)
+
+-- the scope and the tuples of a relation that has tuple x
+module _ (N : Network) (vs ws : List ℕ) (laid : Laid N vs ws) (r x : ℕ) (h : x < size N r) where
+  pub scope-length : length (scopeOf N r) ≡ width N r
+  scope-length =
+      let p = placeAt vs ws r x in
+      let i = place-within N vs ws laid r x h p refl in
+      ap (λ (l : List ℕ). length l) (sym (scope-part N vs ws laid r x h))
+      ∙ length-part (p .scope) (p .«scope_end») (N .variables) (i .scope) (i .variables)
+      ∙ width-in N vs ws laid r x h
+
+  pub values-length : length (valuesAt N r x) ≡ width N r
+  unfolding valuesAt
+  values-length =
+      let f = tuple-fits N vs ws laid r x h in
+      let at = before valuesIn (N .relations) r + x * width N r in
+      let w : at + width N r - at ≡ width N r = omega arith in
+      ap (λ (n : ℕ). length (take n (drop at (N .values)))) (sym w) ∙ length-part at (at + width N r) (N .values) (omega arith) f ∙ w
+
+  -- the value in column c of tuple x
+  pub value-at : (c : ℕ) → c < width N r → getD (valuesAt N r x) c 0 ≡ getD (N .values) (before valuesIn (N .relations) r + x * width N r + c) 0
+  unfolding valuesAt
+  value-at c l = rw (getD-take, getD-drop)

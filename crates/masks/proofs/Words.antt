@@ -101,15 +101,15 @@ lower-more ws₀ ws i x inside f k = go (ℕ-discrete k i)
 abbrev pub staysBefore : ℕ → List ℕ → ℕ → ℕ → ℕ → ℕ → ℕ → Bool
 staysBefore i table start end column value g = leb (64 * i) g || stays table start end column value g
 
-abbrev pub Narrowed : ℕ → List ℕ → ℕ → ℕ → ℕ → ℕ → List ℕ → List ℕ → Type 0
-Narrowed i table start end column value before after =
+abbrev pub NarrowedBefore : ℕ → List ℕ → ℕ → ℕ → ℕ → ℕ → List ℕ → List ℕ → Type 0
+NarrowedBefore i table start end column value before after =
     (g : ℕ) → isLive after g ≡ (isLive before g && staysBefore i table start end column value g)
 
 module _ (table : List ℕ) (start end column value : ℕ) (ws₀ : List ℕ) where
   absorb : (b x y : Bool) → x ≡ true → (b && (x || y)) ≡ b
   absorb b x y e = ap (λ (z : Bool). b && (z || y)) e ∙ and-true b
 
-  pub narrowed-none : Narrowed (start / 64) table start end column value ws₀ ws₀
+  pub narrowed-none : NarrowedBefore (start / 64) table start end column value ws₀ ws₀
   narrowed-none g = go (leb (64 * (start / 64)) g) refl
     where
       go : (x : Bool) → leb (64 * (start / 64)) g ≡ x → isLive ws₀ g ≡ (isLive ws₀ g && (x || stays table start end column value g))
@@ -118,7 +118,7 @@ module _ (table : List ℕ) (start end column value : ℕ) (ws₀ : List ℕ) wh
           let l = leb-false (64 * (start / 64)) g e in
           sym (absorb (isLive ws₀ g) (ltb g start) (leb end g || marked table column (bucketOf value) g) (lt-ltb g start (omega arith)))
 
-  pub narrowed-all : (i : ℕ) (ws : List ℕ) → end ≤ i * 64 → Narrowed i table start end column value ws₀ ws → (g : ℕ) → isLive ws g ≡ (isLive ws₀ g && stays table start end column value g)
+  pub narrowed-all : (i : ℕ) (ws : List ℕ) → end ≤ i * 64 → NarrowedBefore i table start end column value ws₀ ws → (g : ℕ) → isLive ws g ≡ (isLive ws₀ g && stays table start end column value g)
   narrowed-all i ws h inv g = inv g ∙ ap (λ (x : Bool). isLive ws₀ g && x) (go (leb (64 * i) g) refl)
     where
       go : (x : Bool) → leb (64 * i) g ≡ x → (x || stays table start end column value g) ≡ stays table start end column value g
@@ -127,7 +127,7 @@ module _ (table : List ℕ) (start end column value : ℕ) (ws₀ : List ℕ) wh
           sym (ap (λ (y : Bool). ltb g start || (y || marked table column (bucketOf value) g)) (le-leb end g (omega arith)) ∙ or-true (ltb g start))
       go false e = refl
 
-  module _ (i : ℕ) (ws : List ℕ) (inside : i < length ws) (low high m : ℕ) (lows : (j : ℕ) → j < 64 → isSet low j ≡ ltb (i * 64 + j) start) (fits : high < 2 ^ 64) (highs : (j : ℕ) → j < 64 → isSet high j ≡ ltb (i * 64 + j) end) (is-m : m ≡ getD table ((column * 16 + value % 16) * 64 + i) 0) (inv : Narrowed i table start end column value ws₀ ws) where
+  module _ (i : ℕ) (ws : List ℕ) (inside : i < length ws) (low high m : ℕ) (lows : (j : ℕ) → j < 64 → isSet low j ≡ ltb (i * 64 + j) start) (fits : high < 2 ^ 64) (highs : (j : ℕ) → j < 64 → isSet high j ≡ ltb (i * 64 + j) end) (is-m : m ≡ getD table ((column * 16 + value % 16) * 64 + i) 0) (inv : NarrowedBefore i table start end column value ws₀ ws) where
     abbrev new : ℕ
     new = bitAnd (getD ws i 0) (bitOr low (bitOr (2 ^ 64 - 1 - high) m))
 
@@ -166,7 +166,7 @@ module _ (table : List ℕ) (start end column value : ℕ) (ws₀ : List ℕ) wh
         ∙ inv g
         ∙ ap (λ (x : Bool). isLive ws₀ g && (x || stays table start end column value g)) (same-test g d (leb (64 * i) g) refl)
 
-    pub narrowed-more : Narrowed (i + 1) table start end column value ws₀ (set ws i new)
+    pub narrowed-more : NarrowedBefore (i + 1) table start end column value ws₀ (set ws i new)
     narrowed-more g = go (ℕ-discrete (g / 64) i)
       where
         go : Dec (g / 64 ≡ i) → isLive (set ws i new) g ≡ (isLive ws₀ g && staysBefore (i + 1) table start end column value g)

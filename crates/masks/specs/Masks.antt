@@ -1,12 +1,12 @@
 -- The table of marks: for each column and bucket of values, the tuples that have such a value in the column.
 use mathlib.Core.Path.{_≡_}
-use mathlib.Core.Bool.{Bool, true, _||_}
+use mathlib.Core.Bool.{Bool, true, false, _||_}
 use mathlib.Core.List.{List}
 use mathlib.Core.Logic.{_⊎_}
 use Prim.Native.Nat.{ℕ, _+_, _-_, _*_, _%_, _≤_, _<_}
 use lib.Dec.{ltb, leb}
 use lib.ListN.{length, getD}
-use Rattle.model.specs.Limits.{maxTuples}
+use Rattle.model.specs.Limits.{maxRelations, maxTuples}
 use Rattle.model.specs.Network.{Network, width, size, firstId, valuesAt}
 use Rattle.model.specs.Agreement.{agree}
 use Rattle.model.specs.LiveWords.{isLive}
@@ -63,3 +63,33 @@ pub record Agreeing (N : Network) (r x s : ℕ) (before after : List ℕ) : Type
   pub inside : (g : ℕ) → isLive after g ≡ true → isLive before g ≡ true
   pub outside : (g : ℕ) → (g < firstId N s) ⊎ (firstId N s + size N s ≤ g) → isLive after g ≡ isLive before g
   pub keeps : (z : ℕ) → z < size N s → agree N (firstId N r + x) (firstId N s + z) ≡ true → isLive before (firstId N s + z) ≡ true → isLive after (firstId N s + z) ≡ true
+
+-- ---- Narrowing the members of a combination
+
+-- no tuple of relation s is live
+abbrev pub Dead : Network → ℕ → List ℕ → Type 0
+Dead N s words = (z : ℕ) → z < size N s → isLive words (firstId N s + z) ≡ false
+
+-- Narrowed for the tuple with id y: no id is raised, every tuple that agrees with it stays, and so does y itself.
+pub record Narrowed (N : Network) (y : ℕ) (before after : List ℕ) : Type 0 where
+  pub lower : Lower before after
+  pub inside : (g : ℕ) → isLive after g ≡ true → isLive before g ≡ true
+  pub keeps : (s z : ℕ) → z < size N s → agree N y (firstId N s + z) ≡ true → isLive before (firstId N s + z) ≡ true → isLive after (firstId N s + z) ≡ true
+  pub itself : isLive after y ≡ isLive before y
+
+-- Place j is one of those from k on, but not `place`.
+pub record Later (members : List ℕ) (place k j : ℕ) : Type 0 where
+  pub from-k : k ≤ j
+  pub inside : j < length members
+  pub other : j ≡ place → ⊥
+
+-- The members at the places from k on, but the one at `place`, are numbers of relations, and none of them is relation r.
+pub record Others (members : List ℕ) (place k r : ℕ) : Type 0 where
+  pub few : (j : ℕ) → Later members place k j → getD members j 0 < maxRelations
+  pub other : (j : ℕ) → Later members place k j → getD members j 0 ≡ r → ⊥
+
+-- One of these members, at place j, has no live tuple left.
+pub record Bare (N : Network) (members : List ℕ) (place k : ℕ) (words : List ℕ) : Type 0 where
+  pub j : ℕ
+  pub later : Later members place k j
+  pub dead : Dead N (getD members j 0) words

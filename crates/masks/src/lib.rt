@@ -1,20 +1,20 @@
 // Forward checking by words: the table that marks each tuple under its columns' values, and the live tuples narrowed by it.
 ghost use mathlib.Core.Path.{_≡_};
-ghost use mathlib.Core.Bool.{_&&_, _||_};
+ghost use mathlib.Core.Bool.{false, _&&_, _||_};
 ghost use mathlib.Core.List.{List};
 ghost use Prim.Native.Nat.{ℕ, _+_, _-_, _*_, _^_, _≤_, _<_};
 ghost use lib.Dec.{ltb, eqb};
 ghost use lib.ListN.{length, getD};
 ghost use Rattle.model.specs.Limits.{maxWidth, maxTuples};
-ghost use Rattle.model.specs.Network.{tuplesIn, size};
+ghost use Rattle.model.specs.Network.{tuplesIn, size, firstId};
 ghost use Rattle.model.specs.Agreement.{cells, agreeing};
 ghost use Rattle.model.specs.LiveWords.{isSet, isLive};
 ghost use Rattle.network.specs.Layout.{tabled, Laid, starts};
-ghost use Rattle.masks.specs.Masks.{stays, Marks, Grows, MarksTuple, MarksTuples, Lower, Narrows, Agreeing};
+ghost use Rattle.masks.specs.Masks.{stays, Marks, Grows, MarksTuple, MarksTuples, Lower, Narrows, Agreeing, Dead, Narrowed, Others, Bare};
+use live::next;
 use model::MAX_RELATIONS;
 use network::agreement::place_of;
 use network::wide;
-use scan::column_of;
 
 // The word whose bit j is 1 where base + j is below the bound.
 fn below(base: usize, bound: usize) -> u64
@@ -125,6 +125,20 @@ pub fn mark_all(
     }
 }
 
+// A place where x stands in a scope; the scope's length if nowhere.
+fn column_of(scope: &[u16], x: u16) -> usize
+    ensures { λ i. ⌜ (i < length (now (scope .entry)) → getD (now (scope .entry)) i 0 ≡ x) ⌝ }
+{
+    let mut i = 0;
+    while i < scope.len() {
+        if scope[i] == x {
+            return i;
+        }
+        i += 1;
+    }
+    i
+}
+
 // The ids from start on and below end narrowed by the column whose variable is v, where scope a has it: to a's value there.
 fn narrow_column(
     scope_a: &[u16],
@@ -201,4 +215,79 @@ pub fn narrow(
         tuple_starts[relation],
         tuple_starts[relation + 1],
     );
+}
+
+// Relation s's ids narrowed for tuple x of relation r. False where none of them is live any more.
+fn narrow_member(
+    variables: &[u16],
+    values: &[u16],
+    variable_starts: &[u16; 65],
+    tuple_starts: &[u16; 65],
+    value_starts: &[u16; 65],
+    table: &[u64; 8192],
+    words: &mut [u64; 64],
+    r: u16,
+    x: u16,
+    s: u16,
+) -> bool
+    requires { ⌜ (length (now words) ≡ 64) × (let N = tabled (now variables) (now values) (now «variable_starts») (now «value_starts») in Laid N (now «variable_starts») (now «value_starts») × ((now «tuple_starts» ≡ starts tuplesIn (N .relations)) × (Marks N (now table) × ((x < size N r) × (s < 64))))) ⌝ }
+    ensures { λ b. ⌜ (length (now (words .exit)) ≡ 64) × (let N = tabled (now (variables .entry)) (now (values .entry)) (now («variable_starts» .entry)) (now («value_starts» .entry)) in Agreeing N r x s (now (words .entry)) (now (words .exit)) × (b ≡ false → Dead N s (now (words .exit)))) ⌝ }
+{
+    narrow(
+        variables,
+        values,
+        variable_starts,
+        tuple_starts,
+        value_starts,
+        table,
+        words,
+        r,
+        x,
+        s,
+    );
+    let relation = wide(s);
+    let end = tuple_starts[relation + 1];
+    next(words, tuple_starts[relation], end) < end
+}
+
+// The tuples of each member from k on, but the one at `place`, narrowed for tuple x of relation r, which is none of these.
+// False where one of them has no live tuple left.
+pub fn narrow_members(
+    variables: &[u16],
+    values: &[u16],
+    variable_starts: &[u16; 65],
+    tuple_starts: &[u16; 65],
+    value_starts: &[u16; 65],
+    table: &[u64; 8192],
+    words: &mut [u64; 64],
+    members: &[u16],
+    place: usize,
+    k: usize,
+    r: u16,
+    x: u16,
+) -> bool
+    requires { ⌜ (length (now words) ≡ 64) × (let N = tabled (now variables) (now values) (now «variable_starts») (now «value_starts») in Laid N (now «variable_starts») (now «value_starts») × ((now «tuple_starts» ≡ starts tuplesIn (N .relations)) × (Marks N (now table) × ((x < size N r) × Others (now members) place k r)))) ⌝ }
+    ensures { λ b. ⌜ (length (now (words .exit)) ≡ 64) × (let N = tabled (now (variables .entry)) (now (values .entry)) (now («variable_starts» .entry)) (now («value_starts» .entry)) in Narrowed N (firstId N r + x) (now (words .entry)) (now (words .exit)) × (b ≡ false → Bare N (now (members .entry)) place k (now (words .exit)))) ⌝ }
+{
+    let mut j = k;
+    while j < members.len() {
+        if j != place {
+            if !narrow_member(
+                variables,
+                values,
+                variable_starts,
+                tuple_starts,
+                value_starts,
+                table,
+                words,
+                r,
+                x,
+                members[j],
+            ) {
+                return false;
+            }
+        }
+        j += 1;
+    }
+    true
 }

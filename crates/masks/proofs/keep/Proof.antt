@@ -8,7 +8,7 @@ use lib.Dec.{ltb}
 use lib.ListN.{length, getD, length-set}
 use borrow.Author.Needs.{needs}
 use Rattle.masks.specs.Masks.{Lower}
-use Rattle.masks.proofs.Words.{lower-more, Narrowed, narrowed-none, narrowed-more, narrowed-all}
+use Rattle.masks.proofs.Words.{lower-more, NarrowedBefore, narrowed-none, narrowed-more, narrowed-all}
 use Rattle.masks.proofs.keep.Statement.{statement}
 use Rattle.masks.proofs.keep.Tie as tie
 
@@ -17,7 +17,7 @@ Inv-loop table words₀ start end column value begin stop first i₀ words i =
     (i ≤ 1024)
     × ((begin ≡ start)
     × ((stop ≡ end)
-    × ((first ≡ (column * 16 + value % 16) * 64) × ((length words ≡ 64) × (Lower words₀ words × Narrowed i table start end column value words₀ words)))))
+    × ((first ≡ (column * 16 + value % 16) * 64) × ((length words ≡ 64) × (Lower words₀ words × NarrowedBefore i table start end column value words₀ words)))))
 
 abbrev μ-loop : tie.MeasureT-loop
 μ-loop table words₀ start end column value begin stop first i₀ words i = 64 - i

@@ -5,9 +5,8 @@ use Prim.Native.Nat.{suc, _+_, _-_, _*_, _≤_, _<_}
 use native.Mathlib.Omega.{arith}
 use lib.ListN.{length}
 use borrow.Author.Needs.{needs}
-use Rattle.scan.proofs.Rows.{row-next, row-within}
 use Rattle.masks.specs.Masks.{Grows, MarksTuples}
-use Rattle.masks.proofs.Marking.{grows-on, tuples-more}
+use Rattle.masks.proofs.Marking.{grows-on, row-next, row-within, tuples-more}
 use Rattle.masks.proofs.mark_tuples.Statement.{statement}
 use Rattle.masks.proofs.mark_tuples.Tie as tie
 

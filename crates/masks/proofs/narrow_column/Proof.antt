@@ -7,8 +7,7 @@ use native.Mathlib.Omega.{arith}
 use lib.ListN.{length, getD}
 use borrow.Author.Needs.{needs}
 use Rattle.model.specs.Agreement.{cells, agreeing}
-use Rattle.scan.proofs.Common.{told-shared}
-use Rattle.masks.proofs.Narrowing.{narrows-none, narrows-keep}
+use Rattle.masks.proofs.Narrowing.{narrows-none, narrows-keep, same-value}
 use Rattle.masks.proofs.narrow_column.Statement.{statement}
 use Rattle.masks.proofs.narrow_column.Tie as tie
 
@@ -40,7 +39,7 @@ returns-2 c =
       c .keep .ensures .0,
       λ scope h e.
           narrows-keep (λ (b : List ℕ). agreeing (cells (a .scope-a .now) (a .a .now)) (cells scope b)) (length scope) (a .table .now) (a .start) (a .end) (a .column) (getD (a .a .now) i 0) (a .words .now) (c .keep .last .1 .0) (c .keep .ensures .1 .0) h
-          (told-shared (a .scope-a .now) (a .a .now) scope i (a .column) (s .pre .1 .0) (found .if1 .left) h (found .before .column-of .ensures (found .if1 .left) ∙ sym e) .value (λ q. absurd (omega arith)))
+          (same-value (a .scope-a .now) (a .a .now) scope i (a .column) (s .pre .1 .0) (found .if1 .left) h (found .before .column-of .ensures (found .if1 .left) ∙ sym e))
           (c .keep .ensures .1 .1),
     )
 
