@@ -14,7 +14,7 @@ use Rattle.model.specs.Lists.{from, all}
 use Rattle.model.specs.Network.{Network, size, firstId, idsOf, indexOf}
 use Rattle.model.specs.Agreement.{Cell, cellsOf, agreeing, agree}
 use Rattle.model.specs.Combination.{Combination}
-use Rattle.model.proofs.Bools.{and-left, and-right, and-intro, not-both}
+use Rattle.model.proofs.Bools.{and-intro, not-both}
 use Rattle.model.proofs.Lists.{all-at, all-append, mem-from, from-append, map-from-same, Picks, done, pick, picks-append}
 use Rattle.model.proofs.Network.{indexOf-at}
 use Rattle.support.specs.Search.{idAt, chosenIds, fits}
@@ -97,14 +97,3 @@ module _ (N : Network) (c : Combination) (seeker : List Cell) (place k : ℕ) (c
 
     pub fits-all : agreeing seeker (cellsOf N (idAt N c k x)) ≡ true → all (λ (y : ℕ). agree N y (idAt N c k x)) (chosenIds N c chosen k) ≡ true → fits N c seeker place k chosen x ≡ true
     fits-all e f = fits-other ∙ ap₂ (λ (a b : Bool). a && b) e f
-
-    -- what fits agrees with the seeking tuple, and with each chosen
-    pub fits-seeker : fits N c seeker place k chosen x ≡ true → agreeing seeker (cellsOf N (idAt N c k x)) ≡ true
-    fits-seeker e =
-        and-left (agreeing seeker (cellsOf N (idAt N c k x))) (all (λ (y : ℕ). agree N y (idAt N c k x)) (chosenIds N c chosen k)) (sym fits-other ∙ e)
-
-    pub fits-chosen : fits N c seeker place k chosen x ≡ true → (j : ℕ) → j < k → agree N (idAt N c j (getD chosen j 0)) (idAt N c k x) ≡ true
-    fits-chosen e j h =
-        all-at (λ (y : ℕ). agree N y (idAt N c k x)) (chosenIds N c chosen k)
-        (and-right (agreeing seeker (cellsOf N (idAt N c k x))) (all (λ (y : ℕ). agree N y (idAt N c k x)) (chosenIds N c chosen k)) (sym fits-other ∙ e))
-        (chosen-mem N c chosen k j h)

@@ -3,4 +3,5 @@ pub mod Chosen
 pub mod Walk
 pub mod Ends
 pub mod Turn
+pub mod Narrow
 pub mod Own

@@ -8,6 +8,7 @@ use Prim.Native.Nat.{ℕ, suc, _+_, _-_, _≤_, _<_}
 use native.Mathlib.Omega.{arith}
 use lib.Dec.{eqb}
 use lib.ListN.{length, getD, drop, set, length-set}
+use lib.Seq.{getD-set-other}
 use borrow.Author.Tests.{eq-eqb, eqb-true, eqb-false}
 use Rattle.model.specs.Network.{total, firstId, idsOf}
 use Rattle.model.specs.Agreement.{cellsOf}
@@ -108,6 +109,7 @@ pub record Staged (Q : Search) (resumes : Bool) (k : ℕ) (chosen : List ℕ) (s
   pub other : s .k ≡ Q .place → ⊥
   pub forth : k ≤ s .k
   pub sized : length (s .chosen) ≡ 4
+  pub kept : (j : ℕ) → j < k → getD (s .chosen) j 0 ≡ getD chosen j 0
 
 pub staged : (Q : Search) → Ready Q → (resumes : Bool) (k : ℕ) (chosen : List ℕ) → length chosen ≡ 4 → length (Q .low) ≡ 4 → has (live Q) (seeker Q) ≡ true → Begun Q k resumes chosen → (s : Stage) → s ≡ pastOwn (Q .place) (Q .own) k chosen → Staged Q resumes k chosen s
 staged Q R resumes k chosen sized low-sized lively B s e = go (eqb k (Q .place)) refl
@@ -123,7 +125,8 @@ staged Q R resumes k chosen sized low-sized lively B s e = go (eqb k (Q .place))
           other = λ f. omega arith;
           forth = omega arith;
           sized = length-set chosen k (Q .own) ∙ sized;
+          kept = λ j l. getD-set-other chosen k j (Q .own) 0 (λ e. omega arith);
         })
     go false q =
         let is : s ≡ record { k = k; chosen = chosen } = rw q at e in
-        rw is (record { begun = B; same = refl; other = eqb-false k (Q .place) q; forth = omega arith; sized = sized })
+        rw is (record { begun = B; same = refl; other = eqb-false k (Q .place) q; forth = omega arith; sized = sized; kept = λ j l. refl })

@@ -1,7 +1,7 @@
--- Laws of one member's turn in the search: the walk from candidate to candidate, and what is known once one tuple more is chosen.
--- From the laws of the walk, of looks, of the tuples chosen and of the search.
+-- Laws of one member's turn in the search: the walk from live tuple to live tuple, and what is known once one tuple more is chosen.
+-- From the laws of the walk, of the tuples chosen and of the search.
 use mathlib.Core.Path.{_≡_, refl, sym, _∙_, ap, ap₂, subst}
-use mathlib.Core.Bool.{Bool, true, false, _&&_, _||_, false≢true}
+use mathlib.Core.Bool.{Bool, true, false, _&&_, false≢true}
 use mathlib.Core.Option.{Option, none, some, orElse}
 use mathlib.Core.List.{List, [], _∷_, _++_, map, List·Memᴰ, List·Memᴰ·tail, List·Memᴰ·eq-of-singleton, Memᴰ·append-right}
 use Prim.Native.Nat.{ℕ, suc, _+_, _-_, _*_, _≤_, _<_}
@@ -13,24 +13,22 @@ use lib.ListN.{length, getD, take, drop, set}
 use lib.Seq.{take-suc, take-suc-set, getD-set-same, getD-set-other}
 use borrow.Author.Tests.{eqb-true, eqb-false, eq-eqb, ne-eqb, ltb-true, ltb-false}
 use Rattle.model.specs.Lists.{all, pairwise, earlier}
-use Rattle.model.specs.Network.{size, total, firstId, idsOf, relationOf, valuesAt}
+use Rattle.model.specs.Network.{size, total, firstId, idsOf, relationOf}
 use Rattle.model.specs.Agreement.{cellsOf, agreeing, agree}
 use Rattle.model.specs.TupleSet.{has}
 use Rattle.model.specs.LiveWords.{isLive, nextLive}
 use Rattle.model.specs.Support.{completion}
-use Rattle.model.proofs.Bools.{and-left, and-intro, not-both, or-false-left}
+use Rattle.model.proofs.Bools.{and-left, and-intro, not-both}
 use Rattle.model.proofs.Lists.{here, all-at, all-append, pairwise-append, earlier-above, later-append}
 use Rattle.model.proofs.Network.{relationOf-at}
 use Rattle.model.proofs.Agreement.{agree-sym}
 use Rattle.model.proofs.LiveWords.{living-has, nextLive-first}
-use Rattle.model.proofs.Search.{completion-clash, completion-dead, reach, reach-none, reach-step, reach-skip, reach-live}
-use Rattle.scan.specs.declared.Looks.{Looks}
-use Rattle.scan.specs.Candidate.{nowhere, Somewhere, looked, candidate, Ahead, Stepping}
-use Rattle.support.specs.Search.{Search, network, live, idAt, seeker, Ready, chosenIds, Begun, fits, Trial, Looking}
+use Rattle.model.proofs.Search.{completion-clash, reach, reach-none, reach-step, reach-live}
+use Rattle.support.specs.Search.{Search, network, live, idAt, seeker, Ready, chosenIds, Begun, fits, Trial}
 use Rattle.support.proofs.Chosen.{chosen-set, fits-own, fits-other}
-use Rattle.support.proofs.Walk.{members-differ, few-tuples, member-below, member-start, member-within, span, span-inside, walk-whole}
+use Rattle.support.proofs.Walk.{members-apart, few-tuples, member-below, member-start, member-within, span, span-inside, walk-whole}
 
--- ---- The walk from candidate to candidate
+-- ---- The walk from live tuple to live tuple
 
 module _ (Q : Search) (k : ℕ) (chosen : List ℕ) where
   -- what there is to find once the tuples before k are chosen
@@ -46,10 +44,11 @@ abbrev pub left : Search → ℕ → Bool → List ℕ → ℕ → Option (List 
 left Q k resumes chosen g =
     reach (network Q) (live Q) (seeker Q) (Q .low) (chosenIds (network Q) (Q .members) chosen k) (map (idsOf (network Q)) (drop (suc k) (Q .members))) g (span Q k resumes .end)
 
--- The walk has come to id g: what is left to find is all there is to find.
+-- The walk has come to id g, a live one unless it is at its end: what is left to find is all there is to find.
 pub record Come (Q : Search) (k : ℕ) (resumes : Bool) (chosen : List ℕ) (g : ℕ) : Type 0 where
   pub from-start : span Q k resumes .start ≤ g
   pub to-end : g ≤ span Q k resumes .end
+  pub lives : g < span Q k resumes .end → isLive (Q .words) g ≡ true
   pub rest : left Q k resumes chosen g ≡ sought Q k chosen
 
 -- what `span_of` asks
@@ -111,6 +110,7 @@ module _ {Q : Search} {k : ℕ} {resumes : Bool} {chosen : List ℕ} {first begi
       (record {
         from-start = omega (arith, f .from-i);
         to-end = f .to-end;
+        lives = f .passes;
         rest = sym (reach-live (network Q) (Q .words) (seeker Q) (Q .low) ids later i stop h stop-total) ∙ e;
       })
 
@@ -136,34 +136,22 @@ module _ {Q : Search} {k : ℕ} {resumes : Bool} {chosen : List ℕ} {first begi
         ∙ reach-step (network Q) (live Q) (seeker Q) (Q .low) ids later g stop before-stop
         ∙ ap (λ (o : Option (List ℕ)). orElse o (left Q k resumes chosen (suc g))) e
 
-    pub come-next : onward Q k chosen g ≡ none → Come Q k resumes chosen (g + 1)
+    pub come-next : onward Q k chosen g ≡ none → Come Q k resumes chosen (nextLive (Q .words) (g + 1) end)
     unfolding orElse
     come-next e =
         let b = before-stop in
-        record {
-          from-start = omega (arith, C .from-start);
-          to-end = omega arith;
-          rest =
-              rw add-one
-              (sym (ap (λ (o : Option (List ℕ)). orElse o (left Q k resumes chosen (suc g))) e)
-              ∙ sym (reach-step (network Q) (live Q) (seeker Q) (Q .low) ids later g stop before-stop)
-              ∙ C .rest);
-        }
+        come-live (g + 1) (omega (arith, C .from-start)) (omega arith)
+        (rw add-one
+        (sym (ap (λ (o : Option (List ℕ)). orElse o (left Q k resumes chosen (suc g))) e)
+        ∙ sym (reach-step (network Q) (live Q) (seeker Q) (Q .low) ids later g stop before-stop)
+        ∙ C .rest))
+
+    pub come-lives : isLive (Q .words) g ≡ true
+    come-lives = C .lives before-stop
 
   module _ (g : ℕ) (from : span Q k resumes .start ≤ g) (h : g < end) where
     in-walk : g < stop
     in-walk = omega arith
-
-    -- what `is_live` asks
-    pub live-asks : g < 64 * length (Q .words)
-    live-asks = let t = stop-total in omega (arith, R .words)
-
-    -- a dead tuple leads to nothing
-    pub come-dead : isLive (Q .words) g ≡ false → onward Q k chosen g ≡ none
-    come-dead e =
-        let t = stop-total in
-        completion-dead (network Q) (live Q) (seeker Q) (Q .low) (ids ++ (g ∷ [])) later (Memᴰ·append-right ids here)
-        (living-has (total (network Q)) (Q .words) g (omega (arith, in-walk)) ∙ e)
 
     -- ---- The tuple tried
 
@@ -202,17 +190,11 @@ module _ {Q : Search} {k : ℕ} {resumes : Bool} {chosen : List ℕ} {first begi
 
     -- at any other place, it is another tuple
     id-other : (k ≡ Q .place → ⊥) → seeker Q ≡ g → ⊥
-    id-other d e = apart (ltb k (Q .place)) refl
-      where
-        same : getD (Q .members) k 0 ≡ getD (Q .members) (Q .place) 0
-        same =
-            sym (relationOf-at (network Q) (getD (Q .members) k 0) index index-below)
-            ∙ ap (relationOf (network Q)) (id-back ∙ sym e)
-            ∙ relationOf-at (network Q) (getD (Q .members) (Q .place) 0) (Q .own) (R .own)
-
-        apart : (b : Bool) → ltb k (Q .place) ≡ b → ⊥
-        apart true q = members-differ Q R k (Q .place) (ltb-true k (Q .place) q) (R .place) same
-        apart false q = let l = ltb-false k (Q .place) q in members-differ Q R (Q .place) k (omega arith) inside (sym same)
+    id-other d e =
+        members-apart Q R k (Q .place) inside (R .place) d
+        (sym (relationOf-at (network Q) (getD (Q .members) k 0) index index-below)
+        ∙ ap (relationOf (network Q)) (id-back ∙ sym e)
+        ∙ relationOf-at (network Q) (getD (Q .members) (Q .place) 0) (Q .own) (R .own))
 
     -- where the search resumes, its index is not below the bound's
     index-low : resumes ≡ true → getD (Q .low) k 0 ≤ index
@@ -281,6 +263,13 @@ module _ {Q : Search} {k : ℕ} {resumes : Bool} {chosen : List ℕ} {first begi
     agrees-seeker : fit ≡ true → (k ≡ Q .place → ⊥) → all (λ (y : ℕ). agree (network Q) y g) (seeker Q ∷ ids) ≡ true
     agrees-seeker e d = sym (fit-other d) ∙ e
 
+    -- the tuple agrees with the seeking tuple
+    pub agrees-own : fit ≡ true → (k ≡ Q .place → ⊥) → agree (network Q) (idAt (network Q) (Q .members) k index) (seeker Q) ≡ true
+    agrees-own e d =
+        agree-sym (network Q) (idAt (network Q) (Q .members) k index) (seeker Q)
+        ∙ ap (agree (network Q) (seeker Q)) id-back
+        ∙ and-left (agree (network Q) (seeker Q) g) (all (λ (y : ℕ). agree (network Q) y g) ids) (agrees-seeker e d)
+
     -- the tuple agrees with each chosen before
     agrees-chosen : fit ≡ true → (y : ℕ) → List·Memᴰ y ids → agree (network Q) y g ≡ true
     agrees-chosen e y m = go (ℕ-discrete k (Q .place))
@@ -331,61 +320,3 @@ module _ {Q : Search} {k : ℕ} {resumes : Bool} {chosen : List ℕ} {first begi
 
     pub come-more : isLive (Q .words) g ≡ true → fit ≡ true → Begun Q (k + 1) resumed more
     come-more l e = rw add-one (begun-more l e)
-
-  -- ---- What a step passes over
-
-  module _ (l : Looks) (L : Looking (network Q) (Q .members) (Q .place) (Q .own) k chosen l) where
-    abbrev rel : ℕ
-    rel = getD (Q .members) k 0
-
-    -- what `step` asks
-    pub step-asks : (i : ℕ) → span Q k resumes .start ≤ i → i ≤ end → Stepping (network Q) (Q .variableStarts) (Q .valueStarts) (Q .words) rel first i end (l .one) (l .two)
-    step-asks i from h =
-        let j = span-inside Q k R inside resumes in
-        let f = first-id in
-        let t = stop-total in
-        let few = few-tuples Q R in
-        let e = T .is-end in
-        record {
-          laid = R .laid;
-          is-first = f;
-          from-first = omega (arith, j .from-first);
-          forward = h;
-          to-end = omega (arith, j .to-end);
-          worded = omega (arith, R .words);
-          few = omega arith;
-          column-one = L .tells .0 .column;
-          column-two = λ m. L .tells .1 .column (L .second m);
-        }
-
-    abbrev fits-at : ℕ → Bool
-    fits-at g = fits (network Q) (Q .members) (cellsOf (network Q) (seeker Q)) (Q .place) k chosen (g - first)
-
-    -- a live id that is no candidate does not fit
-    misfit : (g : ℕ) → span Q k resumes .start ≤ g → g < end → isLive (Q .words) g ≡ true → candidate (network Q) (Q .words) rel first (l .one) (l .two) g ≡ false → (b : Bool) → fits-at g ≡ b → b ≡ false
-    unfolding candidate
-    misfit g from h lives e true q =
-        let none : (eqb (l .one .column) nowhere || looked (network Q) rel (l .one) (l .two) (g - first)) ≡ false = rw lives at e in
-        let m : Somewhere (l .one) = eqb-false (l .one .column) nowhere (or-false-left (eqb (l .one .column) nowhere) (looked (network Q) rel (l .one) (l .two) (g - first)) none) in
-        let below = index-below g from h in
-        let one = L .tells .0 .value m (g - first) below q in
-        let two = L .tells .1 .value (L .second m) (g - first) below q in
-        absurd (not-both (and-intro (eq-eqb (getD (valuesAt (network Q) rel (g - first)) (l .one .column) 0) (l .one .value) one) (eq-eqb (getD (valuesAt (network Q) rel (g - first)) (l .two .column) 0) (l .two .value) two)) (sym (ap (λ (b : Bool). b || looked (network Q) rel (l .one) (l .two) (g - first)) (ne-eqb (l .one .column) nowhere m)) ∙ none))
-    misfit g from h lives e false q = refl
-
-    -- what is passed over leads to nothing
-    passed-none : (g : ℕ) → span Q k resumes .start ≤ g → g < end → candidate (network Q) (Q .words) rel first (l .one) (l .two) g ≡ false → (b : Bool) → isLive (Q .words) g ≡ b → onward Q k chosen g ≡ none
-    passed-none g from h e true q = come-clash g from h (misfit g from h q e (fits-at g) refl)
-    passed-none g from h e false q = come-dead g from h q
-
-    pub come-ahead : (i g : ℕ) → Come Q k resumes chosen i → Ahead (candidate (network Q) (Q .words) rel first (l .one) (l .two)) i end g → Come Q k resumes chosen g
-    come-ahead i g C A =
-        let e = T .is-end in
-        record {
-          from-start = omega (arith, C .from-start, A .from-start);
-          to-end = omega (arith, A .to-end);
-          rest =
-              sym (reach-skip (network Q) (live Q) (seeker Q) (Q .low) ids later i g stop (A .from-start) (omega (arith, A .to-end))
-              (λ x b. passed-none x (omega (arith, C .from-start, b .0)) (omega (arith, A .to-end, b .1)) (A .passed x (b .0) (b .1)) (isLive (Q .words) x) refl))
-              ∙ C .rest;
-        }

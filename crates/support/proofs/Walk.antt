@@ -10,7 +10,7 @@ use native.Mathlib.Omega.{arith}
 use lib.Dec.{ltb, eqb}
 use lib.ListN.{length, getD, take, drop, take-append-drop}
 use lib.Seq.{take-suc, drop-cons}
-use borrow.Author.Tests.{ltb-true, eqb-true, ne-eqb}
+use borrow.Author.Tests.{ltb-true, ltb-false, eqb-true, ne-eqb}
 use Rattle.model.specs.Lists.{from, all, pairwise, earlier}
 use Rattle.model.specs.Network.{size, total, firstId, idsOf, indexOf, relationOf, tuplesIn}
 use Rattle.model.specs.Support.{completion}
@@ -30,9 +30,16 @@ module _ (Q : Search) (R : Ready Q) where
   pub rises : pairwise ltb (Q .members) ≡ true
   rises = and-right (all (λ (r : ℕ). ltb r (length (network Q .relations))) (Q .members)) (pairwise ltb (Q .members)) (R .members)
 
+  rising-differ : (i j : ℕ) → i < j → j < length (Q .members) → getD (Q .members) i 0 ≡ getD (Q .members) j 0 → ⊥
+  rising-differ i j h l e = let b = ltb-true (getD (Q .members) i 0) (getD (Q .members) j 0) (pairwise-getD ltb (Q .members) i j 0 rises h l) in omega arith
+
   -- one place to a relation
-  pub members-differ : (i j : ℕ) → i < j → j < length (Q .members) → getD (Q .members) i 0 ≡ getD (Q .members) j 0 → ⊥
-  members-differ i j h l e = let b = ltb-true (getD (Q .members) i 0) (getD (Q .members) j 0) (pairwise-getD ltb (Q .members) i j 0 rises h l) in omega arith
+  pub members-apart : (i j : ℕ) → i < length (Q .members) → j < length (Q .members) → (i ≡ j → ⊥) → getD (Q .members) i 0 ≡ getD (Q .members) j 0 → ⊥
+  members-apart i j hi hj d e = go (ltb i j) refl
+    where
+      go : (b : Bool) → ltb i j ≡ b → ⊥
+      go true q = rising-differ i j (ltb-true i j q) hj e
+      go false q = let l = ltb-false i j q in rising-differ j i (omega arith) hi (sym e)
 
   pub few-tuples : total (network Q) ≤ 4096
   few-tuples = faultless (network Q) (R .laid .faultless) .tuples

@@ -15,8 +15,6 @@ use Rattle.model.specs.Combination.{Combination}
 use Rattle.model.specs.LiveWords.{living}
 use Rattle.model.specs.Fault.{properMembers}
 use Rattle.network.specs.Layout.{tabled, Laid, starts}
-use Rattle.scan.specs.declared.Looks.{Looks}
-use Rattle.scan.specs.Candidate.{Somewhere, Both}
 use Rattle.support.specs.declared.Span.{Span}
 use Rattle.support.specs.declared.Stage.{Stage}
 
@@ -122,7 +120,7 @@ fits N c seeker place k chosen x =
     eqb k place
     || (agreeing seeker (cellsOf N (idAt N c k x)) && all (λ (y : ℕ). agree N y (idAt N c k x)) (chosenIds N c chosen k))
 
--- What the test of tuple x of member k asks, and what looks at this member ask, which has tuple x.
+-- What the test of tuple x of member k asks.
 pub record Trial (N : Network) (c : Combination) (place own k : ℕ) (chosen : List ℕ) (x : ℕ) : Type 0 where
   pub other : k ≡ place → ⊥
   pub inside : k < length c
@@ -132,11 +130,6 @@ pub record Trial (N : Network) (c : Combination) (place own k : ℕ) (chosen : L
   pub index : x < size N (getD c k 0)
   pub within : (j : ℕ) → j < k → getD chosen j 0 < size N (getD c j 0)
   pub own-chosen : place < k → getD chosen place 0 ≡ own
-
--- What looks at member k tell: a tuple that fits has their values, and there are two if there is one.
-pub record Looking (N : Network) (c : Combination) (place own k : ℕ) (chosen : List ℕ) (l : Looks) : Type 0 where
-  pub tells : Both N (getD c k 0) (fits N c (cellsOf N (idAt N c place own)) place k chosen) l
-  pub second : Somewhere (l .one) → Somewhere (l .two)
 
 -- ---- The answer
 

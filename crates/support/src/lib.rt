@@ -1,24 +1,22 @@
-// The first support of a tuple, sought member by member.
+// The first support of a tuple, sought member by member with forward checking: after each choice the members still to come are narrowed to
+// the tuples that may agree with it.
 ghost use mathlib.Core.Path.{_≡_};
 ghost use mathlib.Core.Bool.{true, false};
 ghost use mathlib.Core.List.{map};
-ghost use Prim.Native.Nat.{_+_, _<_};
+ghost use Prim.Native.Nat.{ℕ, _+_, _<_};
 ghost use lib.ListN.{length, getD, take, drop};
 ghost use Rattle.model.specs.Network.{idsOf};
 ghost use Rattle.model.specs.Agreement.{cellsOf};
 ghost use Rattle.model.specs.TupleSet.{has};
 ghost use Rattle.model.specs.Support.{supportFrom, completion};
 ghost use Rattle.network.specs.Layout.{tabled, Laid};
-ghost use Rattle.support.specs.Search.{searching, network, live, idAt, seeker, Ready, chosenIds, Begun, Due, pastOwn, spanAt, fits, Trial, Looking, answer};
+ghost use Rattle.masks.specs.Masks.{Marks};
+ghost use Rattle.support.specs.Search.{searching, network, live, idAt, seeker, Ready, chosenIds, Begun, Due, pastOwn, spanAt, fits, Trial, answer};
 use live::is_live;
 use live::next;
+use masks::narrow_members;
 use network::agreement::tuples_agree;
 use network::wide;
-use scan::Look;
-use scan::Looks;
-use scan::NOWHERE;
-use scan::add_looks;
-use scan::step;
 
 // The indices of a support, one for each member; where there is none, ok is false.
 pub struct Found {
@@ -125,69 +123,21 @@ fn fits(
     true
 }
 
-// Looks at member k, which has tuple x: a tuple that fits has their values.
-fn looks_of(
-    variables: &[u16],
-    values: &[u16],
-    variable_starts: &[u16; 65],
-    value_starts: &[u16; 65],
-    members: &[u16],
-    place: usize,
-    own: u16,
-    k: usize,
-    chosen: [u16; 4],
-    x: u16,
-) -> Looks
-    requires { ⌜ (let N = tabled (now variables) (now values) (now «variable_starts») (now «value_starts») in Laid N (now «variable_starts») (now «value_starts») × Trial N (now members) place own k chosen x) ⌝ }
-    ensures { λ l. ⌜ Looking (tabled (now (variables .entry)) (now (values .entry)) (now («variable_starts» .entry)) (now («value_starts» .entry))) (now (members .entry)) place own k chosen l ⌝ }
+// The first 64 words, and noughts where there are fewer.
+fn copied(words: &[u64]) -> [u64; 64]
+    ensures { λ r. ⌜ (length r ≡ 64) × ((i : ℕ) → i < 64 → getD r i 0 ≡ getD (now (words .entry)) i 0) ⌝ }
 {
-    let none = Look {
-        column: NOWHERE,
-        value: 0,
-    };
-    let mut looks = Looks {
-        one: none,
-        two: none,
-    };
-    let r = members[k];
-    looks = add_looks(
-        variables,
-        values,
-        variable_starts,
-        value_starts,
-        looks,
-        members[place],
-        own,
-        r,
-        x,
-    );
-    let mut j = k;
-    while 0 < j {
-        let two = looks.two;
-        if two.column != NOWHERE {
-            return looks;
-        }
-        j -= 1;
-        if j != place {
-            looks = add_looks(
-                variables,
-                values,
-                variable_starts,
-                value_starts,
-                looks,
-                members[j],
-                chosen[j],
-                r,
-                x,
-            );
-        }
+    let mut n = words.len();
+    if 64 < n {
+        n = 64;
     }
-    let one = looks.one;
-    let two = looks.two;
-    if two.column == NOWHERE {
-        return Looks { one, two: one };
+    let mut copy = [0u64; 64];
+    let mut i = 0;
+    while i < n {
+        copy[i] = words[i];
+        i += 1;
     }
-    looks
+    copy
 }
 
 // The first support at or after `low` that has the tuples chosen for the members before k.
@@ -197,7 +147,8 @@ fn search(
     variable_starts: &[u16; 65],
     tuple_starts: &[u16; 65],
     value_starts: &[u16; 65],
-    words: &[u64],
+    table: &[u64; 8192],
+    words: &[u64; 64],
     members: &[u16],
     place: usize,
     own: u16,
@@ -206,7 +157,7 @@ fn search(
     resumes: bool,
     chosen: [u16; 4],
 ) -> Found
-    requires { ⌜ (let Q = searching (now variables) (now values) (now «variable_starts») (now «tuple_starts») (now «value_starts») (now words) (now members) place own low in Ready Q × (Begun Q k resumes chosen × ((has (live Q) (seeker Q) ≡ true) × Due Q k))) ⌝ }
+    requires { ⌜ (length (now words) ≡ 64) × (let Q = searching (now variables) (now values) (now «variable_starts») (now «tuple_starts») (now «value_starts») (now words) (now members) place own low in Ready Q × (Marks (network Q) (now table) × (Begun Q k resumes chosen × ((has (live Q) (seeker Q) ≡ true) × Due Q k)))) ⌝ }
     ensures { λ f. ⌜ (let Q = searching (now (variables .entry)) (now (values .entry)) (now («variable_starts» .entry)) (now («tuple_starts» .entry)) (now («value_starts» .entry)) (now (words .entry)) (now (members .entry)) place own low in answer (f .ok) (take (length (now (members .entry))) (f .tuples)) ≡ completion (network Q) (live Q) (seeker Q) low (chosenIds (network Q) (now (members .entry)) chosen k) (map (idsOf (network Q)) (drop k (now (members .entry))))) ⌝ }
 {
     let lowest = low[k];
@@ -214,70 +165,52 @@ fn search(
     let span = span_of(tuple_starts, r, resumes, lowest);
     let first = span.first;
     let end = span.end;
-    let start = next(words, span.start, end);
-    if end <= start {
-        return Found {
-            ok: false,
-            tuples: chosen,
-        };
-    }
-    let looks = looks_of(
-        variables,
-        values,
-        variable_starts,
-        value_starts,
-        members,
-        place,
-        own,
-        k,
-        chosen,
-        start - first,
-    );
-    let one = looks.one;
-    let two = looks.two;
-    let mut g = step(
-        variables,
-        values,
-        variable_starts,
-        value_starts,
-        words,
-        r,
-        first,
-        start,
-        end,
-        one,
-        two,
-    );
+    let mut g = next(words, span.start, end);
     while g < end {
         let x = g - first;
-        if is_live(words, g) {
-            if fits(
+        if fits(
+            variables,
+            values,
+            variable_starts,
+            value_starts,
+            members,
+            place,
+            own,
+            k,
+            chosen,
+            x,
+        ) {
+            let mut more = chosen;
+            more[k] = x;
+            let stage = past_own(place, own, k + 1, more);
+            let on = stage.k;
+            let tuples = stage.chosen;
+            if on == members.len() {
+                return Found { ok: true, tuples };
+            }
+            let mut fewer = *words;
+            if narrow_members(
                 variables,
                 values,
                 variable_starts,
+                tuple_starts,
                 value_starts,
+                table,
+                &mut fewer,
                 members,
                 place,
-                own,
-                k,
-                chosen,
+                on,
+                r,
                 x,
             ) {
-                let mut more = chosen;
-                more[k] = x;
-                let stage = past_own(place, own, k + 1, more);
-                let on = stage.k;
-                let tuples = stage.chosen;
-                if on == members.len() {
-                    return Found { ok: true, tuples };
-                }
                 let found = search(
                     variables,
                     values,
                     variable_starts,
                     tuple_starts,
                     value_starts,
-                    words,
+                    table,
+                    &fewer,
                     members,
                     place,
                     own,
@@ -291,19 +224,7 @@ fn search(
                 }
             }
         }
-        g = step(
-            variables,
-            values,
-            variable_starts,
-            value_starts,
-            words,
-            r,
-            first,
-            g + 1,
-            end,
-            one,
-            two,
-        );
+        g = next(words, g + 1, end);
     }
     Found {
         ok: false,
@@ -318,17 +239,38 @@ pub fn first_support(
     variable_starts: &[u16; 65],
     tuple_starts: &[u16; 65],
     value_starts: &[u16; 65],
+    table: &[u64; 8192],
     words: &[u64],
     members: &[u16],
     place: usize,
     own: u16,
     low: [u16; 4],
 ) -> Found
-    requires { ⌜ Ready (searching (now variables) (now values) (now «variable_starts») (now «tuple_starts») (now «value_starts») (now words) (now members) place own low) ⌝ }
+    requires { ⌜ Ready (searching (now variables) (now values) (now «variable_starts») (now «tuple_starts») (now «value_starts») (now words) (now members) place own low) × Marks (tabled (now variables) (now values) (now «variable_starts») (now «value_starts»)) (now table) ⌝ }
     ensures { λ f. ⌜ (let Q = searching (now (variables .entry)) (now (values .entry)) (now («variable_starts» .entry)) (now («tuple_starts» .entry)) (now («value_starts» .entry)) (now (words .entry)) (now (members .entry)) place own low in answer (f .ok) (take (length (now (members .entry))) (f .tuples)) ≡ supportFrom (network Q) (live Q) (now (members .entry)) (seeker Q) low) ⌝ }
 {
     let r = members[place];
     if !is_live(words, tuple_starts[wide(r)] + own) {
+        return Found {
+            ok: false,
+            tuples: low,
+        };
+    }
+    let mut candidates = copied(words);
+    if !narrow_members(
+        variables,
+        values,
+        variable_starts,
+        tuple_starts,
+        value_starts,
+        table,
+        &mut candidates,
+        members,
+        place,
+        0,
+        r,
+        own,
+    ) {
         return Found {
             ok: false,
             tuples: low,
@@ -349,7 +291,8 @@ pub fn first_support(
         variable_starts,
         tuple_starts,
         value_starts,
-        words,
+        table,
+        &candidates,
         members,
         place,
         own,

@@ -1,30 +1,33 @@
 -- `search` finds the first support that has the tuples chosen. The loop's invariant: from the id reached on, there is still all to find;
--- the measure is the number of members still unchosen. From the laws of one member's turn.
-use mathlib.Core.Path.{_≡_, sym, ap, subst, _∙_}
+-- the measure is the number of members still unchosen. From the laws of one member's turn, and of narrowed words.
+use mathlib.Core.Path.{_≡_, refl, sym, ap, subst, _∙_}
 use mathlib.Core.Bool.{Bool, true, false, _&&_}
 use mathlib.Core.Option.{none}
-use mathlib.Core.List.{List}
+use mathlib.Core.List.{List, List·Memᴰ}
 use mathlib.Core.Logic.{_⊎_, ⊎-elim}
 use Prim.Native.Nat.{ℕ, _+_, _-_, _<_}
 use native.Mathlib.Omega.{arith}
 use lib.Dec.{eqb}
 use lib.ListN.{length, getD, take, set, length-set}
+use lib.Seq.{getD-set-same}
 use borrow.Kind.Array.{eInt, good-length}
 use mir.Syntax.{w16}
 use borrow.Fn.Kinds.{In}
 use borrow.Fn.PlainCycle.{Measures, is, falls, and}
 use Rattle.model.specs.TupleSet.{has}
 use Rattle.support.specs.declared.Span.{Span}
-use Rattle.support.specs.Search.{Search, searching, live, seeker, Begun, answer}
+use Rattle.model.proofs.LiveWords.{nextLive-first}
+use Rattle.masks.specs.Masks.{Marks}
+use Rattle.support.specs.Search.{Search, searching, network, live, idAt, seeker, Ready, chosenIds, Begun, Due, answer}
+use Rattle.support.proofs.Chosen.{chosen-mem}
 use Rattle.support.proofs.Ends.{turn-done}
 use Rattle.support.proofs.Walk.{span, span-other}
 use Rattle.support.proofs.Own.{Staged, staged}
-use Rattle.support.proofs.Turn.{sought, onward, Come, span-asks, Turn, walk-asks, walk-forward, come-first, come-from, come-none, come-found, come-next, live-asks, come-dead, trial, come-clash, onward-more, come-more, step-asks, come-ahead}
-use Rattle.live.proofs.is_live.Reads as is-live-reads
+use Rattle.support.proofs.Turn.{sought, onward, Come, span-asks, Turn, walk-asks, walk-forward, come-first, come-from, come-none, come-found, come-next, come-lives, index-below, trial, come-clash, onward-more, come-more, agrees-own}
+use Rattle.support.proofs.Narrow.{others, onWords, Fewer, fewer-words, ready-narrowed, sought-bare, begun-narrowed, sought-narrowed}
 use Rattle.live.proofs.next.Reads as next-reads
-use Rattle.scan.proofs.step.Reads as step-reads
+use Rattle.masks.proofs.narrow_members.Reads as narrow-members-reads
 use Rattle.support.proofs.fits.Reads as fits-reads
-use Rattle.support.proofs.looks_of.Reads as looks-of-reads
 use Rattle.support.proofs.past_own.Reads as past-own-reads
 use Rattle.support.proofs.span_of.Reads as span-of-reads
 use Rattle.support.proofs.search.Reads as search′
@@ -35,25 +38,25 @@ use Rattle.support.proofs.+search.Tie.{close}
 
 -- ---- The measure, the invariant and the callees
 
-abbrev μ-search : Measures 7 search-kinds.ps ℕ
-μ-search κs a = length (a .1 .1 .1 .1 .1 .1 .0 .now) - a .1 .1 .1 .1 .1 .1 .1 .1 .1 .1 .0
+abbrev μ-search : Measures 8 search-kinds.ps ℕ
+μ-search κs a = length (a .1 .1 .1 .1 .1 .1 .1 .0 .now) - a .1 .1 .1 .1 .1 .1 .1 .1 .1 .1 .1 .0
 
-abbrev search-at : ℕ → In 7 search-kinds.ps
-search-at t = and 7 search-kinds.ps (is 7 search-kinds.ps μ-search t) search′.Pre
+abbrev search-at : ℕ → In 8 search-kinds.ps
+search-at t = and 8 search-kinds.ps (is 8 search-kinds.ps μ-search t) search′.Pre
 
-abbrev search-below : ℕ → In 7 search-kinds.ps
-search-below t = and 7 search-kinds.ps (falls 7 search-kinds.ps _<_ μ-search t) search′.Pre
+abbrev search-below : ℕ → In 8 search-kinds.ps
+search-below t = and 8 search-kinds.ps (falls 8 search-kinds.ps _<_ μ-search t) search′.Pre
 
 abbrev callees : ℕ → search-lts.Claims
 callees t =
-    (span-of-reads.Asked, span-of-reads.Learnt, next-reads.Asked, next-reads.Learnt, looks-of-reads.Asked, looks-of-reads.Learnt, step-reads.Asked, step-reads.Learnt, is-live-reads.Asked, is-live-reads.Learnt, fits-reads.Asked, fits-reads.Learnt, past-own-reads.Asked, past-own-reads.Learnt, search-below t, search′.Post)
+    (span-of-reads.Asked, span-of-reads.Learnt, next-reads.Asked, next-reads.Learnt, fits-reads.Asked, fits-reads.Learnt, past-own-reads.Asked, past-own-reads.Learnt, narrow-members-reads.Asked, narrow-members-reads.Learnt, search-below t, search′.Post)
 
 abbrev search-Inv-loop : search-lts.InvT-loop
-search-Inv-loop variables values variable-starts tuple-starts value-starts words members place own k resumes chosen low lowest r first end start one two g₀ g =
+search-Inv-loop variables values variable-starts tuple-starts value-starts table words members place own k resumes chosen low lowest r first end g₀ g =
     Come (searching variables values variable-starts tuple-starts value-starts words members place own low) k resumes chosen g
 
 abbrev search-μ-loop : search-lts.MeasureT-loop
-search-μ-loop variables values variable-starts tuple-starts value-starts words members place own k resumes chosen low lowest r first end start one two g₀ g = end - g
+search-μ-loop variables values variable-starts tuple-starts value-starts table words members place own k resumes chosen low lowest r first end g₀ g = end - g
 
 -- ---- Places on the way
 
@@ -64,35 +67,44 @@ abbrev Spanned : ℕ → Type 0
 Spanned t = search-lts.After-span-of (callees t) (search-at t) search′.Post search-Inv-loop search-μ-loop
 
 abbrev entry : (t : ℕ) → Spanned t → Entry t
-entry t p = p .before .before .before .before .before .before
+entry t p = p .before .before .before .before .before
 
 -- what the search is called on
 abbrev searchOf : (t : ℕ) → Entry t → Search
 searchOf t a =
-    searching (a .args .variables .now) (a .args .values .now) (a .args .variable-starts .now) (a .args .tuple-starts .now) (a .args .value-starts .now) (a .args .words .now) (a .args .members .now) (a .args .place) (a .args .own) (a .args .t10)
+    searching (a .args .variables .now) (a .args .values .now) (a .args .variable-starts .now) (a .args .tuple-starts .now) (a .args .value-starts .now) (a .args .words .now) (a .args .members .now) (a .args .place) (a .args .own) (a .args .t11)
+
+abbrev ready : (t : ℕ) (a : Entry t) → Ready (searchOf t a)
+ready t a = a .pre .1 .1 .0
+
+abbrev marks : (t : ℕ) (a : Entry t) → Marks (network (searchOf t a)) (a .args .table .now)
+marks t a = a .pre .1 .1 .1 .0
 
 -- the seeking tuple is live
 abbrev lives : (t : ℕ) (a : Entry t) → has (live (searchOf t a)) (seeker (searchOf t a)) ≡ true
-lives t a = a .pre .1 .1 .1 .0
+lives t a = a .pre .1 .1 .1 .1 .1 .0
+
+abbrev due : (t : ℕ) (a : Entry t) → Due (searchOf t a) (a .args .k)
+due t a = a .pre .1 .1 .1 .1 .1 .1
 
 chosen-length : (t : ℕ) (a : Entry t) → length (a .args .chosen) ≡ 4
-chosen-length t a = good-length (eInt w16) 4 (a .args .chosen) _ (a .good .1 .1 .1 .1 .1 .1 .1 .1 .1 .1 .1 .1 .0)
+chosen-length t a = good-length (eInt w16) 4 (a .args .chosen) _ (a .good .1 .1 .1 .1 .1 .1 .1 .1 .1 .1 .1 .1 .1 .0)
 
-low-length : (t : ℕ) (a : Entry t) → length (a .args .t10) ≡ 4
-low-length t a = good-length (eInt w16) 4 (a .args .t10) _ (a .good .1 .1 .1 .1 .1 .1 .1 .1 .1 .0)
+low-length : (t : ℕ) (a : Entry t) → length (a .args .t11) ≡ 4
+low-length t a = good-length (eInt w16) 4 (a .args .t11) _ (a .good .1 .1 .1 .1 .1 .1 .1 .1 .1 .1 .0)
 
 spans : (t : ℕ) (p : Spanned t) → p .span-of .result ≡ span (searchOf t (entry t p)) (entry t p .args .k) (entry t p .args .resumes)
 spans t p =
     let a = entry t p in
-    p .span-of .ensures ∙ span-other (searchOf t a) (a .args .k) (a .args .resumes) (a .pre .1 .1 .1 .1 .other)
+    p .span-of .ensures ∙ span-other (searchOf t a) (a .args .k) (a .args .resumes) (due t a .other)
 
 turn : (t : ℕ) (p : Spanned t) → Turn (searchOf t (entry t p)) (entry t p .args .k) (entry t p .args .resumes) (entry t p .args .chosen) (p .span-of .result .first) (p .span-of .result .start) (p .span-of .result .end)
 turn t p =
     let a = entry t p in
     record {
-      ready = a .pre .1 .0;
-      begun = a .pre .1 .1 .0;
-      inside = a .pre .1 .1 .1 .1 .inside;
+      ready = ready t a;
+      begun = a .pre .1 .1 .1 .1 .0;
+      inside = due t a .inside;
       sized = chosen-length t a;
       low-sized = low-length t a;
       is-first = ap (λ (s : Span). s .first) (spans t p);
@@ -100,99 +112,63 @@ turn t p =
       is-end = ap (λ (s : Span). s .end) (spans t p);
     }
 
--- ---- The needs
+-- ---- The needs before the loop
 
 search-mul-lowest : (t : ℕ) → search-lts.Need-mul-lowest (callees t) (search-at t) search′.Post search-Inv-loop search-μ-loop
-search-mul-lowest t c = omega (arith, c .before .before .before .before .pre .1 .0 .few, c .before .before .before .before .pre .1 .1 .0 .depth)
+search-mul-lowest t c = let a = c .before .before .before in omega (arith, ready t a .few, due t a .inside)
 
 search-array-read-lowest : (t : ℕ) → search-lts.Need-array-read-lowest (callees t) (search-at t) search′.Post search-Inv-loop search-μ-loop
-search-array-read-lowest t c = omega (arith, c .before .before .before .before .pre .1 .0 .few, c .before .before .before .before .pre .1 .1 .1 .1 .inside)
+search-array-read-lowest t c = let a = c .before .before .before in omega (arith, ready t a .few, due t a .inside)
 
 search-mul-r : (t : ℕ) → search-lts.Need-mul-r (callees t) (search-at t) search′.Post search-Inv-loop search-μ-loop
-search-mul-r t c = omega (arith, c .before .before .before .before .pre .1 .0 .few, c .before .before .before .before .pre .1 .1 .0 .depth)
+search-mul-r t c = let a = c .before .before .before in omega (arith, ready t a .few, due t a .inside)
 
 search-shared-slice-read-r : (t : ℕ) → search-lts.Need-shared-slice-read-r (callees t) (search-at t) search′.Post search-Inv-loop search-μ-loop
-search-shared-slice-read-r t c = c .before .before .before .before .before .pre .1 .1 .1 .1 .inside
+search-shared-slice-read-r t c = due t (c .before .before .before .before) .inside
 
 search-span-of-requires : (t : ℕ) → search-lts.Need-span-of-requires (callees t) (search-at t) search′.Post search-Inv-loop search-μ-loop
 search-span-of-requires t c κs =
-    let a = c .before .before .before .before .before in
-    span-asks (searchOf t a) (a .args .k) (a .pre .1 .0) (a .pre .1 .1 .1 .1 .inside)
+    let a = c .before .before .before .before in
+    span-asks (searchOf t a) (a .args .k) (ready t a) (due t a .inside)
 
 search-next-requires : (t : ℕ) → search-lts.Need-next-requires (callees t) (search-at t) search′.Post search-Inv-loop search-μ-loop
-search-next-requires t c κs = walk-asks (turn t c) (c .span-of .result .start) (omega arith) (walk-forward (turn t c))
-
--- ---- The first live id
-
-abbrev Nexted : ℕ → Type 0
-Nexted t = search-lts.After-next (callees t) (search-at t) search′.Post search-Inv-loop search-μ-loop
-
-come-start : (t : ℕ) (c : Nexted t) → Come (searchOf t (entry t (c .before))) (entry t (c .before) .args .k) (entry t (c .before) .args .resumes) (entry t (c .before) .args .chosen) (c .next .result)
-come-start t c =
-    subst (Come (searchOf t (entry t (c .before))) (entry t (c .before) .args .k) (entry t (c .before) .args .resumes) (entry t (c .before) .args .chosen)) (sym (c .next .ensures)) (come-first (turn t (c .before)))
-
-search-returns : (t : ℕ) → search-lts.Need-returns (callees t) (search-at t) search′.Post search-Inv-loop search-μ-loop
-search-returns t c = sym (come-none (turn t (c .before .before)) (c .before .next .result) (come-start t (c .before)) (c .if1 .taken))
-
-search-sub-looks-of : (t : ℕ) → search-lts.Need-sub-looks-of (callees t) (search-at t) search′.Post search-Inv-loop search-μ-loop
-search-sub-looks-of t c = come-from (turn t (c .before .before)) (c .before .next .result) (come-start t (c .before)) .0
-
-search-looks-of-requires : (t : ℕ) → search-lts.Need-looks-of-requires (callees t) (search-at t) search′.Post search-Inv-loop search-μ-loop
-search-looks-of-requires t c κs =
-    let p = c .before .before in
-    let C = come-start t (c .before) in
-    (entry t p .pre .1 .0 .laid, trial (turn t p) (c .before .next .result) (C .from-start) (c .if1 .left) (entry t p .pre .1 .1 .1 .1 .other))
-
--- ---- The looks
-
-abbrev Looked : ℕ → Type 0
-Looked t = search-lts.After-looks-of (callees t) (search-at t) search′.Post search-Inv-loop search-μ-loop
-
-abbrev looked-span : (t : ℕ) → Looked t → Spanned t
-looked-span t c = c .before .before .before
-
-search-step-requires : (t : ℕ) → search-lts.Need-step-requires (callees t) (search-at t) search′.Post search-Inv-loop search-μ-loop
-search-step-requires t c κs =
-    let o = c .before .before in
-    let p = looked-span t o in
-    step-asks (turn t p) (o .looks-of .result) (o .looks-of .ensures) (o .before .before .next .result) (come-start t (o .before .before) .from-start) (omega (arith, o .before .if1 .left))
+search-next-requires t c κs =
+    let p = c .before in
+    walk-asks (turn t p) (p .span-of .result .start) (omega arith) (walk-forward (turn t p))
 
 search-loop-holds : (t : ℕ) → search-lts.Need-loop-holds (callees t) (search-at t) search′.Post search-Inv-loop search-μ-loop
 search-loop-holds t c =
-    let o = c .before .before .before in
-    let p = looked-span t o in
+    let p = c .before .before in
     let a = entry t p in
-    come-ahead (turn t p) (o .looks-of .result) (o .looks-of .ensures) (o .before .before .next .result) (c .step .result) (come-start t (o .before .before)) (c .step .ensures)
+    subst (Come (searchOf t a) (a .args .k) (a .args .resumes) (a .args .chosen)) (sym (c .next .ensures)) (come-first (turn t p))
 
 -- ---- The tuple tried, at the loop's turn
 
 abbrev Looping : ℕ → Type 0
 Looping t = search-lts.At-loop (callees t) (search-at t) search′.Post search-Inv-loop search-μ-loop
 
-abbrev looks : (t : ℕ) → Looping t → Looked t
-looks t l = l .before .before .before .before
-
 abbrev spanned : (t : ℕ) → Looping t → Spanned t
-spanned t l = looked-span t (looks t l)
+spanned t l = l .before .before .before
 
 search-sub-x : (t : ℕ) → search-lts.Need-sub-x (callees t) (search-at t) search′.Post search-Inv-loop search-μ-loop
 search-sub-x t c = come-from (turn t (spanned t (c .before))) (c .before .loop .g) (c .before .loop .inv) .0
 
-search-is-live-requires : (t : ℕ) → search-lts.Need-is-live-requires (callees t) (search-at t) search′.Post search-Inv-loop search-μ-loop
-search-is-live-requires t c κs = live-asks (turn t (spanned t (c .before))) (c .before .loop .g) (c .before .loop .inv .from-start) (c .loop-test .taken)
-
 search-fits-requires : (t : ℕ) → search-lts.Need-fits-requires (callees t) (search-at t) search′.Post search-Inv-loop search-μ-loop
 search-fits-requires t c κs =
-    let i = c .before .before in
-    let p = spanned t (i .before) in
+    let l = c .before in
+    let p = spanned t l in
     let a = entry t p in
-    (a .pre .1 .0 .laid, trial (turn t p) (i .before .loop .g) (i .before .loop .inv .from-start) (i .loop-test .taken) (a .pre .1 .1 .1 .1 .other))
+    (ready t a .laid, trial (turn t p) (l .loop .g) (l .loop .inv .from-start) (c .loop-test .taken) (due t a .other))
 
 abbrev Tried : ℕ → Type 0
 Tried t = search-lts.After-fits2 (callees t) (search-at t) search′.Post search-Inv-loop search-μ-loop
 
 abbrev looping : (t : ℕ) → Tried t → Looping t
-looping t c = c .before .before .before .before
+looping t c = c .before .before
+
+-- it is before the walk's end
+abbrev within : (t : ℕ) (c : Tried t) → looping t c .loop .g < spanned t (looping t c) .span-of .result .end
+within t c = c .before .loop-test .taken
 
 -- its index
 abbrev indexOf : (t : ℕ) → Tried t → ℕ
@@ -218,41 +194,38 @@ Chosen t = search-lts.After-past-own (callees t) (search-at t) search′.Post se
 abbrev tried : (t : ℕ) → Chosen t → Tried t
 tried t c = c .before .before
 
+abbrev asked : (t : ℕ) → Chosen t → Entry t
+asked t c = entry t (spanned t (looping t (tried t c)))
+
 -- the search goes on resuming where it resumes here and the tuple has the bound's index
 abbrev resumed : (t : ℕ) → Chosen t → Bool
-resumed t c =
-    let a = entry t (spanned t (looping t (tried t c))) in
-    a .args .resumes && eqb (indexOf t (tried t c)) (getD (a .args .t10) (a .args .k) 0)
+resumed t c = let a = asked t c in a .args .resumes && eqb (indexOf t (tried t c)) (getD (a .args .t11) (a .args .k) 0)
 
 abbrev more : (t : ℕ) → Chosen t → List ℕ
-more t c = let a = entry t (spanned t (looping t (tried t c))) in set (a .args .chosen) (a .args .k) (indexOf t (tried t c))
+more t c = let a = asked t c in set (a .args .chosen) (a .args .k) (indexOf t (tried t c))
 
-stage : (t : ℕ) (c : Chosen t) →
-    let a = entry t (spanned t (looping t (tried t c))) in
-    Staged (searchOf t a) (resumed t c) (a .args .k + 1) (more t c) (c .past-own .result)
+stage : (t : ℕ) (c : Chosen t) → let a = asked t c in Staged (searchOf t a) (resumed t c) (a .args .k + 1) (more t c) (c .past-own .result)
 stage t c =
     let u = tried t c in
     let l = looping t u in
     let p = spanned t l in
     let a = entry t p in
-    staged (searchOf t a) (a .pre .1 .0) (resumed t c) (a .args .k + 1) (more t c) (length-set (a .args .chosen) (a .args .k) (indexOf t u) ∙ chosen-length t a) (low-length t a) (lives t a)
-    (come-more (turn t p) (l .loop .g) (l .loop .inv .from-start) (u .before .before .before .loop-test .taken) (sym (u .before .before .is-live .ensures) ∙ u .before .if2 .taken) (sym (u .fits2 .ensures) ∙ c .before .if3 .taken))
+    staged (searchOf t a) (ready t a) (resumed t c) (a .args .k + 1) (more t c) (length-set (a .args .chosen) (a .args .k) (indexOf t u) ∙ chosen-length t a) (low-length t a) (lives t a)
+    (come-more (turn t p) (l .loop .g) (l .loop .inv .from-start) (within t u) (come-lives (turn t p) (l .loop .g) (l .loop .inv) (within t u)) (sym (u .fits2 .ensures) ∙ c .before .if1 .taken))
     (c .past-own .result) (c .past-own .ensures)
 
 -- what there is to find then is what there is to find onward
 stage-onward : (t : ℕ) (c : Chosen t) →
     let l = looping t (tried t c) in
-    let a = entry t (spanned t l) in
+    let a = asked t c in
     sought (searchOf t a) (c .past-own .result .k) (c .past-own .result .chosen) ≡ onward (searchOf t a) (a .args .k) (a .args .chosen) (l .loop .g)
 stage-onward t c =
     let u = tried t c in
     let l = looping t u in
-    let p = spanned t l in
-    let a = entry t p in
-    stage t c .same ∙ onward-more (turn t p) (l .loop .g) (l .loop .inv .from-start) (u .before .before .before .loop-test .taken)
+    stage t c .same ∙ onward-more (turn t (spanned t l)) (l .loop .g) (l .loop .inv .from-start) (within t u)
 
-search-returns-2 : (t : ℕ) → search-lts.Need-returns-2 (callees t) (search-at t) search′.Post search-Inv-loop search-μ-loop
-search-returns-2 t c =
+search-returns : (t : ℕ) → search-lts.Need-returns (callees t) (search-at t) search′.Post search-Inv-loop search-μ-loop
+search-returns t c =
     let b = c .before .before in
     let u = tried t b in
     let l = looping t u in
@@ -261,8 +234,79 @@ search-returns-2 t c =
     let s = b .past-own .result in
     let S = stage t b in
     sym
-    (come-found (turn t p) (l .loop .g) (l .loop .inv) (u .before .before .before .loop-test .taken) (take (length (a .args .members .now)) (s .chosen))
-    (sym (stage-onward t b) ∙ turn-done (searchOf t a) (a .pre .1 .0) (resumed t b) (s .chosen) (S .sized) (s .k) (c .if4 .taken) (S .begun)))
+    (come-found (turn t p) (l .loop .g) (l .loop .inv) (within t u) (take (length (a .args .members .now)) (s .chosen))
+    (sym (stage-onward t b) ∙ turn-done (searchOf t a) (ready t a) (resumed t b) (s .chosen) (S .sized) (s .k) (c .if2 .taken) (S .begun)))
+
+-- ---- The members still to come, narrowed
+
+search-narrow-members-requires : (t : ℕ) → search-lts.Need-narrow-members-requires (callees t) (search-at t) search′.Post search-Inv-loop search-μ-loop
+search-narrow-members-requires t c κs =
+    let b = c .before .before .before .before in
+    let u = tried t b in
+    let l = looping t u in
+    let p = spanned t l in
+    let a = entry t p in
+    let S = stage t b in (
+      a .pre .1 .0,
+      (
+        ready t a .laid,
+        (
+          ready t a .tuples,
+          (
+            marks t a,
+            (
+              index-below (turn t p) (l .loop .g) (l .loop .inv .from-start) (within t u),
+              others (searchOf t a) (ready t a) (a .args .k) (b .past-own .result .k) (due t a .inside) (λ j h e. omega (arith, S .forth, h .from-k)),
+            ),
+          ),
+        ),
+      ),
+    )
+
+abbrev Narrowing : ℕ → Type 0
+Narrowing t = search-lts.After-narrow-members (callees t) (search-at t) search′.Post search-Inv-loop search-μ-loop
+
+abbrev chosen : (t : ℕ) → Narrowing t → Chosen t
+chosen t n = n .before .before .before .before .before
+
+abbrev fewer : (t : ℕ) → Narrowing t → List ℕ
+fewer t n = n .narrow-members .last .1 .1 .1 .1 .1 .1 .0
+
+-- the tuple chosen, for which they are narrowed
+abbrev latest : (t : ℕ) → Narrowing t → ℕ
+latest t n = let a = asked t (chosen t n) in idAt (network (searchOf t a)) (a .args .members .now) (a .args .k) (indexOf t (tried t (chosen t n)))
+
+over : (t : ℕ) (n : Narrowing t) → Fewer (searchOf t (asked t (chosen t n))) (latest t n) (fewer t n)
+over t n =
+    let a = asked t (chosen t n) in
+    fewer-words (searchOf t a) (ready t a) (latest t n) (a .args .words .now) (fewer t n) (λ g h. refl) (n .narrow-members .ensures .1 .0) (n .narrow-members .ensures .0)
+
+latest-chosen : (t : ℕ) (n : Narrowing t) →
+    let s = chosen t n .past-own .result in
+    let a = asked t (chosen t n) in
+    List·Memᴰ (latest t n) (chosenIds (network (searchOf t a)) (a .args .members .now) (s .chosen) (s .k))
+latest-chosen t n =
+    let b = chosen t n in
+    let s = b .past-own .result in
+    let a = asked t b in
+    let x = indexOf t (tried t b) in
+    let S = stage t b in
+    let e : getD (s .chosen) (a .args .k) 0 ≡ x = S .kept (a .args .k) (omega arith) ∙ getD-set-same (a .args .chosen) (a .args .k) x 0 (omega (arith, chosen-length t a, ready t a .few, due t a .inside)) in
+    subst (λ (i : ℕ). List·Memᴰ (idAt (network (searchOf t a)) (a .args .members .now) (a .args .k) i) (chosenIds (network (searchOf t a)) (a .args .members .now) (s .chosen) (s .k))) e
+    (chosen-mem (network (searchOf t a)) (a .args .members .now) (s .chosen) (s .k) (a .args .k) (omega (arith, S .forth)))
+
+-- what there is to find among them is what there is to find onward
+narrowed-onward : (t : ℕ) (n : Narrowing t) →
+    let b = chosen t n in
+    let l = looping t (tried t b) in
+    let a = asked t b in
+    sought (onWords (searchOf t a) (fewer t n)) (b .past-own .result .k) (b .past-own .result .chosen) ≡ onward (searchOf t a) (a .args .k) (a .args .chosen) (l .loop .g)
+narrowed-onward t n =
+    let b = chosen t n in
+    let a = asked t b in
+    let s = b .past-own .result in
+    sought-narrowed (over t n) (s .k) (s .chosen) (latest-chosen t n)
+    ∙ stage-onward t b
 
 -- ---- The deeper search
 
@@ -272,92 +316,133 @@ flag resumes equal on =
     (λ w. ap (λ (b : Bool). b && equal) (w .0) ∙ sym (w .1))
     (λ w. ap (λ (b : Bool). b && equal) (w .0) ∙ sym (w .1 ∙ w .0))
 
-begun-on : (t : ℕ) (c : search-lts.Joined5 (callees t) (search-at t) search′.Post search-Inv-loop search-μ-loop) →
-    let b = c .before .before .before in
-    Begun (searchOf t (entry t (spanned t (looping t (tried t b))))) (b .past-own .result .k) (c .if5 .search) (b .past-own .result .chosen)
+abbrev Deeper : ℕ → Type 0
+Deeper t = search-lts.Joined4 (callees t) (search-at t) search′.Post search-Inv-loop search-μ-loop
+
+abbrev narrowing : (t : ℕ) → Deeper t → Narrowing t
+narrowing t c = c .before .before .before
+
+begun-on : (t : ℕ) (c : Deeper t) →
+    let n = narrowing t c in
+    let b = chosen t n in
+    Begun (onWords (searchOf t (asked t b)) (fewer t n)) (b .past-own .result .k) (c .if4 .search) (b .past-own .result .chosen)
 begun-on t c =
-    let b = c .before .before .before in
+    let n = narrowing t c in
+    let b = chosen t n in
     let u = tried t b in
-    let a = entry t (spanned t (looping t u)) in
-    let e = flag (a .args .resumes) (eqb (indexOf t u) (getD (a .args .t10) (a .args .k) 0)) (c .if5 .search) (⊎-elim (λ w. _⊎_.inl (w .0 .taken, w .1)) (λ w. _⊎_.inr (w .0 .left, w .1)) (c .if5 .came)) in
-    subst (λ (on : Bool). Begun (searchOf t a) (b .past-own .result .k) on (b .past-own .result .chosen)) e (stage t b .begun)
+    let a = asked t b in
+    let s = b .past-own .result in
+    let e = flag (a .args .resumes) (eqb (indexOf t u) (getD (a .args .t11) (a .args .k) 0)) (c .if4 .search) (⊎-elim (λ w. _⊎_.inl (w .0 .taken, w .1)) (λ w. _⊎_.inr (w .0 .left, w .1)) (c .if4 .came)) in
+    subst (λ (on : Bool). Begun (onWords (searchOf t a) (fewer t n)) (s .k) on (s .chosen)) e
+    (begun-narrowed (over t n) (s .k) (s .chosen) (latest-chosen t n) (resumed t b) (stage t b .begun))
+
+-- the seeking tuple still lives
+lives-on : (t : ℕ) (n : Narrowing t) → let a = asked t (chosen t n) in has (live (onWords (searchOf t a) (fewer t n))) (seeker (searchOf t a)) ≡ true
+lives-on t n =
+    let b = chosen t n in
+    let u = tried t b in
+    let l = looping t u in
+    let p = spanned t l in
+    let a = entry t p in
+    over t n .narrower .keeps (seeker (searchOf t a)) (lives t a)
+    (agrees-own (turn t p) (l .loop .g) (l .loop .inv .from-start) (within t u) (sym (u .fits2 .ensures) ∙ b .before .if1 .taken) (due t a .other))
 
 search-search-requires : (t : ℕ) → search-lts.Need-search-requires (callees t) (search-at t) search′.Post search-Inv-loop search-μ-loop
 search-search-requires t c κs =
-    let b = c .before .before .before in
-    let p = spanned t (looping t (tried t b)) in
-    let a = entry t p in
+    let n = narrowing t c in
+    let b = chosen t n in
+    let a = asked t b in
     let S = stage t b in (
-      omega (arith, a .pre .0, turn t p .inside, S .forth),
-      (a .pre .1 .0, (begun-on t c, (lives t a, record { inside = omega (arith, S .begun .depth, c .before .if4 .left); other = S .other }))),
+      omega (arith, a .pre .0, due t a .inside, S .forth),
+      (
+        n .narrow-members .ensures .0,
+        (
+          ready-narrowed (over t n),
+          (
+            marks t a,
+            (
+              begun-on t c,
+              (lives-on t n, record { inside = omega (arith, S .begun .depth, n .before .before .before .if2 .left); other = S .other }),
+            ),
+          ),
+        ),
+      ),
     )
 
 -- what the deeper search answers is what there is to find onward
 deeper : (t : ℕ) (c : search-lts.After-search (callees t) (search-at t) search′.Post search-Inv-loop search-μ-loop) →
-    let l = looping t (tried t (c .before .before .before .before)) in
-    let a = entry t (spanned t l) in
+    let b = chosen t (narrowing t (c .before)) in
+    let l = looping t (tried t b) in
+    let a = asked t b in
     onward (searchOf t a) (a .args .k) (a .args .chosen) (l .loop .g) ≡ answer (c .search .result .ok) (take (length (a .args .members .now)) (c .search .result .tuples))
-deeper t c = sym (c .search .ensures ∙ stage-onward t (c .before .before .before .before))
+deeper t c = sym (c .search .ensures ∙ narrowed-onward t (narrowing t (c .before)))
 
-search-returns-3 : (t : ℕ) → search-lts.Need-returns-3 (callees t) (search-at t) search′.Post search-Inv-loop search-μ-loop
-search-returns-3 t c =
-    let u = tried t (c .before .before .before .before .before) in
+search-returns-2 : (t : ℕ) → search-lts.Need-returns-2 (callees t) (search-at t) search′.Post search-Inv-loop search-μ-loop
+search-returns-2 t c =
+    let u = tried t (chosen t (narrowing t (c .before .before))) in
     let l = looping t u in
     let p = spanned t l in
     let a = entry t p in
     let ts = take (length (a .args .members .now)) (c .before .search .result .tuples) in
-    let e = ap (λ (b : Bool). answer b ts) (c .if6 .taken) in
-    e ∙ sym (come-found (turn t p) (l .loop .g) (l .loop .inv) (u .before .before .before .loop-test .taken) ts (deeper t (c .before) ∙ e))
+    let e = ap (λ (b : Bool). answer b ts) (c .if5 .taken) in
+    e ∙ sym (come-found (turn t p) (l .loop .g) (l .loop .inv) (within t u) ts (deeper t (c .before) ∙ e))
 
 -- the tuple tried leads to nothing
-nowhere : (t : ℕ) (c : search-lts.Joined2 (callees t) (search-at t) search′.Post search-Inv-loop search-μ-loop) →
-    let l = c .before .before .before in
+nowhere : (t : ℕ) (c : search-lts.Joined1 (callees t) (search-at t) search′.Post search-Inv-loop search-μ-loop) →
+    let l = looping t (c .before) in
     let a = entry t (spanned t l) in
     onward (searchOf t a) (a .args .k) (a .args .chosen) (l .loop .g) ≡ none
 nowhere t c =
-    let i = c .before .before in
-    let l = i .before in
+    let u = c .before in
+    let l = looping t u in
     let p = spanned t l in
     let a = entry t p in
     ⊎-elim
     (λ w.
-    deeper t (record { before = record { before = record { before = record { before = record { before = record { before = record { before = record { before = c .before; if2 = w .0 }; fits2 = w .1 }; if3 = w .2 }; past-own = w .3 }; tuples = w .4 }; if4 = w .5 }; if5 = w .6 }; search = w .7 })
-    ∙ ap (λ (b : Bool). answer b (take (length (a .args .members .now)) (w .7 .result .tuples))) (w .8 .left))
+    let n : Narrowing t = record { before = record { before = record { before = record { before = record { before = record { before = record { before = u; if1 = w .0 }; past-own = w .1 }; tuples = w .2 }; if2 = w .3 }; fewer = w .4 }; fewer2 = w .5 }; narrow-members = w .6 } in
+    deeper t (record { before = record { before = record { before = record { before = n; if3 = w .7 }; fewer3 = w .8 }; if4 = w .9 }; search = w .10 })
+    ∙ ap (λ (b : Bool). answer b (take (length (a .args .members .now)) (w .10 .result .tuples))) (w .11 .left))
     (⊎-elim
-    (λ w. come-clash (turn t p) (l .loop .g) (l .loop .inv .from-start) (i .loop-test .taken) (sym (w .1 .ensures) ∙ w .2 .left))
-    (λ w. come-dead (turn t p) (l .loop .g) (l .loop .inv .from-start) (i .loop-test .taken) (sym (c .before .is-live .ensures) ∙ w .left)))
-    (c .if2 .came)
+    (λ w.
+    let n : Narrowing t = record { before = record { before = record { before = record { before = record { before = record { before = record { before = u; if1 = w .0 }; past-own = w .1 }; tuples = w .2 }; if2 = w .3 }; fewer = w .4 }; fewer2 = w .5 }; narrow-members = w .6 } in
+    sym (narrowed-onward t n)
+    ∙ sought-bare (over t n) (w .1 .result .k) (w .1 .result .chosen) (n .narrow-members .ensures .1 .1 (w .7 .left)))
+    (λ w. come-clash (turn t p) (l .loop .g) (l .loop .inv .from-start) (within t u) (sym (u .fits2 .ensures) ∙ w .left)))
+    (c .if1 .came)
 
-search-add-step : (t : ℕ) → search-lts.Need-add-step (callees t) (search-at t) search′.Post search-Inv-loop search-μ-loop
-search-add-step t c =
-    let l = c .before .before .before in
-    let p = spanned t l in
-    omega (arith, walk-asks (turn t p) (l .loop .g) (come-from (turn t p) (l .loop .g) (l .loop .inv) .1) (omega arith) .2)
+-- ---- The next live id
 
-search-step-requires-2 : (t : ℕ) → search-lts.Need-step-requires-2 (callees t) (search-at t) search′.Post search-Inv-loop search-μ-loop
-search-step-requires-2 t c κs =
-    let l = c .before .before .before in
-    let o = looks t l in
+search-add-next : (t : ℕ) → search-lts.Need-add-next (callees t) (search-at t) search′.Post search-Inv-loop search-μ-loop
+search-add-next t c =
+    let l = looping t (c .before .before) in
     let p = spanned t l in
-    step-asks (turn t p) (o .looks-of .result) (o .looks-of .ensures) (l .loop .g + 1) (omega (arith, l .loop .inv .from-start)) (omega (arith, c .before .before .loop-test .taken))
+    omega (arith, walk-asks (turn t p) (l .loop .g) (come-from (turn t p) (l .loop .g) (l .loop .inv) .1) (omega (arith, within t (c .before .before))) .2)
+
+search-next-requires-2 : (t : ℕ) → search-lts.Need-next-requires-2 (callees t) (search-at t) search′.Post search-Inv-loop search-μ-loop
+search-next-requires-2 t c κs =
+    let l = looping t (c .before .before) in
+    let p = spanned t l in
+    walk-asks (turn t p) (l .loop .g + 1) (omega (arith, come-from (turn t p) (l .loop .g) (l .loop .inv) .1)) (omega (arith, within t (c .before .before)))
 
 search-loop-less : (t : ℕ) → search-lts.Need-loop-less (callees t) (search-at t) search′.Post search-Inv-loop search-μ-loop
 search-loop-less t c =
-    let i = c .before .before .before in
-    omega (arith, c .step2 .ensures .from-start, c .step2 .ensures .to-end, i .loop-test .taken)
+    let u = c .before .before .before in
+    let l = looping t u in
+    let p = spanned t l in
+    let f = nextLive-first (entry t p .args .words .now) (l .loop .g + 1) (p .span-of .result .end) (omega (arith, within t u)) in
+    omega (arith, f .from-i, f .to-end, within t u, c .next2 .ensures)
 
 search-loop-again : (t : ℕ) → search-lts.Need-loop-again (callees t) (search-at t) search′.Post search-Inv-loop search-μ-loop
 search-loop-again t c =
-    let i = c .before .before .before in
-    let l = i .before in
-    let o = looks t l in
+    let u = c .before .before .before in
+    let l = looping t u in
     let p = spanned t l in
     let a = entry t p in
-    come-ahead (turn t p) (o .looks-of .result) (o .looks-of .ensures) (l .loop .g + 1) (c .step2 .result)
-    (come-next (turn t p) (l .loop .g) (l .loop .inv) (i .loop-test .taken) (nowhere t (c .before))) (c .step2 .ensures)
+    subst (Come (searchOf t a) (a .args .k) (a .args .resumes) (a .args .chosen)) (sym (c .next2 .ensures))
+    (come-next (turn t p) (l .loop .g) (l .loop .inv) (within t u) (nowhere t (c .before .before)))
 
-search-returns-4 : (t : ℕ) → search-lts.Need-returns-4 (callees t) (search-at t) search′.Post search-Inv-loop search-μ-loop
-search-returns-4 t c = sym (come-none (turn t (spanned t (c .before))) (c .before .loop .g) (c .before .loop .inv) (c .loop-test .left))
+search-returns-3 : (t : ℕ) → search-lts.Need-returns-3 (callees t) (search-at t) search′.Post search-Inv-loop search-μ-loop
+search-returns-3 t c = sym (come-none (turn t (spanned t (c .before))) (c .before .loop .g) (c .before .loop .inv) (c .loop-test .left))
 
 pub +search-spec : {M : Type 1} → statement M
 +search-spec =
@@ -369,23 +454,19 @@ pub +search-spec : {M : Type 1} → statement M
     (search-shared-slice-read-r t)
     (search-span-of-requires t)
     (search-next-requires t)
-    (search-returns t)
-    (search-sub-looks-of t)
-    (search-looks-of-requires t)
-    (search-step-requires t)
     (search-loop-holds t)
     (search-sub-x t)
-    (search-is-live-requires t)
     (search-fits-requires t)
     (search-mul-more t)
     (search-array-write-more t)
     (search-add-past-own t)
     (search-past-own-requires t)
-    (search-returns-2 t)
+    (search-returns t)
+    (search-narrow-members-requires t)
     (search-search-requires t)
-    (search-returns-3 t)
-    (search-add-step t)
-    (search-step-requires-2 t)
+    (search-returns-2 t)
+    (search-add-next t)
+    (search-next-requires-2 t)
     (search-loop-less t)
     (search-loop-again t)
-    (search-returns-4 t)
+    (search-returns-3 t)

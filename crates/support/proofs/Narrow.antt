@@ -1,0 +1,151 @@
+-- Laws of a search whose words are narrowed for a tuple y: what is known stays known, and what there is to find stays.
+-- From what a narrowing keeps, and the laws of narrowed sets, of ids and of live words.
+use mathlib.Core.Path.{_≡_, sym, _∙_, ap, subst}
+use mathlib.Core.Bool.{Bool, true, false}
+use mathlib.Core.Option.{none}
+use mathlib.Core.List.{List, [], map, List·Memᴰ}
+use Prim.Native.Nat.{ℕ, _+_, _-_, _≤_, _<_}
+use native.Mathlib.Omega.{arith}
+use lib.ListN.{length, getD, drop, length-map, length-drop}
+use lib.Seq.{getD-drop}
+use Rattle.model.specs.Network.{size, total, firstId, idsOf, relationOf}
+use Rattle.model.specs.Agreement.{agree}
+use Rattle.model.specs.TupleSet.{has}
+use Rattle.model.specs.LiveWords.{living, isLive}
+use Rattle.model.specs.Support.{supportFrom}
+use Rattle.model.proofs.Lists.{from-mem, getD-map-in}
+use Rattle.model.proofs.TupleSet.{has-below}
+use Rattle.model.proofs.Network.{index-bounds, ids-below}
+use Rattle.model.proofs.LiveWords.{living-length, living-has}
+use Rattle.model.proofs.Search.{completion-bare}
+use Rattle.model.proofs.Narrowing.{Narrower, narrow-all, completion-narrow, supportFrom-narrow}
+use Rattle.masks.specs.Masks.{Later, Others, Narrowed, Bare}
+use Rattle.support.specs.Search.{Search, searching, network, live, seeker, Ready, chosenIds, Begun}
+use Rattle.support.proofs.Walk.{members-apart, few-tuples, member-below}
+use Rattle.support.proofs.Ends.{sought-first}
+use Rattle.support.proofs.Turn.{sought}
+
+-- the search on other words
+abbrev pub onWords : Search → List ℕ → Search
+onWords Q words =
+    searching (Q .variables) (Q .values) (Q .variableStarts) (Q .tupleStarts) (Q .valueStarts) words (Q .members) (Q .place) (Q .own) (Q .low)
+
+-- the members from k on, but the seeking tuple's own, are other relations than the member at i
+pub others : (Q : Search) → Ready Q → (i k : ℕ) → i < length (Q .members) → ((j : ℕ) → Later (Q .members) (Q .place) k j → i ≡ j → ⊥) → Others (Q .members) (Q .place) k (getD (Q .members) i 0)
+others Q R i k h apart =
+    record {
+      few = λ j l. member-below Q R j (l .inside);
+      other = λ j l e. members-apart Q R i j h (l .inside) (apart j l) (sym e);
+    }
+
+-- A search may go on over fewer words: those of its live tuples that agree with tuple y are all there.
+pub record Fewer (Q : Search) (y : ℕ) (words : List ℕ) : Type 0 where
+  pub ready : Ready Q
+  pub sized : length words ≡ 64
+  pub narrower : Narrower (network Q) y (live Q) (live (onWords Q words))
+
+-- ---- Words narrowed from the same live tuples
+
+module _ (Q : Search) (R : Ready Q) (y : ℕ) (before after : List ℕ) (same : (g : ℕ) → g < total (network Q) → isLive before g ≡ isLive (Q .words) g) (W : Narrowed (network Q) y before after) where
+  id-below : (ws : List ℕ) (g : ℕ) → has (living (total (network Q)) ws) g ≡ true → g < total (network Q)
+  id-below ws g e = subst (λ (n : ℕ). g < n) (living-length (total (network Q)) ws) (has-below (living (total (network Q)) ws) g e)
+
+  keeps : (g : ℕ) → has (live Q) g ≡ true → agree (network Q) y g ≡ true → has (live (onWords Q after)) g ≡ true
+  keeps g e a =
+      let N = network Q in
+      let b = id-below (Q .words) g e in
+      let first = firstId N (relationOf N g) in
+      let i = index-bounds N g b in
+      let is-g : first + (g - first) ≡ g = omega (arith, i .0) in
+      living-has (total N) after g b
+      ∙ subst (λ (h : ℕ). isLive after h ≡ true) is-g
+      (W .keeps (relationOf N g) (g - first) (omega (arith, i .0, i .1)) (ap (agree N y) is-g ∙ a)
+      (ap (isLive before) is-g ∙ same g b ∙ sym (living-has (total N) (Q .words) g b) ∙ e))
+
+  pub fewer-words : length after ≡ 64 → Fewer Q y after
+  fewer-words sized =
+      let n = total (network Q) in
+      record {
+        ready = R;
+        sized = sized;
+        narrower =
+            record {
+              inside = λ g e. let b = id-below after g e in living-has n (Q .words) g b ∙ sym (same g b) ∙ W .inside g (sym (living-has n after g b) ∙ e);
+              keeps = keeps;
+              itself = λ e. let b = id-below (Q .words) y e in living-has n after y b ∙ W .itself ∙ same y b ∙ sym (living-has n (Q .words) y b) ∙ e;
+            };
+      }
+
+-- ---- The search over fewer words
+
+module _ {Q : Search} {y : ℕ} {words : List ℕ} (F : Fewer Q y words) where
+  abbrev narrowed : Search
+  narrowed = onWords Q words
+
+  pub ready-narrowed : Ready narrowed
+  ready-narrowed =
+      let R = F .ready in
+      record {
+        laid = R .laid;
+        tuples = R .tuples;
+        words = rw (F .sized) (few-tuples Q R);
+        members = R .members;
+        few = R .few;
+        place = R .place;
+        own = R .own;
+        low-own = R .low-own;
+        low-within = R .low-within;
+      }
+
+  -- where a member has no live tuple left, there is nothing to find
+  pub sought-bare : (k : ℕ) (chosen : List ℕ) → Bare (network Q) (Q .members) (Q .place) k words → sought narrowed k chosen ≡ none
+  sought-bare k chosen E =
+      let N = network Q in
+      let c = Q .members in
+      let s = getD c (E .j) 0 in
+      let later = map (idsOf N) (drop k c) in
+      let long : length later ≡ length c - k = length-map (drop k c) (idsOf N) ∙ length-drop k c in
+      let is-at : k + (E .j - k) ≡ E .j = omega (arith, E .later .from-k) in
+      let is-s : getD later (E .j - k) [] ≡ idsOf N s =
+      getD-map-in (idsOf N) (drop k c) (E .j - k) 0 [] (omega (arith, length-drop k c, E .later .from-k, E .later .inside))
+      ∙ ap (idsOf N) (getD-drop k c (E .j - k) 0 ∙ ap (λ (i : ℕ). getD c i 0) is-at)
+      in
+      completion-bare N (live narrowed) (seeker Q) (Q .low) (chosenIds N c chosen k) later (E .j - k) (omega (arith, long, E .later .from-k, E .later .inside))
+      (λ x m.
+      let i : List·Memᴰ x (idsOf N s) = subst (List·Memᴰ x) is-s m in
+      let b = from-mem (firstId N s) (size N s) x i in
+      let is-x : firstId N s + (x - firstId N s) ≡ x = omega (arith, b .0) in
+      living-has (total N) words x (ids-below N s i)
+      ∙ subst (λ (h : ℕ). isLive words h ≡ false) is-x (E .dead (x - firstId N s) (omega (arith, b .0, b .1))))
+
+  -- ---- Narrowed for a tuple chosen
+
+  module _ (k : ℕ) (chosen : List ℕ) (m : List·Memᴰ y (chosenIds (network Q) (Q .members) chosen k)) where
+    pub begun-narrowed : (resumes : Bool) → Begun Q k resumes chosen → Begun narrowed k resumes chosen
+    begun-narrowed resumes B =
+        record {
+          depth = B .depth;
+          within = B .within;
+          own = B .own;
+          live = narrow-all (network Q) y (live Q) (live narrowed) (F .narrower) (chosenIds (network Q) (Q .members) chosen k) m (B .pairs) (B .live);
+          pairs = B .pairs;
+          seeker = B .seeker;
+          at-low = B .at-low;
+          past-low = B .past-low;
+        }
+
+    pub sought-narrowed : sought narrowed k chosen ≡ sought Q k chosen
+    sought-narrowed =
+        completion-narrow (network Q) y (live Q) (live narrowed) (F .narrower) (seeker Q) (Q .low) (chosenIds (network Q) (Q .members) chosen k) (map (idsOf (network Q)) (drop k (Q .members))) m
+
+  -- ---- Narrowed for the seeking tuple
+
+  module _ (is-seeker : y ≡ seeker Q) (chosen : List ℕ) where
+    pub sought-all : sought narrowed 0 chosen ≡ supportFrom (network Q) (live Q) (Q .members) (seeker Q) (Q .low)
+    sought-all =
+        sought-first narrowed chosen
+        ∙ subst (λ (g : ℕ). supportFrom (network Q) (live narrowed) (Q .members) g (Q .low) ≡ supportFrom (network Q) (live Q) (Q .members) g (Q .low)) is-seeker
+        (supportFrom-narrow (network Q) y (live Q) (live narrowed) (F .narrower) (Q .members) (Q .low))
+
+    pub seeker-narrowed : has (live Q) (seeker Q) ≡ true → has (live narrowed) (seeker Q) ≡ true
+    seeker-narrowed = subst (λ (g : ℕ). has (live Q) g ≡ true → has (live narrowed) g ≡ true) is-seeker (F .narrower .itself)

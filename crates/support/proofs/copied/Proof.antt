@@ -1,0 +1,100 @@
+-- `copied` copies the first 64 words. The loop's invariant: the words before i are copied, and noughts stand from i on.
+-- From the logic's laws of lists.
+use mathlib.Core.Path.{_≡_, refl, sym, subst, _∙_}
+use mathlib.Core.List.{List}
+use mathlib.Core.Logic.{⊎-elim}
+use Prim.Native.Nat.{ℕ, _+_, _-_, _≤_, _<_}
+use native.Mathlib.Decide.{ℕ-discrete, decLt}
+use native.Mathlib.Omega.{arith}
+use lib.ListN.{length, getD, set, length-set, replicate, getD-replicate, List·getD-eq-default}
+use lib.Seq.{getD-set-same, getD-set-other}
+use borrow.Author.Needs.{needs}
+use Rattle.support.proofs.copied.Statement.{statement}
+use Rattle.support.proofs.copied.Tie as tie
+
+-- n words are to be copied: all there are, or 64 if there are more
+abbrev Limit : List ℕ → ℕ → Type 0
+Limit words n = (n ≤ 64) × ((n ≤ length words) × ((j : ℕ) → n ≤ j → j < 64 → length words ≤ j))
+
+abbrev Inv-loop : tie.InvT-loop
+Inv-loop words n copy₀ i₀ copy i =
+    Limit words n × ((i ≤ n) × ((length copy ≡ 64) × (((j : ℕ) → j < i → getD copy j 0 ≡ getD words j 0) × ((j : ℕ) → i ≤ j → j < 64 → getD copy j 0 ≡ 0))))
+
+abbrev μ-loop : tie.MeasureT-loop
+μ-loop words n copy₀ i₀ copy i = n - i
+
+-- the word at i is copied too
+copied-one : (copy words : List ℕ) (i j : ℕ) → i < length copy → ((j : ℕ) → j < i → getD copy j 0 ≡ getD words j 0) → j < i + 1 → Dec (j ≡ i) → getD (set copy i (getD words i 0)) j 0 ≡ getD words j 0
+copied-one copy words i j h f l (yes e) = rw e (getD-set-same copy i (getD words i 0) 0 h)
+copied-one copy words i j h f l (no d) = getD-set-other copy i j (getD words i 0) 0 d ∙ f j (omega arith)
+
+loop-holds : tie.Need-loop-holds Inv-loop μ-loop
+loop-holds c = (
+  ⊎-elim
+      (λ w. (omega (arith, w .1), (omega (arith, w .0 .taken, w .1), λ j l h. absurd (omega (arith, w .1)))))
+      (λ w. (omega (arith, w .0 .left, w .1), (omega (arith, w .1), λ j l h. omega (arith, w .1))))
+      (c .if1 .came),
+  (omega arith, (refl, (λ j l. absurd (omega arith), λ j l h. getD-replicate 64 j 0 0 h))),
+)
+
+mul-copy : tie.Need-mul-copy Inv-loop μ-loop
+mul-copy c = search needs
+
+shared-slice-read-copy : tie.Need-shared-slice-read-copy Inv-loop μ-loop
+shared-slice-read-copy c = search needs
+
+mul-copy-2 : tie.Need-mul-copy-2 Inv-loop μ-loop
+mul-copy-2 c = search needs
+
+array-write-copy : tie.Need-array-write-copy Inv-loop μ-loop
+array-write-copy c = search needs
+
+add-i : tie.Need-add-i Inv-loop μ-loop
+add-i c = search needs
+
+loop-less : tie.Need-loop-less Inv-loop μ-loop
+loop-less c = search needs
+
+loop-again : tie.Need-loop-again Inv-loop μ-loop
+loop-again c =
+    let ws = c .before .before .before .before .args .words .now in
+    let l = c .before .before .loop in
+    let w = getD ws (l .i) 0 in
+    let sized = l .inv .1 .1 .0 in (
+      l .inv .0,
+      (
+        search needs,
+        (
+          length-set (l .copy) (l .i) w ∙ sized,
+          (
+            λ j h. copied-one (l .copy) ws (l .i) j (omega (arith, l .inv .0 .0)) (l .inv .1 .1 .1 .0) h (ℕ-discrete j (l .i)),
+            λ j m h. getD-set-other (l .copy) (l .i) j w 0 (λ e. omega arith) ∙ l .inv .1 .1 .1 .1 j (omega arith) h,
+          ),
+        ),
+      ),
+    )
+
+returns : tie.Need-returns Inv-loop μ-loop
+returns c = (c .before .loop .inv .1 .1 .0, λ i h. go i h (decLt i (c .before .loop .i)))
+  where
+    go : (i : ℕ) → i < 64 → Dec (i < c .before .loop .i) → getD (c .before .loop .copy) i 0 ≡ getD (c .before .before .before .args .words .now) i 0
+    go i h (yes l) = c .before .loop .inv .1 .1 .1 .0 i l
+    go i h (no d) =
+        c .before .loop .inv .1 .1 .1 .1 i (omega arith) h
+        ∙ sym (List·getD-eq-default (c .before .before .before .args .words .now) 0 (c .before .loop .inv .0 .1 .1 i (omega (arith, c .loop-test .left)) h))
+
+pub copied-spec : {M : Type 1} → statement M
+copied-spec =
+    tie.close
+    (tie.spec
+    Inv-loop
+    μ-loop
+    loop-holds
+    mul-copy
+    shared-slice-read-copy
+    mul-copy-2
+    array-write-copy
+    add-i
+    loop-less
+    loop-again
+    returns)
