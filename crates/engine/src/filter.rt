@@ -10,6 +10,7 @@ ghost use Rattle.model.specs.LiveWords.{written};
 ghost use Rattle.engine.specs.Setting.{setting, network, listed, liveIn, Sound};
 use super::blank::blank_all;
 use super::visit::visit;
+use masks::mark_all;
 use network::wide;
 use worklist::list::fill;
 use worklist::list::pair_starts;
@@ -32,6 +33,14 @@ pub fn filter(
     requires { ⌜ (let G = setting (now variables) (now values) (now «variable_starts») (now «tuple_starts») (now «value_starts») (now members) m in Sound G × ((total (network G) ≤ wordBits * length (now words)) × ((wanted ≡ needed (network G) (listed G)) × (wanted ≤ length (now numbers))))) ⌝ }
     ensures { λ _. ⌜ (let G = setting (now (variables .entry)) (now (values .entry)) (now («variable_starts» .entry)) (now («tuple_starts» .entry)) (now («value_starts» .entry)) (now (members .entry)) m in let L = filtered (network G) (listed G) (liveIn G (now (words .entry))) in (now (words .exit) ≡ written (total (network G)) L (now (words .entry))) × (now (numbers .exit) ≡ supportList (network G) (listed G) L ++ drop (needed (network G) (listed G)) (now (numbers .entry)))) ⌝ }
 {
+    let mut table = [0u64; 8192];
+    mark_all(
+        values,
+        variable_starts,
+        tuple_starts,
+        value_starts,
+        &mut table,
+    );
     let starts = pair_starts(tuple_starts, members, m);
     fill(numbers, wanted);
     let mut waiting = Queue::full(members.len() as u16);
@@ -49,6 +58,7 @@ pub fn filter(
             variable_starts,
             tuple_starts,
             value_starts,
+            &table,
             members,
             m,
             &starts,

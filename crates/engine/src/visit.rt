@@ -6,7 +6,8 @@ ghost use lib.Dec.{eqb};
 ghost use lib.ListN.{length, getD, set, replicate};
 ghost use Rattle.model.specs.Limits.{maxMembers, noSupport};
 ghost use Rattle.model.specs.TupleSet.{has};
-ghost use Rattle.engine.specs.Setting.{setting, Sound, liveIn, sizeOf, tupleId, placeOf};
+ghost use Rattle.masks.specs.Masks.{Marks};
+ghost use Rattle.engine.specs.Setting.{setting, network, Sound, liveIn, sizeOf, tupleId, placeOf};
 ghost use Rattle.engine.specs.Work.{Working, Renewed, Visited};
 use live::clear;
 use live::next;
@@ -39,6 +40,7 @@ pub fn renew(
     variable_starts: &[u16; 65],
     tuple_starts: &[u16; 65],
     value_starts: &[u16; 65],
+    table: &[u64; 8192],
     members: &[u16],
     m: u16,
     words: &mut [u64],
@@ -47,7 +49,7 @@ pub fn renew(
     x: u16,
     at: usize,
 ) -> bool
-    requires { ⌜ (let G = setting (now variables) (now values) (now «variable_starts») (now «tuple_starts») (now «value_starts») (now members) m in Sound G × (Working G (now words) (now numbers) × ((p < length (now members)) × ((x < sizeOf G p) × ((has (liveIn G (now words)) (tupleId G p x) ≡ true) × (at ≡ placeOf G p x)))))) ⌝ }
+    requires { ⌜ (let G = setting (now variables) (now values) (now «variable_starts») (now «tuple_starts») (now «value_starts») (now members) m in Sound G × (Marks (network G) (now table) × (Working G (now words) (now numbers) × ((p < length (now members)) × ((x < sizeOf G p) × ((has (liveIn G (now words)) (tupleId G p x) ≡ true) × (at ≡ placeOf G p x))))))) ⌝ }
     ensures { λ r. ⌜ Renewed (setting (now (variables .entry)) (now (values .entry)) (now («variable_starts» .entry)) (now («tuple_starts» .entry)) (now («value_starts» .entry)) (now (members .entry)) m) p x (now (words .entry)) (now (numbers .entry)) r (now (words .exit)) (now (numbers .exit)) ⌝ }
 {
     let each = wide(m);
@@ -68,6 +70,7 @@ pub fn renew(
         variable_starts,
         tuple_starts,
         value_starts,
+        table,
         words,
         &members[base..end],
         place,
@@ -92,6 +95,7 @@ pub fn visit(
     variable_starts: &[u16; 65],
     tuple_starts: &[u16; 65],
     value_starts: &[u16; 65],
+    table: &[u64; 8192],
     members: &[u16],
     m: u16,
     pair_starts: &[u16; 1024],
@@ -99,7 +103,7 @@ pub fn visit(
     numbers: &mut [u16],
     p: u16,
 ) -> Queue
-    requires { ⌜ (let G = setting (now variables) (now values) (now «variable_starts») (now «tuple_starts») (now «value_starts») (now members) m in Sound G × (Working G (now words) (now numbers) × ((p < length (now members)) × (getD (now «pair_starts») p 0 ≡ placeOf G p 0)))) ⌝ }
+    requires { ⌜ (let G = setting (now variables) (now values) (now «variable_starts») (now «tuple_starts») (now «value_starts») (now members) m in Sound G × (Marks (network G) (now table) × (Working G (now words) (now numbers) × ((p < length (now members)) × (getD (now «pair_starts») p 0 ≡ placeOf G p 0))))) ⌝ }
     ensures { λ r. ⌜ Visited (setting (now (variables .entry)) (now (values .entry)) (now («variable_starts» .entry)) (now («tuple_starts» .entry)) (now («value_starts» .entry)) (now (members .entry)) m) p (queue .words) (now (words .entry)) (now (numbers .entry)) (r .words) (now (words .exit)) (now (numbers .exit)) ⌝ }
 {
     let r = wide(members[wide(p)]);
@@ -118,6 +122,7 @@ pub fn visit(
             variable_starts,
             tuple_starts,
             value_starts,
+            table,
             members,
             m,
             words,

@@ -17,6 +17,7 @@ use Rattle.worklist.specs.Tables.{Tabled}
 use Rattle.worklist.proofs.Waiting.{Words, words-of}
 use Rattle.engine.specs.Setting.{Setting, setting, network, listed, sizeOf}
 use Rattle.engine.specs.Work.{Done}
+use Rattle.engine.proofs.Members.{starts-tuples}
 use Rattle.engine.proofs.Start.{filled-long, filled-beyond, filled-working, full-rest}
 use Rattle.engine.proofs.Steps.{shrunk-refl}
 use Rattle.engine.proofs.Turn.{Underway, weight, shrunk-length, weight-less, underway}
@@ -25,11 +26,11 @@ use Rattle.engine.proofs.filter.filter.Statement.{statement}
 use Rattle.engine.proofs.filter.filter.Tie as tie
 
 abbrev Inv-loop : tie.InvT-loop
-Inv-loop variables values variable-starts tuple-starts value-starts members m wanted words₀ numbers₀ starts waiting₀ words numbers waiting =
+Inv-loop variables values variable-starts tuple-starts value-starts members m wanted words₀ numbers₀ table starts waiting₀ words numbers waiting =
     Underway (setting variables values variable-starts tuple-starts value-starts members m) words₀ numbers₀ (waiting .words) words numbers
 
 abbrev μ-loop : tie.MeasureT-loop
-μ-loop variables values variable-starts tuple-starts value-starts members m wanted words₀ numbers₀ starts waiting₀ words numbers waiting =
+μ-loop variables values variable-starts tuple-starts value-starts members m wanted words₀ numbers₀ table starts waiting₀ words numbers waiting =
     weight (setting variables values variable-starts tuple-starts value-starts members m) (waiting .words) words
 
 -- the setting that the parameters make
@@ -40,20 +41,20 @@ given start =
 
 -- the start of the function, from the loop's test on
 abbrev entry : tie.At-loop Inv-loop μ-loop → tie.Start Inv-loop μ-loop
-entry c = c .before .before .before .before .before .before .before .before .before .before .before .before
+entry c = c .before .before .before .before .before .before .before .before .before .before .before .before .before .before
 
 -- the loop's test, from the visit on
 abbrev test : tie.After-visit Inv-loop μ-loop → tie.At-loop Inv-loop μ-loop
-test c = c .before .before .before .before .before .before .before .before
+test c = c .before .before .before .before .before .before .before .before .before
 
 -- there is room for the numbers
 room : (c : tie.Start Inv-loop μ-loop) → needed (network (given c)) (listed (given c)) ≤ length (c .args .numbers .now)
 room c = let e = c .pre .1 .1 .0 in omega (arith, c .pre .1 .1 .1)
 
 -- the numbers once they are filled
-fills : (c : tie.After-fill Inv-loop μ-loop) → (let start = c .before .before .before .before .before .before .before .before in let n = needed (network (given start)) (listed (given start)) in c .fill .last .0 ≡ replicate n noSupport ++ drop n (start .args .numbers .now))
+fills : (c : tie.After-fill Inv-loop μ-loop) → (let start = c .before .before .before .before .before .before .before .before .before .before in let n = needed (network (given start)) (listed (given start)) in c .fill .last .0 ≡ replicate n noSupport ++ drop n (start .args .numbers .now))
 fills c =
-    let start = c .before .before .before .before .before .before .before .before in
+    let start = c .before .before .before .before .before .before .before .before .before .before in
     c .fill .ensures ∙ ap (λ (n : ℕ). replicate n noSupport ++ drop n (start .args .numbers .now)) (start .pre .1 .1 .0)
 
 -- where a pair's numbers begin
@@ -64,21 +65,27 @@ starts-at c = c .before .before .before .before .before .before .pair-starts .en
 pair-below : (c : tie.Else1 Inv-loop μ-loop) → c .before .before .take .result .pair < length (entry (c .before .before .before) .args .members .now)
 pair-below c = omega arith
 
+mark-all-requires : tie.Need-mark-all-requires Inv-loop μ-loop
+mark-all-requires c κs =
+    let start = c .before .before .before .before .before .before in
+    let sound = start .pre .0 in
+    (search needs, (start .args .variables .now, (sound .laid, starts-tuples (given start) sound)))
+
 pair-starts-requires : tie.Need-pair-starts-requires Inv-loop μ-loop
-pair-starts-requires c κs = let start = c .before .before .before .before .before in (network (given start), start .pre .0 .tables)
+pair-starts-requires c κs = let start = c .before .before .before .before .before .before .before in (network (given start), start .pre .0 .tables)
 
 fill-requires : tie.Need-fill-requires Inv-loop μ-loop
-fill-requires c κs = c .before .before .before .before .before .before .before .pre .1 .1 .1
+fill-requires c κs = c .before .before .before .before .before .before .before .before .before .pre .1 .1 .1
 
 cast-full : tie.Need-cast-full Inv-loop μ-loop
-cast-full c = omega (arith, c .before .before .before .before .before .before .before .before .before .before .pre .0 .tables .pairs .few)
+cast-full c = omega (arith, c .before .before .before .before .before .before .before .before .before .before .before .before .pre .0 .tables .pairs .few)
 
 full-requires : tie.Need-full-requires Inv-loop μ-loop
-full-requires c κs = omega (arith, c .before .before .before .before .before .before .before .before .before .before .pre .0 .tables .pairs .few)
+full-requires c κs = omega (arith, c .before .before .before .before .before .before .before .before .before .before .before .before .pre .0 .tables .pairs .few)
 
 loop-holds : tie.Need-loop-holds Inv-loop μ-loop
 loop-holds c =
-    let start = c .before .before .before .before .before .before .before .before .before .before .before in
+    let start = c .before .before .before .before .before .before .before .before .before .before .before .before .before in
     let a = start .args in
     let G = given start in
     let fill = c .before .before .before .fill in
@@ -86,7 +93,7 @@ loop-holds c =
     record {
       sixteen = words-of (c .full .result .words) (search needs) f;
       working = filled-working G (start .pre .0) (a .words .now) (a .numbers .now) (fill .last .0) (start .pre .1 .0) (room start) (fills (c .before .before .before));
-      shrunk = shrunk-refl G (start .pre .0) (a .words .now) (λ i h. (c .before .before .before .before .before .before .before .slice-known .given i) .fits);
+      shrunk = shrunk-refl G (start .pre .0) (a .words .now) (λ i h. (c .before .before .before .before .before .before .before .before .before .slice-known .given i) .fits);
       beyond = refl;
       long = refl;
       rest = full-rest G (start .pre .0) (c .full .result .words) (a .words .now) (fill .last .0) (length (a .members .now)) refl (c .full .ensures);
@@ -106,12 +113,12 @@ visit-words c =
 
 visit-requires : tie.Need-visit-requires Inv-loop μ-loop
 visit-requires c κs =
-    let t = c .before .before .before .before .before .before .before in
+    let t = c .before .before .before .before .before .before .before .before in
     let start = entry t in
     let a = start .args in
-    let below = pair-below (c .before .before .before .before) in (
+    let below = pair-below (c .before .before .before .before .before) in (
       start .pre .0,
-      (t .loop .inv .working, (below, starts-at t (network (given start)) (start .pre .0 .tables) (c .before .before .before .before .before .before .take .result .pair) below ∙ omega (arith, zero-mul (a .m)))),
+      (t .before .before .before .before .before .before .before .mark-all .ensures .1 (a .variables .now), (t .loop .inv .working, (below, starts-at t (network (given start)) (start .pre .0 .tables) (c .before .before .before .before .before .before .before .take .result .pair) below ∙ omega (arith, zero-mul (a .m))))),
     )
 
 loop-less : tie.Need-loop-less Inv-loop μ-loop
@@ -119,18 +126,18 @@ loop-less c =
     let v = c .before .before .before .before in
     let t = test v in
     let start = entry t in
-    let take = v .before .before .before .before .before .before .before .take in
-    weight-less (given start) (start .pre .0) (t .loop .waiting .words) (t .loop .inv .sixteen) (take .result .pair) (take .ensures .0) (pair-below (v .before .before .before .before .before)) (take .result .rest .words) (take .ensures .1)
-    (start .args .words .now) (start .args .numbers .now) (t .loop .words) (t .loop .numbers) (v .visit .result .words) (v .visit .last .1 .1 .1 .1 .1 .1 .1 .1 .1 .0) (v .visit .last .1 .1 .1 .1 .1 .1 .1 .1 .1 .1 .0) (v .visit .ensures)
+    let take = v .before .before .before .before .before .before .before .before .take in
+    weight-less (given start) (start .pre .0) (t .loop .waiting .words) (t .loop .inv .sixteen) (take .result .pair) (take .ensures .0) (pair-below (v .before .before .before .before .before .before)) (take .result .rest .words) (take .ensures .1)
+    (start .args .words .now) (start .args .numbers .now) (t .loop .words) (t .loop .numbers) (v .visit .result .words) (v .visit .last .1 .1 .1 .1 .1 .1 .1 .1 .1 .1 .0) (v .visit .last .1 .1 .1 .1 .1 .1 .1 .1 .1 .1 .1 .0) (v .visit .ensures)
 
 loop-again : tie.Need-loop-again Inv-loop μ-loop
 loop-again c =
     let v = c .before .before .before .before in
     let t = test v in
     let start = entry t in
-    let take = v .before .before .before .before .before .before .before .take in
-    underway (given start) (start .pre .0) (t .loop .waiting .words) (t .loop .inv .sixteen) (take .result .pair) (take .ensures .0) (pair-below (v .before .before .before .before .before)) (take .result .rest .words) (take .ensures .1)
-    (start .args .words .now) (t .before .before .before .before .fill .last .0) (t .loop .words) (t .loop .numbers) (v .visit .result .words) (v .visit .last .1 .1 .1 .1 .1 .1 .1 .1 .1 .0) (v .visit .last .1 .1 .1 .1 .1 .1 .1 .1 .1 .1 .0) (v .visit .ensures)
+    let take = v .before .before .before .before .before .before .before .before .take in
+    underway (given start) (start .pre .0) (t .loop .waiting .words) (t .loop .inv .sixteen) (take .result .pair) (take .ensures .0) (pair-below (v .before .before .before .before .before .before)) (take .result .rest .words) (take .ensures .1)
+    (start .args .words .now) (t .before .before .before .before .fill .last .0) (t .loop .words) (t .loop .numbers) (v .visit .result .words) (v .visit .last .1 .1 .1 .1 .1 .1 .1 .1 .1 .1 .0) (v .visit .last .1 .1 .1 .1 .1 .1 .1 .1 .1 .1 .1 .0) (v .visit .ensures)
     (visit-words v) (t .loop .inv)
 
 blank-all-requires : tie.Need-blank-all-requires Inv-loop μ-loop
@@ -187,6 +194,7 @@ filter-spec =
     (tie.spec
     Inv-loop
     μ-loop
+    mark-all-requires
     pair-starts-requires
     fill-requires
     cast-full

@@ -33,23 +33,23 @@ module _ (a : tie.Start) where
   sound = a .pre .0
 
   abbrev in-members : a .args .p < length (a .args .members .now)
-  in-members = a .pre .1 .1 .0
+  in-members = a .pre .1 .1 .1 .0
 
   abbrev in-size : a .args .x < sizeOf G (a .args .p)
-  in-size = a .pre .1 .1 .1 .0
+  in-size = a .pre .1 .1 .1 .1 .0
 
   abbrev seeker : Seeker G (a .args .words .now) (a .args .numbers .now) (a .args .p) (a .args .x)
   seeker =
       record {
         sound = sound;
-        working = a .pre .1 .0;
+        working = a .pre .1 .1 .0;
         pair = in-members;
         index = in-size;
-        lives = a .pre .1 .1 .1 .1 .0;
+        lives = a .pre .1 .1 .1 .1 .1 .0;
       }
 
   abbrev is-at : a .args .at ≡ placeOf G (a .args .p) (a .args .x)
-  is-at = a .pre .1 .1 .1 .1 .1
+  is-at = a .pre .1 .1 .1 .1 .1 .1
 
   inside : a .args .at + a .args .m ≤ length (a .args .numbers .now)
   inside = omega (arith, is-at, held-inside seeker)
@@ -228,8 +228,7 @@ first-support-requires c κs =
     let b = c .before .before in
     let w = b .before .before .before .before in
     let a = entry w in
-    subst Ready (sym (search-is b))
-    (ready (seeker a))
+    (subst Ready (sym (search-is b)) (ready (seeker a)), a .pre .1 .0)
 
 store-requires : tie.Need-store-requires
 store-requires c κs =

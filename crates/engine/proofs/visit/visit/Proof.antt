@@ -21,11 +21,11 @@ use Rattle.engine.proofs.visit.visit.Statement.{statement}
 use Rattle.engine.proofs.visit.visit.Tie as tie
 
 abbrev Inv-loop : tie.InvT-loop
-Inv-loop variables values variable-starts tuple-starts value-starts members m pair-starts words₀ numbers₀ p r first end start waiting₀ shrunk₀ g₀ words numbers waiting shrunk g =
+Inv-loop variables values variable-starts tuple-starts value-starts table members m pair-starts words₀ numbers₀ p r first end start waiting₀ shrunk₀ g₀ words numbers waiting shrunk g =
     Come (setting variables values variable-starts tuple-starts value-starts members m) p first end (waiting₀ .words) words₀ numbers₀ (waiting .words) words numbers shrunk g
 
 abbrev μ-loop : tie.MeasureT-loop
-μ-loop variables values variable-starts tuple-starts value-starts members m pair-starts words₀ numbers₀ p r first end start waiting₀ shrunk₀ g₀ words numbers waiting shrunk g = end - g
+μ-loop variables values variable-starts tuple-starts value-starts table members m pair-starts words₀ numbers₀ p r first end start waiting₀ shrunk₀ g₀ words numbers waiting shrunk g = end - g
 
 -- ---- What it is called on
 
@@ -37,10 +37,10 @@ module _ (a : tie.Start Inv-loop μ-loop) where
   sound = a .pre .0
 
   abbrev work : Working G (a .args .words .now) (a .args .numbers .now)
-  work = a .pre .1 .0
+  work = a .pre .1 .1 .0
 
   abbrev in-members : a .args .p < length (a .args .members .now)
-  in-members = a .pre .1 .1 .0
+  in-members = a .pre .1 .1 .1 .0
 
 abbrev found : tie.After-wide2 Inv-loop μ-loop → tie.Start Inv-loop μ-loop
 found c = c .before .before .before .before .before .before .before .before
@@ -68,7 +68,7 @@ start-is c =
     let a = entry c in
     c .wide4 .ensures .0
     ∙ ap (λ (q : ℕ). getD (a .args .pair-starts .now) q 0) (c .before .before .wide3 .ensures .0)
-    ∙ a .pre .1 .1 .1
+    ∙ a .pre .1 .1 .1 .1
 
 abbrev first : tie.After-wide4 Inv-loop μ-loop → ℕ
 first c = getD (entry c .args .tuple-starts .now) (c .before .before .before .before .before .wide2 .result) 0
@@ -104,10 +104,10 @@ abbrev turning : tie.After-renew Inv-loop μ-loop → tie.In-loop Inv-loop μ-lo
 turning c = c .before .before .before .before .before
 
 abbrev words-after : tie.After-renew Inv-loop μ-loop → List ℕ
-words-after c = c .renew .last .1 .1 .1 .1 .1 .1 .1 .0
+words-after c = c .renew .last .1 .1 .1 .1 .1 .1 .1 .1 .0
 
 abbrev numbers-after : tie.After-renew Inv-loop μ-loop → List ℕ
-numbers-after c = c .renew .last .1 .1 .1 .1 .1 .1 .1 .1 .0
+numbers-after c = c .renew .last .1 .1 .1 .1 .1 .1 .1 .1 .1 .0
 
 -- the visit under way, once tuple g is done
 abbrev Turned : tie.After-renew Inv-loop μ-loop → Queue → Bool → Type 0
@@ -237,22 +237,9 @@ renew-requires c κs =
     let i = w .before .before in
     let b = begun i in
     let a = entry b in
-    let l = i .before .loop in (
-      sound a,
-      (
-        l .inv .going .working,
-        (
-          in-members a,
-          (
-            index-inside (row b) (l .inv) (i .loop-test .taken),
-            (
-              index-lives (row b) (l .inv) (i .loop-test .taken),
-              place-is w,
-            ),
-          ),
-        ),
-      ),
-    )
+    let l = i .before .loop in
+    let lives = index-lives (row b) (l .inv) (i .loop-test .taken) in
+    (sound a, (a .pre .1 .0, (l .inv .going .working, (in-members a, (index-inside (row b) (l .inv) (i .loop-test .taken), (lives, place-is w))))))
 
 requeue-requires : tie.Need-requeue-requires Inv-loop μ-loop
 requeue-requires c κs =
