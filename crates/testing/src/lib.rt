@@ -6,12 +6,14 @@ ghost use Rattle.model.specs.Lists.{any};
 ghost use Rattle.model.specs.Support.{candidates, isSupport};
 ghost use Rattle.model.specs.Consistency.{isConsistent};
 ghost use Rattle.model.specs.Reply.{verdictNumbers, testReply};
+ghost use Rattle.masks.specs.Masks.{Marks};
 ghost use Rattle.support.specs.Search.{seeker, Ready};
 ghost use Rattle.support.specs.Search as search;
 ghost use Rattle.calls.specs.Checks.{instanceOf};
 ghost use Rattle.testing.specs.Setting.{setting, network, live, listed, Sound, pairConsistent, searchIn};
 use calls::checks::test_checked;
 use live::next;
+use masks::mark_all;
 use model::Verdict;
 use network::Shape;
 use network::tables::offsets;
@@ -25,12 +27,13 @@ fn has_support(
     variable_starts: &[u16; 65],
     tuple_starts: &[u16; 65],
     value_starts: &[u16; 65],
+    table: &[u64; 8192],
     words: &[u64],
     members: &[u16],
     place: usize,
     own: u16,
 ) -> bool
-    requires { ⌜ Ready (searchIn (now variables) (now values) (now «variable_starts») (now «tuple_starts») (now «value_starts») (now words) (now members) place own) ⌝ }
+    requires { ⌜ (let Q = searchIn (now variables) (now values) (now «variable_starts») (now «tuple_starts») (now «value_starts») (now words) (now members) place own in Ready Q × Marks (search.network Q) (now table)) ⌝ }
     ensures { λ b. ⌜ (let Q = searchIn (now (variables .entry)) (now (values .entry)) (now («variable_starts» .entry)) (now («tuple_starts» .entry)) (now («value_starts» .entry)) (now (words .entry)) (now (members .entry)) place own in b ≡ any (isSupport (search.network Q) (search.live Q) (seeker Q)) (candidates (search.network Q) (now (members .entry)))) ⌝ }
 {
     let mut low = [0u16; 4];
@@ -41,6 +44,7 @@ fn has_support(
         variable_starts,
         tuple_starts,
         value_starts,
+        table,
         words,
         members,
         place,
@@ -57,12 +61,13 @@ fn pair_supported(
     variable_starts: &[u16; 65],
     tuple_starts: &[u16; 65],
     value_starts: &[u16; 65],
+    table: &[u64; 8192],
     words: &[u64],
     members: &[u16],
     m: usize,
     p: usize,
 ) -> bool
-    requires { ⌜ Sound (setting (now variables) (now values) (now «variable_starts») (now «tuple_starts») (now «value_starts») (now words) (now members) m) × (p < length (now members)) ⌝ }
+    requires { ⌜ (let G = setting (now variables) (now values) (now «variable_starts») (now «tuple_starts») (now «value_starts») (now words) (now members) m in Sound G × (Marks (network G) (now table) × (p < length (now members)))) ⌝ }
     ensures { λ b. ⌜ b ≡ pairConsistent (setting (now (variables .entry)) (now (values .entry)) (now («variable_starts» .entry)) (now («tuple_starts» .entry)) (now («value_starts» .entry)) (now (words .entry)) (now (members .entry)) m) p ⌝ }
 {
     let base = p / m * m;
@@ -78,6 +83,7 @@ fn pair_supported(
             variable_starts,
             tuple_starts,
             value_starts,
+            table,
             words,
             &members[base..stop],
             p % m,
@@ -104,6 +110,14 @@ fn all_supported(
     requires { ⌜ Sound (setting (now variables) (now values) (now «variable_starts») (now «tuple_starts») (now «value_starts») (now words) (now members) m) ⌝ }
     ensures { λ b. ⌜ (let G = setting (now (variables .entry)) (now (values .entry)) (now («variable_starts» .entry)) (now («tuple_starts» .entry)) (now («value_starts» .entry)) (now (words .entry)) (now (members .entry)) m in b ≡ isConsistent (network G) (listed G) (live G)) ⌝ }
 {
+    let mut table = [0u64; 8192];
+    mark_all(
+        values,
+        variable_starts,
+        tuple_starts,
+        value_starts,
+        &mut table,
+    );
     let mut p = 0;
     while p < members.len() {
         if !pair_supported(
@@ -112,6 +126,7 @@ fn all_supported(
             variable_starts,
             tuple_starts,
             value_starts,
+            &table,
             words,
             members,
             m,

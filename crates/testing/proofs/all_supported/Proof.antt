@@ -14,29 +14,37 @@ use Rattle.testing.proofs.all_supported.Statement.{statement}
 use Rattle.testing.proofs.all_supported.Tie as tie
 
 abbrev Inv-loop : tie.InvT-loop
-Inv-loop variables values variable-starts tuple-starts value-starts words members m p₀ p =
+Inv-loop variables values variable-starts tuple-starts value-starts words members m table p₀ p =
     ((q : ℕ) → q < p → pairConsistent (setting variables values variable-starts tuple-starts value-starts words members m) q ≡ true)
     × (p ≤ length members)
 
 abbrev μ-loop : tie.MeasureT-loop
-μ-loop variables values variable-starts tuple-starts value-starts words members m p₀ p = length members - p
+μ-loop variables values variable-starts tuple-starts value-starts words members m table p₀ p = length members - p
 
 abbrev given : tie.Start Inv-loop μ-loop → Setting
 given a =
     setting (a .args .variables .now) (a .args .values .now) (a .args .variable-starts .now) (a .args .tuple-starts .now) (a .args .value-starts .now) (a .args .words .now) (a .args .members .now) (a .args .m)
 
 abbrev entry : tie.At-loop Inv-loop μ-loop → tie.Start Inv-loop μ-loop
-entry c = c .before .before .before .before .before
+entry c = c .before .before .before .before .before .before .before
+
+mark-all-requires : tie.Need-mark-all-requires Inv-loop μ-loop
+mark-all-requires c κs =
+    let a = c .before .before .before .before .before in
+    (search needs, (a .args .variables .now, (a .pre .laid, a .pre .tuples)))
 
 loop-holds : tie.Need-loop-holds Inv-loop μ-loop
 loop-holds c = ((λ q h. absurd (omega arith)), search needs)
 
 pair-supported-requires : tie.Need-pair-supported-requires Inv-loop μ-loop
-pair-supported-requires c κs = (entry (c .before) .pre, c .loop-test .taken)
+pair-supported-requires c κs =
+    let turn = c .before in
+    let a = entry (turn .before) in
+    (a .pre, (turn .before .before .mark-all .ensures .1 (a .args .variables .now), turn .loop-test .taken))
 
 returns : tie.Need-returns Inv-loop μ-loop
 returns c =
-    let turn = c .before .before in
+    let turn = c .before .before .before in
     let a = entry (turn .before) in
     not-consistent (given a) (a .pre) (turn .before .loop .p) (turn .loop-test .taken) (sym (c .before .pair-supported .ensures) ∙ not-true _ (c .if1 .taken))
 
@@ -48,7 +56,7 @@ loop-less c = search needs
 
 loop-again : tie.Need-loop-again Inv-loop μ-loop
 loop-again c =
-    let turn = c .before .before in
+    let turn = c .before .before .before in
     (below-more _ _ (turn .before .loop .inv .0) (sym (c .before .pair-supported .ensures) ∙ not-false _ (c .if1 .left)), search needs)
 
 returns-2 : tie.Need-returns-2 Inv-loop μ-loop
@@ -63,6 +71,7 @@ all-supported-spec =
     (tie.spec
     Inv-loop
     μ-loop
+    mark-all-requires
     loop-holds
     pair-supported-requires
     returns

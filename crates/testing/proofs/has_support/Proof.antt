@@ -24,7 +24,7 @@ array-write-low : tie.Need-array-write-low
 array-write-low c = search needs
 
 first-support-requires : tie.Need-first-support-requires
-first-support-requires c κs = search needs
+first-support-requires c κs = c .before .before .before .before .pre
 
 returns : tie.Need-returns
 returns c =
@@ -34,8 +34,8 @@ returns c =
     let N = network Q in
     supportFrom-any N (live Q) (seeker Q) (lowest (a .args .place) (a .args .own)) members
     (start-lowest N (live Q) (seeker Q) (lowest (a .args .place) (a .args .own)) members (a .args .place) (a .args .own)
-    (and-right (all (λ r. ltb r (length (N .relations))) members) (pairwise ltb members) (a .pre .members))
-    (a .pre .place) (a .pre .own) refl (a .pre .low-own) (lowest-other (a .args .place) (a .args .own)))
+    (and-right (all (λ r. ltb r (length (N .relations))) members) (pairwise ltb members) (a .pre .0 .members))
+    (a .pre .0 .place) (a .pre .0 .own) refl (a .pre .0 .low-own) (lowest-other (a .args .place) (a .args .own)))
     (c .first-support .result .ok) (take (length members) (c .first-support .result .tuples)) (c .first-support .ensures)
 
 pub has-support-spec : {M : Type 1} → statement M
