@@ -10,7 +10,7 @@ use native.Mathlib.Decide.{ℕ-discrete}
 use native.Mathlib.Omega.{arith}
 use lib.Dec.{eqb}
 use lib.ListN.{length, getD, take, drop, set, replicate, length-map, length-drop, getD-replicate, List·getD-append}
-use lib.Seq.{length-take-le, take-all, take-at, getD-set-same, getD-set-other}
+use lib.Seq.{length-take-le, take-all, take-at, getD-take, getD-drop, getD-set-same, getD-set-other}
 use borrow.Author.Tests.{eq-eqb, ne-eqb}
 use Rattle.model.specs.Limits.{maxMembers, noSupport}
 use Rattle.model.specs.Lists.{from, all, earlier}
@@ -72,6 +72,16 @@ module _ {G : Setting} {words numbers : List ℕ} {p x : ℕ} (A : Seeker G word
   loaded-at : (j : ℕ) → j < G .m → getD loaded j 0 ≡ getD had j 0
   loaded-at j l = List·getD-append had (replicate (maxMembers - G .m) 0) 0 j (omega (arith, held-length))
 
+  -- the first of them, in the list
+  abbrev pub lead : ℕ
+  lead = getD numbers (placeOf G p x) 0
+
+  lead-held : lead ≡ getD had 0 0
+  lead-held =
+      let e : placeOf G p x ≡ placeOf G p x + 0 = omega arith in
+      ap (λ (i : ℕ). getD numbers i 0) e
+      ∙ sym (getD-take (G .m) (drop (placeOf G p x) numbers) 0 0 (m-positive G (A .sound)) ∙ getD-drop (placeOf G p x) numbers 0 0)
+
   bounded : Bound G S c g had
   bounded = A .working .bounds p x (A .pair) (A .index) (A .lives)
 
@@ -97,21 +107,21 @@ module _ {G : Setting} {words numbers : List ℕ} {p x : ℕ} (A : Seeker G word
     id-below j l = ids-below N (getD c j 0) (candidates-at N c (K .candidate) j (in-range j l) .1)
 
     -- the first is an index
-    some-first : getD loaded 0 0 ≡ noSupport → ⊥
+    some-first : lead ≡ noSupport → ⊥
     some-first e =
         let l = m-positive G (A .sound) in
-        omega (arith, index-is 0 l, candidates-id N c (K .candidate) 0 (in-range 0 l), id-below 0 l, few-tuples G (A .sound))
+        omega (arith, lead-held, loaded-at 0 l, index-is 0 l, candidates-id N c (K .candidate) 0 (in-range 0 l), id-below 0 l, few-tuples G (A .sound))
 
   -- where the first number is not 65,535
-  candidate : (getD loaded 0 0 ≡ noSupport → ⊥) → Candidate G S c g had
+  candidate : (lead ≡ noSupport → ⊥) → Candidate G S c g had
   candidate d =
       ⊎-elim
-      (λ e. absurd (d (loaded-at 0 (m-positive G (A .sound)) ∙ ap (λ (is : List ℕ). getD is 0 0) e ∙ getD-replicate (G .m) 0 noSupport 0 (m-positive G (A .sound)))))
+      (λ e. absurd (d (lead-held ∙ ap (λ (is : List ℕ). getD is 0 0) e ∙ getD-replicate (G .m) 0 noSupport 0 (m-positive G (A .sound)))))
       (λ K. K)
       bounded
 
   -- what `all_live` asks
-  pub chosen : (getD loaded 0 0 ≡ noSupport → ⊥) → Chosen words (G .tupleStarts) (G .members) start (G .m) loaded
+  pub chosen : (lead ≡ noSupport → ⊥) → Chosen words (G .tupleStarts) (G .members) start (G .m) loaded
   chosen d =
       let K = candidate d in
       let b = base-within G (A .sound) p (A .pair) in
@@ -143,7 +153,7 @@ module _ {G : Setting} {words numbers : List ℕ} {p x : ℕ} (A : Seeker G word
       living-has (total N) words (ids j) (omega (arith, id-is K j l, id-below K j l)) ∙ all-at (λ (j : ℕ). isLive words (ids j)) (from 0 (G .m)) e m)
 
   -- they live: they are the first support, and the list stays
-  pub renewed-held : (d : getD loaded 0 0 ≡ noSupport → ⊥) → all (λ (j : ℕ). isLive words (chosenId (G .tupleStarts) (G .members) start loaded j)) (from 0 (G .m)) ≡ true → Renewed G p x words numbers true words numbers
+  pub renewed-held : (d : lead ≡ noSupport → ⊥) → all (λ (j : ℕ). isLive words (chosenId (G .tupleStarts) (G .members) start loaded j)) (from 0 (G .m)) ≡ true → Renewed G p x words numbers true words numbers
   renewed-held d e =
       let K = candidate d in
       let s = isSupport-intro N S g (K .tuples) (K .own) (tuples-live K e) (K .agreeing) in
@@ -162,15 +172,26 @@ module _ {G : Setting} {words numbers : List ℕ} {p x : ℕ} (A : Seeker G word
 
   -- ---- The bound
 
+  -- noughts, but for the tuple itself
+  abbrev pub lowest : List ℕ
+  lowest = set (replicate maxMembers 0) (p % G .m) x
+
   abbrev pub lowOf : List ℕ
-  lowOf = cond (eqb (getD loaded 0 0) noSupport) (set (replicate maxMembers 0) (p % G .m) x) loaded
+  lowOf = cond (eqb lead noSupport) lowest loaded
+
+  -- without a support held, and with one
+  pub low-none : lead ≡ noSupport → lowOf ≡ lowest
+  low-none e = ap (λ (b : Bool). cond b lowest loaded) (eq-eqb lead noSupport e)
+
+  pub low-held : (lead ≡ noSupport → ⊥) → lowOf ≡ loaded
+  low-held d = ap (λ (b : Bool). cond b lowest loaded) (ne-eqb lead noSupport d)
 
   -- the two cases of it
-  bound-cases : ((lowOf ≡ set (replicate maxMembers 0) (p % G .m) x)) ⊎ (Candidate G S c g had × (lowOf ≡ loaded))
+  bound-cases : (lowOf ≡ lowest) ⊎ (Candidate G S c g had × (lowOf ≡ loaded))
   bound-cases =
       ⊎-elim
-      (λ e. inl (ap (λ (b : Bool). cond b (set (replicate maxMembers 0) (p % G .m) x) loaded) (eq-eqb (getD loaded 0 0) noSupport (loaded-at 0 (m-positive G (A .sound)) ∙ ap (λ (is : List ℕ). getD is 0 0) e ∙ getD-replicate (G .m) 0 noSupport 0 (m-positive G (A .sound))))))
-      (λ K. inr (K, ap (λ (b : Bool). cond b (set (replicate maxMembers 0) (p % G .m) x) loaded) (ne-eqb (getD loaded 0 0) noSupport (some-first K))))
+      (λ e. inl (low-none (lead-held ∙ ap (λ (is : List ℕ). getD is 0 0) e ∙ getD-replicate (G .m) 0 noSupport 0 (m-positive G (A .sound)))))
+      (λ K. inr (K, low-held (some-first K)))
       bounded
 
   -- no support is earlier
@@ -210,7 +231,7 @@ module _ {G : Setting} {words numbers : List ℕ} {p x : ℕ} (A : Seeker G word
       (λ w. omega (arith, ap (λ (is : List ℕ). getD is j 0) (w .1), index-within (w .0) j l))
       bound-cases
     where
-      at : lowOf ≡ set (replicate maxMembers 0) (p % G .m) x → Dec (j ≡ p % G .m) → getD lowOf j 0 ≤ size N (getD c j 0)
+      at : lowOf ≡ lowest → Dec (j ≡ p % G .m) → getD lowOf j 0 ≤ size N (getD c j 0)
       at e (yes q) =
           let o = low-own in
           subst (λ (i : ℕ). getD lowOf i 0 ≤ size N (getD c i 0)) (sym q) (omega (arith, size-is))

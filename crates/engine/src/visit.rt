@@ -1,10 +1,8 @@
 // A visit of one pair of combination and member: each live tuple of the member gets its first support, or is removed.
 ghost use mathlib.Core.Path.{_≡_};
-ghost use mathlib.Core.Bool.{true, cond};
+ghost use mathlib.Core.Bool.{true};
 ghost use Prim.Native.Nat.{ℕ, _<_};
-ghost use lib.Dec.{eqb};
-ghost use lib.ListN.{length, getD, set, replicate};
-ghost use Rattle.model.specs.Limits.{maxMembers, noSupport};
+ghost use lib.ListN.{length, getD};
 ghost use Rattle.model.specs.TupleSet.{has};
 ghost use Rattle.masks.specs.Masks.{Marks};
 ghost use Rattle.engine.specs.Setting.{setting, network, Sound, liveIn, sizeOf, tupleId, placeOf};
@@ -19,19 +17,6 @@ use worklist::list::load;
 use worklist::list::store;
 use worklist::queue::Queue;
 use worklist::queue::requeue;
-
-// The bound from which the search for tuple x of the member at `place` starts: what was held, or the first candidate.
-fn bound_of(held: [u16; 4], place: usize, x: u16) -> [u16; 4]
-    requires { ⌜ place < maxMembers ⌝ }
-    ensures { λ r. ⌜ r ≡ cond (eqb (getD held 0 0) noSupport) (set (replicate maxMembers 0) place x) held ⌝ }
-{
-    if held[0] != NO_SUPPORT {
-        return held;
-    }
-    let mut low = [0u16; 4];
-    low[place] = x;
-    low
-}
 
 // Whether tuple x of pair p's member has a support: its first one is in the list then, and otherwise the tuple is dead.
 pub fn renew(
@@ -56,14 +41,16 @@ pub fn renew(
     let pair = wide(p);
     let base = pair / each * each;
     let end = base + each;
-    let held = load(numbers, at, each);
-    if held[0] != NO_SUPPORT {
-        if all_live(words, tuple_starts, members, base, each, held) {
+    let place = pair % each;
+    let mut low = [0u16; 4];
+    if numbers[at] != NO_SUPPORT {
+        low = load(numbers, at, each);
+        if all_live(words, tuple_starts, members, base, each, low) {
             return true;
         }
+    } else {
+        low[place] = x;
     }
-    let place = pair % each;
-    let low = bound_of(held, place, x);
     let found = first_support(
         variables,
         values,

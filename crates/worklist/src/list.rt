@@ -55,7 +55,11 @@ pub fn blank(numbers: &mut [u16], at: usize, m: usize)
     requires { ⌜ (at + m ≤ length (now numbers)) × (m ≤ maxMembers) ⌝ }
     ensures { λ _. ⌜ now (numbers .exit) ≡ take at (now (numbers .entry)) ++ replicate m noSupport ++ drop (at + m) (now (numbers .entry)) ⌝ }
 {
-    store(numbers, at, m, [NO_SUPPORT; 4]);
+    let mut j = 0;
+    while j < m {
+        numbers[at + j] = NO_SUPPORT;
+        j += 1;
+    }
 }
 
 // Where each pair's numbers begin, in the support list of any network that the tables belong to.

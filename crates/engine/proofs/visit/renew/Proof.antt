@@ -1,12 +1,12 @@
 -- `visit::renew` meets its contract: what is held lives and is the first support, or it is the bound from which the search starts.
 -- From the laws of the numbers held for a tuple, and the contracts of the functions called.
 use mathlib.Core.Path.{_≡_, sym, _∙_, ap, ap₂, subst}
-use mathlib.Core.Bool.{Bool, true, false, cond}
+use mathlib.Core.Bool.{Bool, true, false}
+use mathlib.Core.Logic.{⊎-elim}
 use mathlib.Core.List.{List, _++_}
 use Prim.Native.Nat.{ℕ, _+_, _-_, _*_, _/_, _%_, _≤_, _<_}
 use native.Mathlib.Nat.{div-mul-le-self, mod-lt, add-sub-cancel-left}
 use native.Mathlib.Omega.{arith}
-use lib.Dec.{eqb}
 use lib.ListN.{length, getD, take, drop, set, replicate}
 use borrow.Author.Needs.{needs}
 use Rattle.model.specs.Limits.{maxMembers, noSupport}
@@ -19,7 +19,7 @@ use Rattle.support.specs.Search as support
 use Rattle.engine.specs.Setting.{Setting, setting, network, Sound, combinationOf, sizeOf, tupleId, placeOf}
 use Rattle.engine.specs.Work.{Renewed}
 use Rattle.engine.proofs.Members.{few-tuples, start-of, member-below, tuple-below, base-within}
-use Rattle.engine.proofs.Bounds.{Seeker, held-inside, loaded, chosen, renewed-held, lowOf, searched, ready, renewed-found, renewed-none}
+use Rattle.engine.proofs.Bounds.{Seeker, held-inside, loaded, lead, chosen, renewed-held, lowOf, low-none, low-held, searched, ready, renewed-found, renewed-none}
 use Rattle.engine.proofs.visit.renew.Statement.{statement}
 use Rattle.engine.proofs.visit.renew.Tie as tie
 
@@ -85,21 +85,28 @@ place-small c =
 end-is : (c : tie.After-wide2) → c .wide2 .result / c .before .wide .result * c .before .wide .result + c .before .wide .result ≤ length (entry c .args .members .now)
 end-is c = omega (arith, base-is c, each-is c, base-within (G (entry c)) (sound (entry c)) (entry c .args .p) (in-members (entry c)))
 
-loaded-is : (c : tie.After-load) → c .load .result ≡ loadedOf (entry (c .before .before))
-loaded-is c =
-    let a = entry (c .before .before) in
-    c .load .ensures
-    ∙ ap₂ (λ (e at : ℕ). take e (drop at (a .args .numbers .now)) ++ replicate (maxMembers - e) 0) (each-is (c .before .before)) (is-at a)
+-- the numbers loaded
+loaded-is : (w : tie.After-wide2) {low : List ℕ} → (let a = entry w in let n = w .before .wide .result in low ≡ take n (drop (a .args .at) (a .args .numbers .now)) ++ replicate (maxMembers - n) 0) → low ≡ loadedOf (entry w)
+loaded-is w e =
+    let a = entry w in
+    e ∙ ap₂ (λ (n at : ℕ). take n (drop at (a .args .numbers .now)) ++ replicate (maxMembers - n) 0) (each-is w) (is-at a)
+
+lead-is : (a : tie.Start) → getD (a .args .numbers .now) (a .args .at) 0 ≡ lead (seeker a)
+lead-is a = ap (λ (i : ℕ). getD (a .args .numbers .now) i 0) (is-at a)
 
 -- the first number is an index
-is-index : (c : tie.Then1) → getD (loadedOf (entry (c .before .before .before))) 0 0 ≡ noSupport → ⊥
-is-index c e = c .if1 .taken (ap (λ (is : List ℕ). getD is 0 0) (loaded-is (c .before)) ∙ e)
+is-index : (c : tie.Then1) → lead (seeker (entry (c .before .before))) ≡ noSupport → ⊥
+is-index c e = c .if1 .taken (lead-is (entry (c .before .before)) ∙ e)
 
-low-is : (c : tie.After-bound-of) → (let a = entry (c .before .before .before .before) in c .bound-of .result ≡ lowOf (seeker a))
+low-is : (c : tie.Joined1) → c .if1 .low ≡ lowOf (seeker (entry (c .before .before)))
 low-is c =
-    let a = entry (c .before .before .before .before) in
-    c .bound-of .ensures
-    ∙ ap₂ (λ (is : List ℕ) (q : ℕ). cond (eqb (getD is 0 0) noSupport) (set (replicate maxMembers 0) q (a .args .x)) is) (loaded-is (c .before .before)) (place-is (c .before .before .before .before))
+    let w = c .before .before in
+    let a = entry w in
+    ⊎-elim
+    {C = c .if1 .low ≡ lowOf (seeker a)}
+    (λ t. t .6 ∙ loaded-is w (t .2 .ensures) ∙ sym (low-held (seeker a) (λ e. t .0 .taken (lead-is a ∙ e))))
+    (λ t. t .1 ∙ ap (λ (q : ℕ). set (replicate maxMembers 0) q (a .args .x)) (place-is w) ∙ sym (low-none (seeker a) (sym (lead-is a) ∙ t .0 .left)))
+    (c .if1 .came)
 
 -- the combination
 part-is : (c : tie.After-wide2) → (let a = entry c in let n = c .before .wide .result in let b = c .wide2 .result / n * n in take (b + n - b) (drop b (a .args .members .now)) ≡ combinationOf (G a) (a .args .p))
@@ -115,15 +122,15 @@ abbrev searchOf : tie.Start → List ℕ → ℕ → List ℕ → Search
 searchOf a members place low =
     searching (a .args .variables .now) (a .args .values .now) (a .args .variable-starts .now) (a .args .tuple-starts .now) (a .args .value-starts .now) (a .args .words .now) members place (a .args .x) low
 
-search-is : (c : tie.After-bound-of) → (let w = c .before .before .before .before in let a = entry w in let n = w .before .wide .result in let b = w .wide2 .result / n * n in searchOf a (take (b + n - b) (drop b (a .args .members .now))) (w .wide2 .result % n) (c .bound-of .result) ≡ searched (seeker a))
+search-is : (c : tie.Joined1) → (let w = c .before .before in let a = entry w in let n = w .before .wide .result in let b = w .wide2 .result / n * n in searchOf a (take (b + n - b) (drop b (a .args .members .now))) (w .wide2 .result % n) (c .if1 .low) ≡ searched (seeker a))
 search-is c =
-    let w = c .before .before .before .before in
+    let w = c .before .before in
     let a = entry w in
-    ap₂ (λ (ms : List ℕ) (q : ℕ). searchOf a ms q (c .bound-of .result)) (part-is w) (place-is w)
+    ap₂ (λ (ms : List ℕ) (q : ℕ). searchOf a ms q (c .if1 .low)) (part-is w) (place-is w)
     ∙ ap (searchOf a (combinationOf (G a) (a .args .p)) (a .args .p % a .args .m)) (low-is c)
 
 -- what it answers
-answer-is : (c : tie.After-first-support) → (let a = entry (c .before .before .before .before .before .before .before) in let Q = searched (seeker a) in answer (c .first-support .result .ok) (take (length (Q .members)) (c .first-support .result .tuples)) ≡ supportFrom (support.network Q) (live Q) (Q .members) (support.seeker Q) (Q .low))
+answer-is : (c : tie.After-first-support) → (let a = entry (c .before .before .before .before .before) in let Q = searched (seeker a) in answer (c .first-support .result .ok) (take (length (Q .members)) (c .first-support .result .tuples)) ≡ supportFrom (support.network Q) (live Q) (Q .members) (support.seeker Q) (Q .low))
 answer-is c =
     subst (λ (Q : Search). answer (c .first-support .result .ok) (take (length (Q .members)) (c .first-support .result .tuples)) ≡ supportFrom (support.network Q) (live Q) (Q .members) (support.seeker Q) (Q .low))
     (search-is (c .before .before .before))
@@ -132,7 +139,7 @@ answer-is c =
 -- ---- The tuple's id
 
 abbrev looked : tie.After-wide3 → tie.After-wide2
-looked c = c .before .before .before .before .before .before .before .before .before .before
+looked c = c .before .before .before .before .before .before .before .before
 
 relation-is : (c : tie.After-wide3) → (let a = entry (looked c) in c .wide3 .result ≡ getD (a .args .members .now) (a .args .p) 0)
 relation-is c =
@@ -163,25 +170,35 @@ mul-base c = omega (arith, div-mul-le-self (c .wide2 .result) (c .before .wide .
 add-end : tie.Need-add-end
 add-end c = omega (arith, div-mul-le-self (c .wide2 .result) (c .before .wide .result))
 
+rem-place : tie.Need-rem-place
+rem-place c = search needs
+
+mul-if1 : tie.Need-mul-if1
+mul-if1 c = let i = inside (entry c) in search needs
+
+slice-read-if1 : tie.Need-slice-read-if1
+slice-read-if1 c =
+    let a = entry (c .before) in
+    omega (arith, inside a, sound a .tables .pairs .positive)
+
 load-requires : tie.Need-load-requires
 load-requires c κs =
-    let a = entry (c .before) in
-    (omega (arith, each-is (c .before), inside a), omega (arith, each-is (c .before), sound a .few))
-
-array-read-if1 : tie.Need-array-read-if1
-array-read-if1 c = search needs
+    let w = c .before .before .before in
+    let a = entry w in
+    (omega (arith, each-is w, inside a), omega (arith, each-is w, sound a .few))
 
 all-live-requires : tie.Need-all-live-requires
 all-live-requires c κs =
-    let w = c .before .before .before .before in
+    let l = c .before in
+    let w = l .before .before .before .before in
     let a = entry w in
     let ws = a .args .words .now in
     let ts = a .args .tuple-starts .now in
     let ms = a .args .members .now in
-    subst (λ (n : ℕ). Chosen ws ts ms (w .wide2 .result / w .before .wide .result * w .before .wide .result) n (c .before .before .load .result)) (sym (each-is w))
-    (subst (λ (b : ℕ). Chosen ws ts ms b (a .args .m) (c .before .before .load .result)) (sym (base-is w))
-    (subst (Chosen ws ts ms (baseOf a) (a .args .m)) (sym (loaded-is (c .before .before)))
-    (chosen (seeker a) (is-index (c .before)))))
+    subst (λ (n : ℕ). Chosen ws ts ms (w .wide2 .result / w .before .wide .result * w .before .wide .result) n (l .load .result)) (sym (each-is w))
+    (subst (λ (b : ℕ). Chosen ws ts ms b (a .args .m) (l .load .result)) (sym (base-is w))
+    (subst (Chosen ws ts ms (baseOf a) (a .args .m)) (sym (loaded-is w (l .load .ensures)))
+    (chosen (seeker a) (is-index (l .before .before)))))
 
 same-length : tie.Need-same-length
 same-length c = search needs
@@ -191,27 +208,27 @@ same-length-2 c = search needs
 
 returns : tie.Need-returns
 returns c =
-    let l = c .before .before .before .before in
-    let w = l .before .before in
+    let l = c .before .before .before in
+    let w = l .before .before .before .before in
     let a = entry w in
     let live : ℕ → ℕ → List ℕ → Bool = λ b n is. all (λ (j : ℕ). isLive (a .args .words .now) (chosenId (a .args .tuple-starts .now) (a .args .members .now) b is j)) (from 0 n) in
     renewed-held (seeker a)
-    (is-index (c .before .before .before))
+    (is-index (l .before .before))
     (sym
     (c .before .all-live .ensures
     ∙ ap₂ (λ (b n : ℕ). live b n (l .load .result)) (base-is w) (each-is w)
-    ∙ ap (live (baseOf a) (a .args .m)) (loaded-is l))
+    ∙ ap (live (baseOf a) (a .args .m)) (loaded-is w (l .load .ensures)))
     ∙ c .if2 .taken)
 
-rem-place : tie.Need-rem-place
-rem-place c = search needs
+mul-low : tie.Need-mul-low
+mul-low c = omega (arith, place-small (c .before .before))
 
-bound-of-requires : tie.Need-bound-of-requires
-bound-of-requires c κs = place-small (c .before .before .before)
+array-write-low : tie.Need-array-write-low
+array-write-low c = place-small (c .before .before)
 
 mul-first-support : tie.Need-mul-first-support
 mul-first-support c =
-    let w = c .before .before .before .before .before in
+    let w = c .before .before .before in
     omega (arith, div-mul-le-self (w .wide2 .result) (w .before .wide .result))
 
 sub-first-support : tie.Need-sub-first-support
@@ -221,18 +238,18 @@ part-first-support-start : tie.Need-part-first-support-start
 part-first-support-start c = search needs
 
 part-first-support-end : tie.Need-part-first-support-end
-part-first-support-end c = end-is (c .before .before .before .before .before)
+part-first-support-end c = end-is (c .before .before .before)
 
 first-support-requires : tie.Need-first-support-requires
 first-support-requires c κs =
     let b = c .before .before in
-    let w = b .before .before .before .before in
+    let w = b .before .before in
     let a = entry w in
     (subst Ready (sym (search-is b)) (ready (seeker a)), a .pre .1 .0)
 
 store-requires : tie.Need-store-requires
 store-requires c κs =
-    let w = c .before .before .before .before .before .before .before .before .before .before in
+    let w = c .before .before .before .before .before .before .before .before in
     let a = entry w in
     (omega (arith, each-is w, inside a), omega (arith, each-is w, sound a .few))
 
@@ -245,7 +262,7 @@ same-length-4 c = search needs
 returns-2 : tie.Need-returns-2
 returns-2 c =
     let f = c .before .before .before .before .before .before in
-    let w = f .before .before .before .before .before .before .before in
+    let w = f .before .before .before .before .before in
     let a = entry w in
     subst (Renewed (G a) (a .args .p) (a .args .x) (a .args .words .now) (a .args .numbers .now) true (a .args .words .now))
     (sym
@@ -259,7 +276,7 @@ mul-wide c = search needs
 
 shared-slice-read-wide : tie.Need-shared-slice-read-wide
 shared-slice-read-wide c =
-    let w = c .before .before .before .before .before .before .before .before .before in
+    let w = c .before .before .before .before .before .before .before in
     omega (arith, pair-is w, in-members (entry w))
 
 wide-requires-3 : tie.Need-wide-requires-3
@@ -284,14 +301,11 @@ clear-requires c κs =
 same-length-5 : tie.Need-same-length-5
 same-length-5 c = search needs
 
-same-length-6 : tie.Need-same-length-6
-same-length-6 c = search needs
-
 returns-3 : tie.Need-returns-3
 returns-3 c =
     let l = c .before .before .before .before .before in
     let f = l .before .before .before in
-    let w = f .before .before .before .before .before .before .before in
+    let w = f .before .before .before .before .before in
     let a = entry w in
     subst (λ (ws : List ℕ). Renewed (G a) (a .args .p) (a .args .x) (a .args .words .now) (a .args .numbers .now) false ws (a .args .numbers .now))
     (sym (c .before .before .clear .ensures ∙ ap (λ (g : ℕ). cleared g (a .args .words .now)) (id-is l)))
@@ -307,14 +321,16 @@ renew-spec =
     div-base
     mul-base
     add-end
+    rem-place
+    mul-if1
+    slice-read-if1
     load-requires
-    array-read-if1
     all-live-requires
     same-length
     same-length-2
     returns
-    rem-place
-    bound-of-requires
+    mul-low
+    array-write-low
     mul-first-support
     sub-first-support
     part-first-support-start
@@ -332,5 +348,4 @@ renew-spec =
     add-clear
     clear-requires
     same-length-5
-    same-length-6
     returns-3)
