@@ -1,8 +1,12 @@
 /* The filter in plain C, by the same algorithm as the proved engine: a queue of pairs of combination and member, the seeking tuple
- * tried first, candidates looked at under two columns before they are compared, each search resumed at the fallen support. */
+ * tried first, the members still to come narrowed after each choice, each search resumed at the fallen support. */
 #include "leaves.h"
+#include <string.h>
 
-enum { NO_SUPPORT = 65535, NOWHERE = 65535, MAX_PAIRS = 1024 };
+enum { NO_SUPPORT = 65535, MAX_PAIRS = 1024, WORDS = 64, BUCKETS = 16, MAX_WIDTH = 8 };
+
+/* For each column and bucket of values, the ids of the tuples that have such a value there. */
+typedef uint64_t marks[MAX_WIDTH][BUCKETS][WORDS];
 
 static bool live_at(const uint64_t *words, size_t g) { return words[g / 64] >> (g % 64) & 1; }
 
@@ -14,6 +18,7 @@ static bool agree_at(const network *n, size_t r, size_t x, size_t s, size_t y) {
 
 typedef struct {
     const network *n;
+    const marks *table;
     const uint64_t *words;
     const uint16_t *members;
     size_t place, own;
@@ -28,9 +33,24 @@ static bool fits(const search_for *q, size_t k, const uint16_t *chosen, size_t x
     return true;
 }
 
-/* A column of a relation, and the value that a tuple of it must have there. */
-typedef struct { uint16_t column, value; } look;
-typedef struct { look one, two; } looks;
+static void mark_all(const network *n, marks table) {
+    for (size_t r = 0; r < 64; r++) {
+        size_t width = n->variable_starts[r + 1] - n->variable_starts[r];
+        const uint16_t *tuple = n->values + n->value_starts[r];
+        for (size_t g = n->tuple_starts[r]; g < n->tuple_starts[r + 1]; g++, tuple += width)
+            for (size_t c = 0; c < width; c++) table[c][tuple[c] % BUCKETS][g / 64] |= 1ull << (g % 64);
+    }
+}
+
+/* Of the ids from begin on and below end, only those marked stay. */
+static void keep(uint64_t *words, const uint64_t *marked, size_t begin, size_t end) {
+    for (size_t i = begin / 64; i * 64 < end; i++) {
+        uint64_t stay = marked[i];
+        if (i * 64 < begin) stay |= (1ull << (begin - i * 64)) - 1;
+        if (end < i * 64 + 64) stay |= ~0ull << (end - i * 64);
+        words[i] &= stay;
+    }
+}
 
 static size_t column_of(const uint16_t *scope, size_t width, uint16_t x) {
     size_t i = 0;
@@ -38,73 +58,27 @@ static size_t column_of(const uint16_t *scope, size_t width, uint16_t x) {
     return i;
 }
 
-/* A column of relation s, other than `skip`, that tuple x of relation r has a value for. */
-static look look_with(const network *n, size_t r, size_t x, size_t s, size_t skip) {
+/* The ids of relation s narrowed to those that may agree with tuple x of relation r. */
+static void narrow(const network *n, const marks *table, uint64_t *words, size_t r, size_t x, size_t s) {
     size_t wr = n->variable_starts[r + 1] - n->variable_starts[r], ws = n->variable_starts[s + 1] - n->variable_starts[s];
     const uint16_t *scope_a = n->variables + n->variable_starts[r], *scope_b = n->variables + n->variable_starts[s];
+    const uint16_t *a = n->values + n->value_starts[r] + x * wr;
     for (size_t j = 0; j < ws; j++) {
-        if (j == skip) continue;
         size_t i = column_of(scope_a, wr, scope_b[j]);
-        if (i < wr) return (look){(uint16_t)j, n->values[n->value_starts[r] + x * wr + i]};
+        if (i < wr) keep(words, (*table)[j][a[i] % BUCKETS], n->tuple_starts[s], n->tuple_starts[s + 1]);
     }
-    return (look){NOWHERE, 0};
 }
 
-static looks add_looks(const network *n, looks l, size_t r, size_t x, size_t s) {
-    if (l.one.column == NOWHERE) l.one = look_with(n, r, x, s, NOWHERE);
-    if (l.one.column != NOWHERE) l.two = look_with(n, r, x, s, l.one.column);
-    return l;
-}
-
-/* Up to two columns of member k with the values that the seeking tuple and those chosen ask for. */
-static looks looks_of(const search_for *q, size_t k, const uint16_t *chosen) {
-    looks l = {{NOWHERE, 0}, {NOWHERE, 0}};
-    l = add_looks(q->n, l, q->members[q->place], q->own, q->members[k]);
-    for (size_t j = k; j > 0 && l.two.column == NOWHERE;) {
-        j--;
-        if (j != q->place) l = add_looks(q->n, l, q->members[j], chosen[j], q->members[k]);
+/* The members from k on, but the seeking tuple's own, narrowed for tuple x of relation r; false where one has no tuple left. */
+static bool narrow_members(const search_for *q, uint64_t *words, size_t k, size_t r, size_t x) {
+    const network *n = q->n;
+    for (size_t j = k; j < n->m; j++) {
+        if (j == q->place) continue;
+        size_t s = q->members[j];
+        narrow(n, q->table, words, r, x, s);
+        if (next(words, 0, n->tuple_starts[s], n->tuple_starts[s + 1]) >= n->tuple_starts[s + 1]) return false;
     }
-    if (l.two.column == NOWHERE) l.two = l.one;
-    return l;
-}
-
-/* The first of the ids from g on and below end whose tuple, the first at `at`, has both values. */
-static size_t stride(const uint16_t *values, size_t at, size_t width, size_t g, size_t end, looks l) {
-    size_t key = (size_t)l.one.value * 65536 + l.two.value;
-    for (; g < end; g++, at += width) {
-        if ((size_t)values[at + l.one.column] * 65536 + values[at + l.two.column] == key) return g;
-    }
-    return end;
-}
-
-/* The first bit of w, below limit, whose tuple, the first at `at`, has both values; 64 if there is none. */
-static size_t pick(uint64_t w, const uint16_t *values, size_t at, size_t width, size_t limit, looks l) {
-    size_t key = (size_t)l.one.value * 65536 + l.two.value;
-    for (; w; w &= w - 1) {
-        size_t t = (size_t)__builtin_ctzll(w);
-        if (limit <= t) return 64;
-        if ((size_t)values[at + t * width + l.one.column] * 65536 + values[at + t * width + l.two.column] == key) return t;
-    }
-    return 64;
-}
-
-static size_t walk(const uint64_t *words, const uint16_t *values, size_t at, size_t width, size_t start, size_t end, looks l) {
-    for (size_t g = start; g < end; g = (g / 64 + 1) * 64) {
-        size_t t = pick(words[g / 64] >> (g % 64), values, at + (g - start) * width, width, end - g, l);
-        if (t < 64) return g + t;
-    }
-    return end;
-}
-
-/* The next id that may be chosen: what is passed over is dead or has another value under one of the columns. Where most are live
- * the values are read one after the other, and elsewhere those of live tuples alone. */
-static size_t step(const network *n, const uint64_t *words, size_t r, size_t g, size_t end, looks l) {
-    if (l.one.column == NOWHERE) return next(words, 0, (uint16_t)g, (uint16_t)end);
-    if (end <= g) return end;
-    size_t width = n->variable_starts[r + 1] - n->variable_starts[r];
-    size_t at = n->value_starts[r] + (g - n->tuple_starts[r]) * width;
-    if (__builtin_popcountll(words[g / 64]) >= 32) return stride(n->values, at, width, g, end, l);
-    return walk(words, n->values, at, width, g, end, l);
+    return true;
 }
 
 /* The member whose turn it is from k on; at its own member the seeking tuple is chosen. */
@@ -114,26 +88,31 @@ static size_t past_own(const search_for *q, size_t k, uint16_t *chosen) {
     return k + 1;
 }
 
-static bool search(const search_for *q, size_t k, bool resumes, uint16_t *chosen) {
+static bool search(const search_for *q, const uint64_t *words, size_t k, bool resumes, uint16_t *chosen) {
     const network *n = q->n;
     size_t r = q->members[k], first = n->tuple_starts[r], end = n->tuple_starts[r + 1];
-    size_t g = next(q->words, 0, (uint16_t)(resumes ? first + q->low[k] : first), (uint16_t)end);
-    if (end <= g) return false;
-    looks l = looks_of(q, k, chosen);
-    for (g = step(n, q->words, r, g, end, l); g < end; g = step(n, q->words, r, g + 1, end, l)) {
+    size_t g = next(words, 0, (uint16_t)(resumes ? first + q->low[k] : first), (uint16_t)end);
+    for (; g < end; g = next(words, 0, (uint16_t)(g + 1), (uint16_t)end)) {
         size_t x = g - first;
-        if (!live_at(q->words, g) || !fits(q, k, chosen, x)) continue;
+        if (!fits(q, k, chosen, x)) continue;
         chosen[k] = (uint16_t)x;
         size_t on = past_own(q, k + 1, chosen);
-        if (on == n->m || search(q, on, resumes && x == q->low[k], chosen)) return true;
+        if (on == n->m) return true;
+        uint64_t fewer[WORDS];
+        memcpy(fewer, words, sizeof fewer);
+        if (narrow_members(q, fewer, on, r, x) && search(q, fewer, on, resumes && x == q->low[k], chosen)) return true;
     }
     return false;
 }
 
 static bool first_support(const search_for *q, uint16_t *chosen) {
-    if (!live_at(q->words, q->n->tuple_starts[q->members[q->place]] + q->own)) return false;
+    size_t r = q->members[q->place];
+    if (!live_at(q->words, q->n->tuple_starts[r] + q->own)) return false;
+    uint64_t candidates[WORDS];
+    memcpy(candidates, q->words, sizeof candidates);
+    if (!narrow_members(q, candidates, 0, r, q->own)) return false;
     size_t k = past_own(q, 0, chosen);
-    return k == q->n->m || search(q, k, true, chosen);
+    return k == q->n->m || search(q, candidates, k, true, chosen);
 }
 
 static bool all_live(const network *n, const uint64_t *words, const uint16_t *members, const uint16_t *held) {
@@ -143,7 +122,7 @@ static bool all_live(const network *n, const uint64_t *words, const uint16_t *me
 }
 
 /* The tuple's first support is in the list, or the tuple is dead. */
-static bool renew(const network *n, uint64_t *words, uint16_t *held, size_t p, size_t x) {
+static bool renew(const network *n, const marks *table, uint64_t *words, uint16_t *held, size_t p, size_t x) {
     size_t m = n->m, place = p % m;
     const uint16_t *members = n->members + p / m * m;
     uint16_t low[4] = {0}, chosen[4];
@@ -153,7 +132,7 @@ static bool renew(const network *n, uint64_t *words, uint16_t *held, size_t p, s
     } else {
         low[place] = (uint16_t)x;
     }
-    search_for q = {n, words, members, place, x, low};
+    search_for q = {n, table, words, members, place, x, low};
     if (first_support(&q, chosen)) {
         for (size_t j = 0; j < m; j++) held[j] = chosen[j];
         return true;
@@ -178,11 +157,11 @@ static void requeue(const network *n, uint64_t *queue, size_t p) {
     }
 }
 
-static void visit(const network *n, uint64_t *queue, uint64_t *words, uint16_t *numbers, size_t p) {
+static void visit(const network *n, const marks *table, uint64_t *queue, uint64_t *words, uint16_t *numbers, size_t p) {
     size_t r = n->members[p], first = n->tuple_starts[r], end = n->tuple_starts[r + 1];
     bool shrunk = false;
     for (size_t g = next(words, 0, (uint16_t)first, (uint16_t)end); g < end; g = next(words, 0, (uint16_t)(g + 1), (uint16_t)end))
-        if (!renew(n, words, numbers + n->pair_starts[p] + (g - first) * n->m, p, g - first) && !shrunk) {
+        if (!renew(n, table, words, numbers + n->pair_starts[p] + (g - first) * n->m, p, g - first) && !shrunk) {
             requeue(n, queue, p);
             shrunk = true;
         }
@@ -190,11 +169,13 @@ static void visit(const network *n, uint64_t *queue, uint64_t *words, uint16_t *
 
 void c_filter(const network *n, uint64_t *words, uint16_t *numbers) {
     uint64_t queue[MAX_PAIRS / 64] = {0};
+    marks table = {{{0}}};
+    mark_all(n, table);
     for (size_t i = 0; i < n->needed; i++) numbers[i] = NO_SUPPORT;
     for (size_t p = 0; p < n->pairs; p++) queue[p / 64] |= 1ull << (p % 64);
     for (size_t p; (p = next(queue, 0, 0, MAX_PAIRS)) < MAX_PAIRS;) {
         queue[p / 64] &= ~(1ull << (p % 64));
-        visit(n, queue, words, numbers, p);
+        visit(n, &table, queue, words, numbers, p);
     }
     for (size_t p = 0; p < n->pairs; p++) {
         size_t r = n->members[p], first = n->tuple_starts[r];
