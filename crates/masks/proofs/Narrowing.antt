@@ -2,16 +2,15 @@
 -- of a combination, one after the other.
 -- From what `keep` ensures, and the laws of agreement by places and of ids.
 use mathlib.Core.Path.{_≡_, refl, sym, _∙_, ap, subst}
-use mathlib.Core.Bool.{Bool, true, _&&_, _||_, and-true, or-true}
+use mathlib.Core.Bool.{Bool, true, _&&_, and-true}
 use mathlib.Core.List.{List}
 use mathlib.Core.Logic.{_⊎_, inl, inr, ⊎-elim}
 use Prim.Native.Nat.{ℕ, _+_, _-_, _≤_, _<_}
-use native.Mathlib.Nat.{le-refl, le-trans}
+use native.Mathlib.Nat.{le-refl}
 use native.Mathlib.Omega.{arith}
 use native.Mathlib.Decide.{ℕ-discrete, decLt, decLe}
 use lib.Dec.{ltb, leb}
 use lib.ListN.{length, getD}
-use borrow.Author.Tests.{lt-ltb, le-leb}
 use Rattle.model.specs.Network.{Network, width, size, firstId, scopeOf, valuesAt, relationOf}
 use Rattle.model.specs.Agreement.{Cell, cells, cellsOf, agreeing, agree}
 use Rattle.model.specs.LiveWords.{isLive, nextLive}
@@ -21,6 +20,7 @@ use Rattle.model.proofs.LiveWords.{nextLive-first}
 use Rattle.model.proofs.Agreement.{cellAt, cellsOf-at, agreeing-clash, clash-different-value}
 use Rattle.network.specs.Layout.{Laid}
 use Rattle.masks.specs.Masks.{bucketOf, marked, Marks, stays, Lower, Narrows, Agreeing, Dead, Narrowed}
+use Rattle.masks.proofs.Words.{lower-on, stays-low, stays-high}
 use Rattle.masks.proofs.Tables.{scope-length, values-length}
 
 module _ (accepts : List ℕ → Bool) (columns : ℕ) (table : List ℕ) (start end : ℕ) where
@@ -30,7 +30,7 @@ module _ (accepts : List ℕ → Bool) (columns : ℕ) (table : List ℕ) (start
   pub narrows-on : (a b c : List ℕ) → Narrows accepts columns table start end a b → Narrows accepts columns table start end b c → Narrows accepts columns table start end a c
   narrows-on a b c f g =
       record {
-        lower = λ i. le-trans (g .lower i) (f .lower i);
+        lower = lower-on a b c (f .lower) (g .lower);
         inside = λ h e. f .inside h (g .inside h e);
         outside = λ h o. g .outside h o ∙ f .outside h o;
         keeps = λ h v l m p e. g .keeps h v l m p (f .keeps h v l m p e);
@@ -42,15 +42,9 @@ module _ (accepts : List ℕ → Bool) (columns : ℕ) (table : List ℕ) (start
       record {
         lower = lower;
         inside = λ g e. and-left (isLive before g) (stays table start end column v g) (sym (kept g) ∙ e);
-        outside = λ g o. kept g ∙ ap (λ (x : Bool). isLive before g && x) (⊎-elim (low g) (high g) o) ∙ and-true (isLive before g);
+        outside = λ g o. kept g ∙ ap (λ (x : Bool). isLive before g && x) (⊎-elim (stays-low table start end column v g) (stays-high table start end column v g) o) ∙ and-true (isLive before g);
         keeps = λ g b l m a e. kept g ∙ and-intro e (or-right (ltb g start) (or-right (leb end g) (subst (λ (x : ℕ). marked table column (bucketOf x) g ≡ true) (told b l a) (m column h))));
       }
-    where
-      low : (g : ℕ) → g < start → stays table start end column v g ≡ true
-      low g l = ap (λ (x : Bool). x || (leb end g || marked table column (bucketOf v) g)) (lt-ltb g start l)
-
-      high : (g : ℕ) → end ≤ g → stays table start end column v g ≡ true
-      high g l = ap (λ (x : Bool). ltb g start || (x || marked table column (bucketOf v) g)) (le-leb end g l) ∙ or-true (ltb g start)
 
 -- tuples that agree have the same value under a variable that stands at place i of the one scope and at place j of the other
 module _ (scopeA a scopeB : List ℕ) (i j : ℕ) (widths : length scopeA ≡ length a) (hi : i < length scopeA) (hj : j < length scopeB) (same : getD scopeA i 0 ≡ getD scopeB j 0) where
@@ -110,7 +104,7 @@ module _ (N : Network) (y : ℕ) where
   pub narrowed-on : (a b c : List ℕ) → Narrowed N y a b → Narrowed N y b c → Narrowed N y a c
   narrowed-on a b c f g =
       record {
-        lower = λ i. le-trans (g .lower i) (f .lower i);
+        lower = lower-on a b c (f .lower) (g .lower);
         inside = λ h e. f .inside h (g .inside h e);
         keeps = λ s z h p e. g .keeps s z h p (f .keeps s z h p e);
         itself = g .itself ∙ f .itself;

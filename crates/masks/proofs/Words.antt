@@ -1,4 +1,4 @@
--- Laws of the words that narrow: a word of the ids below a bound, and one word narrowed by the marks.
+-- Laws of the words that narrow: a word of the ids below a bound, and words narrowed by a test of ids or by the table.
 -- From the laws of the machine's operations on words.
 use mathlib.Core.Path.{_≡_, refl, sym, _∙_, ap, ap₂}
 use mathlib.Core.Bool.{Bool, true, false, not, _&&_, _||_, and-true, or-true, or-false}
@@ -16,7 +16,7 @@ use borrow.Author.Tests.{lt-ltb, le-ltb, ltb-true, ltb-false, le-leb, lt-leb, le
 use Rattle.model.specs.LiveWords.{isSet, isLive}
 use Rattle.model.proofs.LiveWords.{isLive-at}
 use Rattle.live.proofs.Bits.{isSet-high, isSet-not, isSet-and, isSet-or, isSet-pow, one-shl}
-use Rattle.masks.specs.Masks.{bucketOf, marked, stays, Lower}
+use Rattle.masks.specs.Masks.{bucketOf, marked, stays, rowBit, staysBy, Kept, Lower}
 
 -- ---- The ids below a bound
 
@@ -79,15 +79,7 @@ marked-one ws p h inside = rw (one-shl (p % 64) (omega arith)) (go (ℕ-discrete
         isLive-set-other ws (p / 64) (bitOr (getD ws (p / 64) 0) (2 ^ (p % 64))) h d
         ∙ sym (ap (λ (x : Bool). isLive ws h || x) (ne-eqb p h (λ e. d (ap (λ (n : ℕ). n / 64) (sym e)))) ∙ or-false (isLive ws h))
 
--- ---- One word narrowed
-
--- the mark of bit j of word i is bit j of the table's word
-pub marked-at : (table : List ℕ) (c b i j : ℕ) → j < 64 → marked table c b (64 * i + j) ≡ isSet (getD table ((c * 16 + b) * 64 + i) 0) j
-unfolding marked
-marked-at table c b i j h =
-    let k = c * 16 + b in
-    let e : k * 4096 + (64 * i + j) ≡ 64 * (k * 64 + i) + j = omega arith in
-    ap (isLive table) e ∙ isLive-at table (k * 64 + i) j h
+-- ---- Words narrowed
 
 -- a word that is narrowed is not above what it was
 pub lower-more : (ws₀ ws : List ℕ) (i x : ℕ) → i < length ws → Lower ws₀ ws → Lower ws₀ (set ws i (bitAnd (getD ws i 0) x))
@@ -97,78 +89,146 @@ lower-more ws₀ ws i x inside f k = go (ℕ-discrete k i)
     go (yes e) = rw e (rw (getD-set-same ws i (bitAnd (getD ws i 0) x) 0 inside) (le-trans (and-le-l (getD ws i 0) x) (f i)))
     go (no d) = rw (getD-set-other ws i k (bitAnd (getD ws i 0) x) 0 d) (f k)
 
--- what stays once the words before word i are narrowed
-abbrev pub staysBefore : ℕ → List ℕ → ℕ → ℕ → ℕ → ℕ → ℕ → Bool
-staysBefore i table start end column value g = leb (64 * i) g || stays table start end column value g
+pub lower-on : (a b c : List ℕ) → Lower a b → Lower b c → Lower a c
+lower-on a b c f g i = le-trans (g i) (f i)
 
-abbrev pub NarrowedBefore : ℕ → List ℕ → ℕ → ℕ → ℕ → ℕ → List ℕ → List ℕ → Type 0
-NarrowedBefore i table start end column value before after =
-    (g : ℕ) → isLive after g ≡ (isLive before g && staysBefore i table start end column value g)
+-- by any test of ids
+module _ (passes : ℕ → Bool) where
+  -- what stays of id g when the words from i on and below n are narrowed
+  abbrev left : ℕ → ℕ → ℕ → Bool
+  left i n g = ltb g (64 * i) || (leb (64 * n) g || passes g)
 
-module _ (table : List ℕ) (start end column value : ℕ) (ws₀ : List ℕ) where
-  absorb : (b x y : Bool) → x ≡ true → (b && (x || y)) ≡ b
-  absorb b x y e = ap (λ (z : Bool). b && (z || y)) e ∙ and-true b
+  left-before : (i n g : ℕ) → g < 64 * i → left i n g ≡ true
+  left-before i n g h = ap (λ (x : Bool). x || (leb (64 * n) g || passes g)) (lt-ltb g (64 * i) h)
 
-  pub narrowed-none : NarrowedBefore (start / 64) table start end column value ws₀ ws₀
-  narrowed-none g = go (leb (64 * (start / 64)) g) refl
+  left-behind : (i n g : ℕ) → 64 * n ≤ g → left i n g ≡ true
+  left-behind i n g h = ap (λ (x : Bool). ltb g (64 * i) || (x || passes g)) (le-leb (64 * n) g h) ∙ or-true (ltb g (64 * i))
+
+  -- no word
+  pub kept-none : (i : ℕ) (ws : List ℕ) → Kept passes i i ws ws
+  kept-none i ws g = sym (ap (λ (x : Bool). isLive ws g && x) (go (decLt g (64 * i))) ∙ and-true (isLive ws g))
     where
-      go : (x : Bool) → leb (64 * (start / 64)) g ≡ x → isLive ws₀ g ≡ (isLive ws₀ g && (x || stays table start end column value g))
-      go true e = sym (and-true (isLive ws₀ g))
-      go false e =
-          let l = leb-false (64 * (start / 64)) g e in
-          sym (absorb (isLive ws₀ g) (ltb g start) (leb end g || marked table column (bucketOf value) g) (lt-ltb g start (omega arith)))
+      go : Dec (g < 64 * i) → left i i g ≡ true
+      go (yes h) = left-before i i g h
+      go (no h) = left-behind i i g (omega arith)
 
-  pub narrowed-all : (i : ℕ) (ws : List ℕ) → end ≤ i * 64 → NarrowedBefore i table start end column value ws₀ ws → (g : ℕ) → isLive ws g ≡ (isLive ws₀ g && stays table start end column value g)
-  narrowed-all i ws h inv g = inv g ∙ ap (λ (x : Bool). isLive ws₀ g && x) (go (leb (64 * i) g) refl)
+  -- one word
+  pub kept-word : (i x : ℕ) (ws : List ℕ) → i < length ws → ((j : ℕ) → j < 64 → isSet x j ≡ passes (64 * i + j)) → Kept passes i (i + 1) ws (set ws i (bitAnd (getD ws i 0) x))
+  kept-word i x ws inside bits g = go (ℕ-discrete (g / 64) i)
     where
-      go : (x : Bool) → leb (64 * i) g ≡ x → (x || stays table start end column value g) ≡ stays table start end column value g
-      go true e =
-          let m = leb-true (64 * i) g e in
-          sym (ap (λ (y : Bool). ltb g start || (y || marked table column (bucketOf value) g)) (le-leb end g (omega arith)) ∙ or-true (ltb g start))
-      go false e = refl
+      new : ℕ
+      new = bitAnd (getD ws i 0) x
 
-  module _ (i : ℕ) (ws : List ℕ) (inside : i < length ws) (low high m : ℕ) (lows : (j : ℕ) → j < 64 → isSet low j ≡ ltb (i * 64 + j) start) (fits : high < 2 ^ 64) (highs : (j : ℕ) → j < 64 → isSet high j ≡ ltb (i * 64 + j) end) (is-m : m ≡ getD table ((column * 16 + value % 16) * 64 + i) 0) (inv : NarrowedBefore i table start end column value ws₀ ws) where
-    abbrev new : ℕ
-    new = bitAnd (getD ws i 0) (bitOr low (bitOr (2 ^ 64 - 1 - high) m))
+      outside : (g / 64 ≡ i → ⊥) → Dec (g < 64 * i) → left i (i + 1) g ≡ true
+      outside d (yes h) = left-before i (i + 1) g h
+      outside d (no h) = left-behind i (i + 1) g (omega arith)
 
-    new-bit : (j : ℕ) → j < 64 → isSet new j ≡ (isSet (getD ws i 0) j && stays table start end column value (64 * i + j))
-    new-bit j h =
+      go : Dec (g / 64 ≡ i) → isLive (set ws i new) g ≡ (isLive ws g && left i (i + 1) g)
+      go (yes e) =
+          let j = g % 64 in
+          let q : g ≡ 64 * i + j = omega arith in
+          let l : j < 64 = omega arith in
+          isLive-set-same ws i new g inside e
+          ∙ isSet-and (getD ws i 0) x j
+          ∙ ap₂ (λ (y z : Bool). y && z) (sym (isLive-at ws i j l) ∙ ap (isLive ws) (sym q))
+          (bits j l
+          ∙ ap passes (sym q)
+          ∙ sym (ap₂ (λ (y z : Bool). y || (z || passes g)) (le-ltb g (64 * i) (omega arith)) (lt-leb (64 * (i + 1)) g (omega arith))))
+      go (no d) =
+          isLive-set-other ws i new g d
+          ∙ sym (ap (λ (y : Bool). isLive ws g && y) (outside d (decLt g (64 * i))) ∙ and-true (isLive ws g))
+
+  -- words, and the words behind them
+  pub kept-on : (i m n : ℕ) (a b c : List ℕ) → i ≤ m → m ≤ n → Kept passes i m a b → Kept passes m n b c → Kept passes i n a c
+  kept-on i m n a b c h k f s g = s g ∙ go (decLt g (64 * m))
+    where
+      go : Dec (g < 64 * m) → (isLive b g && left m n g) ≡ (isLive a g && left i n g)
+      go (yes l) =
+          ap (λ (x : Bool). isLive b g && x) (left-before m n g l)
+          ∙ and-true (isLive b g)
+          ∙ f g
+          ∙ ap (λ (x : Bool). isLive a g && (ltb g (64 * i) || (x || passes g))) (lt-leb (64 * m) g l ∙ sym (lt-leb (64 * n) g (omega arith)))
+      go (no l) =
+          ap₂ (λ (x y : Bool). x && (y || (leb (64 * n) g || passes g)))
+          (f g ∙ ap (λ (x : Bool). isLive a g && x) (left-behind i m g (omega arith)) ∙ and-true (isLive a g))
+          (le-ltb g (64 * m) (omega arith) ∙ sym (le-ltb g (64 * i) (omega arith)))
+
+  -- by another test that says the same of their ids
+  pub kept-same : (others : ℕ → Bool) (i n : ℕ) (a b : List ℕ) → ((g : ℕ) → 64 * i ≤ g → g < 64 * n → passes g ≡ others g) → Kept passes i n a b → Kept others i n a b
+  kept-same others i n a b same f g = f g ∙ ap (λ (x : Bool). isLive a g && x) (go (ltb g (64 * i)) refl (leb (64 * n) g) refl)
+    where
+      go : (x : Bool) → ltb g (64 * i) ≡ x → (y : Bool) → leb (64 * n) g ≡ y → (x || (y || passes g)) ≡ (x || (y || others g))
+      go true p y q = refl
+      go false p true q = refl
+      go false p false q = same g (ltb-false g (64 * i) p) (leb-false (64 * n) g q)
+
+  -- by a test that all other ids pass
+  pub kept-all : (i n : ℕ) (a b : List ℕ) → ((g : ℕ) → g < 64 * i → passes g ≡ true) → ((g : ℕ) → 64 * n ≤ g → passes g ≡ true) → Kept passes i n a b → (g : ℕ) → isLive b g ≡ (isLive a g && passes g)
+  kept-all i n a b low high f g = f g ∙ ap (λ (x : Bool). isLive a g && x) (go (ltb g (64 * i)) refl (leb (64 * n) g) refl)
+    where
+      go : (x : Bool) → ltb g (64 * i) ≡ x → (y : Bool) → leb (64 * n) g ≡ y → (x || (y || passes g)) ≡ passes g
+      go true p y q = sym (low g (ltb-true g (64 * i) p))
+      go false p true q = sym (high g (leb-true (64 * n) g q))
+      go false p false q = refl
+
+-- ---- Words narrowed by the table
+
+module _ (table : List ℕ) (first : ℕ) where
+  -- bit j of word i there is bit j of the table's word
+  pub row-at : (i j : ℕ) → j < 64 → isSet (getD table (first + i) 0) j ≡ rowBit table first (64 * i + j)
+  row-at i j h =
+      let e : 64 * first + (64 * i + j) ≡ 64 * (first + i) + j = omega arith in
+      sym (ap (isLive table) e ∙ isLive-at table (first + i) j h)
+
+  row-marked : (c b g : ℕ) → first ≡ (c * 16 + b) * 64 → rowBit table first g ≡ marked table c b g
+  unfolding marked
+  row-marked c b g e =
+      let q : 64 * first + g ≡ (c * 16 + b) * 4096 + g = omega arith in
+      ap (isLive table) q
+
+  module _ (start end : ℕ) where
+    before-start : (g : ℕ) → g < start → staysBy table first start end g ≡ true
+    before-start g h = ap (λ (x : Bool). x || (leb end g || rowBit table first g)) (lt-ltb g start h)
+
+    from-end : (g : ℕ) → end ≤ g → staysBy table first start end g ≡ true
+    from-end g h = ap (λ (x : Bool). ltb g start || (x || rowBit table first g)) (le-leb end g h) ∙ or-true (ltb g start)
+
+    -- the bits of the word that word i is narrowed by
+    pub stays-at : (i low high j : ℕ) → ((k : ℕ) → k < 64 → isSet low k ≡ ltb (i * 64 + k) start) → high < 2 ^ 64 → ((k : ℕ) → k < 64 → isSet high k ≡ ltb (i * 64 + k) end) → j < 64 → isSet (bitOr low (bitOr (2 ^ 64 - 1 - high) (getD table (first + i) 0))) j ≡ staysBy table first start end (64 * i + j)
+    stays-at i low high j lows fits highs h =
         let c : i * 64 + j ≡ 64 * i + j = omega arith in
-        let o = bitOr (2 ^ 64 - 1 - high) m in
-        isSet-and (getD ws i 0) (bitOr low o) j
-        ∙ ap (λ (x : Bool). isSet (getD ws i 0) j && x)
-        (isSet-or low o j
+        let m = getD table (first + i) 0 in
+        isSet-or low (bitOr (2 ^ 64 - 1 - high) m) j
         ∙ ap₂ (λ (x y : Bool). x || y) (lows j h ∙ ap (λ (g : ℕ). ltb g start) c)
         (isSet-or (2 ^ 64 - 1 - high) m j
         ∙ ap₂ (λ (x y : Bool). x || y)
         (isSet-not 64 high j fits h ∙ ap not (highs j h ∙ ap (λ (g : ℕ). ltb g end) c) ∙ not-ltb (64 * i + j) end)
-        (ap (λ (w : ℕ). isSet w j) is-m ∙ sym (marked-at table column (bucketOf value) i j h))))
+        (row-at i j h))
 
-    here : (g : ℕ) → g / 64 ≡ i → isLive (set ws i new) g ≡ (isLive ws₀ g && staysBefore (i + 1) table start end column value g)
-    here g e =
-        let j = g % 64 in
-        let q : g ≡ 64 * i + j = omega arith in
-        let l : j < 64 = omega arith in
-        let old : isSet (getD ws i 0) j ≡ isLive ws₀ g =
-        sym (isLive-at ws i j l) ∙ ap (isLive ws) (sym q) ∙ inv g ∙ absorb (isLive ws₀ g) (leb (64 * i) g) (stays table start end column value g) (le-leb (64 * i) g (omega arith)) in
-        isLive-set-same ws i new g inside e
-        ∙ new-bit j l
-        ∙ ap₂ (λ (x : Bool) (n : ℕ). x && stays table start end column value n) old (sym q)
-        ∙ ap (λ (x : Bool). isLive ws₀ g && (x || stays table start end column value g)) (sym (lt-leb (64 * (i + 1)) g (omega arith)))
+    -- words whose ids all lie from start on and below end
+    pub kept-inner : (i n : ℕ) (a b : List ℕ) → start ≤ 64 * i → 64 * n ≤ end → Kept (rowBit table first) i n a b → Kept (staysBy table first start end) i n a b
+    kept-inner i n a b h k =
+        kept-same (rowBit table first) (staysBy table first start end) i n a b
+        (λ g l m. sym (ap₂ (λ (x y : Bool). x || (y || rowBit table first g)) (le-ltb g start (omega arith)) (lt-leb end g (omega arith))))
 
-    same-test : (g : ℕ) → (g / 64 ≡ i → ⊥) → (x : Bool) → leb (64 * i) g ≡ x → x ≡ leb (64 * (i + 1)) g
-    same-test g d true e = let l = leb-true (64 * i) g e in sym (le-leb (64 * (i + 1)) g (omega arith))
-    same-test g d false e = let l = leb-false (64 * i) g e in sym (lt-leb (64 * (i + 1)) g (omega arith))
+    -- words that hold all ids from start on and below end
+    pub kept-stays : (column value i n : ℕ) (a b : List ℕ) → first ≡ (column * 16 + value % 16) * 64 → 64 * i ≤ start → end ≤ 64 * n → Kept (staysBy table first start end) i n a b → (g : ℕ) → isLive b g ≡ (isLive a g && stays table start end column value g)
+    kept-stays column value i n a b e h k f g =
+        kept-all (staysBy table first start end) i n a b (λ g l. before-start g (omega arith)) (λ g l. from-end g (omega arith)) f g
+        ∙ ap (λ (x : Bool). isLive a g && (ltb g start || (leb end g || x))) (row-marked column (bucketOf value) g e)
 
-    elsewhere : (g : ℕ) → (g / 64 ≡ i → ⊥) → isLive (set ws i new) g ≡ (isLive ws₀ g && staysBefore (i + 1) table start end column value g)
-    elsewhere g d =
-        isLive-set-other ws i new g d
-        ∙ inv g
-        ∙ ap (λ (x : Bool). isLive ws₀ g && (x || stays table start end column value g)) (same-test g d (leb (64 * i) g) refl)
+-- an id outside those that are narrowed stays
+module _ (table : List ℕ) (start end column value g : ℕ) where
+  pub stays-low : g < start → stays table start end column value g ≡ true
+  stays-low l = ap (λ (x : Bool). x || (leb end g || marked table column (bucketOf value) g)) (lt-ltb g start l)
 
-    pub narrowed-more : NarrowedBefore (i + 1) table start end column value ws₀ (set ws i new)
-    narrowed-more g = go (ℕ-discrete (g / 64) i)
-      where
-        go : Dec (g / 64 ≡ i) → isLive (set ws i new) g ≡ (isLive ws₀ g && staysBefore (i + 1) table start end column value g)
-        go (yes e) = here g e
-        go (no d) = elsewhere g d
+  pub stays-high : end ≤ g → stays table start end column value g ≡ true
+  stays-high l = ap (λ (x : Bool). ltb g start || (x || marked table column (bucketOf value) g)) (le-leb end g l) ∙ or-true (ltb g start)
+
+  -- .. and so do all where there are none to narrow
+  pub stays-none : end ≤ start → (b : Bool) → b ≡ (b && stays table start end column value g)
+  stays-none h b = sym (ap (λ (x : Bool). b && x) (go (decLt g start)) ∙ and-true b)
+    where
+      go : Dec (g < start) → stays table start end column value g ≡ true
+      go (yes l) = stays-low l
+      go (no l) = stays-high (omega arith)

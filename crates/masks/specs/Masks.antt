@@ -1,12 +1,12 @@
 -- The table of marks: for each column and bucket of values, the tuples that have such a value in the column.
 use mathlib.Core.Path.{_≡_}
-use mathlib.Core.Bool.{Bool, true, false, _||_}
+use mathlib.Core.Bool.{Bool, true, false, _&&_, _||_}
 use mathlib.Core.List.{List}
 use mathlib.Core.Logic.{_⊎_}
 use Prim.Native.Nat.{ℕ, _+_, _-_, _*_, _%_, _≤_, _<_}
 use lib.Dec.{ltb, leb}
 use lib.ListN.{length, getD}
-use Rattle.model.specs.Limits.{maxRelations, maxTuples}
+use Rattle.model.specs.Limits.{maxRelations, maxTuples, wordBits}
 use Rattle.model.specs.Network.{Network, width, size, firstId, valuesAt}
 use Rattle.model.specs.Agreement.{agree}
 use Rattle.model.specs.LiveWords.{isLive}
@@ -45,6 +45,19 @@ abbrev pub stays : List ℕ → ℕ → ℕ → ℕ → ℕ → ℕ → Bool
 stays table start end column value g = ltb g start || (leb end g || marked table column (bucketOf value) g)
 
 -- ---- Narrowing
+
+-- bit g of the 64 words of the table that begin at word `first`: those of one column and bucket
+abbrev pub rowBit : List ℕ → ℕ → ℕ → Bool
+rowBit table first g = isLive table (wordBits * first + g)
+
+-- id g stays when the ids from start on and below end are narrowed to those whose bit is 1 there
+abbrev pub staysBy : List ℕ → ℕ → ℕ → ℕ → ℕ → Bool
+staysBy table first start end g = ltb g start || (leb end g || rowBit table first g)
+
+-- the ids of the words from i on and below n that do not pass the test are dead, and every other bit is as before
+abbrev pub Kept : (ℕ → Bool) → ℕ → ℕ → List ℕ → List ℕ → Type 0
+Kept passes i n before after =
+    (g : ℕ) → isLive after g ≡ (isLive before g && (ltb g (wordBits * i) || (leb (wordBits * n) g || passes g)))
 
 -- no word is above what it was, so each is below 2^64 if it was
 abbrev pub Lower : List ℕ → List ℕ → Type 0

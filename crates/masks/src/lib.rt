@@ -10,7 +10,7 @@ ghost use Rattle.model.specs.Network.{tuplesIn, size, firstId};
 ghost use Rattle.model.specs.Agreement.{cells, agreeing};
 ghost use Rattle.model.specs.LiveWords.{isSet, isLive};
 ghost use Rattle.network.specs.Layout.{tabled, Laid, starts};
-ghost use Rattle.masks.specs.Masks.{stays, Marks, Grows, MarksTuple, MarksTuples, Lower, Narrows, Agreeing, Dead, Narrowed, Others, Bare};
+ghost use Rattle.masks.specs.Masks.{stays, rowBit, staysBy, Kept, Marks, Grows, MarksTuple, MarksTuples, Lower, Narrows, Agreeing, Dead, Narrowed, Others, Bare};
 use live::next;
 use model::MAX_RELATIONS;
 use network::agreement::place_of;
@@ -30,6 +30,36 @@ fn below(base: usize, bound: usize) -> u64
     (1u64 << k) - 1
 }
 
+// The ids of word i, of those from begin on and below stop, whose bit in the table's words from `first` on is 0, are dead,
+// and every other bit stays.
+fn keep_word(
+    table: &[u64; 8192],
+    words: &mut [u64; 64],
+    first: usize,
+    i: usize,
+    begin: usize,
+    stop: usize,
+)
+    requires { ⌜ (length (now words) ≡ 64) × ((first + 64 ≤ 8192) × (i < 64)) ⌝ }
+    ensures { λ _. ⌜ (length (now (words .exit)) ≡ 64) × (Lower (now (words .entry)) (now (words .exit)) × Kept (staysBy (now (table .entry)) first begin stop) i (i + 1) (now (words .entry)) (now (words .exit))) ⌝ }
+{
+    let low = below(i * 64, begin);
+    let high = below(i * 64, stop);
+    words[i] = words[i] & (low | (!high | table[first + i]));
+}
+
+// The same for all ids of the words from `from` on and below `to`.
+fn keep_words(table: &[u64; 8192], words: &mut [u64; 64], first: usize, from: usize, to: usize)
+    requires { ⌜ (length (now words) ≡ 64) × ((first + 64 ≤ 8192) × ((from ≤ to) × (to ≤ 64))) ⌝ }
+    ensures { λ _. ⌜ (length (now (words .exit)) ≡ 64) × (Lower (now (words .entry)) (now (words .exit)) × Kept (rowBit (now (table .entry)) first) from to (now (words .entry)) (now (words .exit))) ⌝ }
+{
+    let mut i = from;
+    while i < to {
+        words[i] = words[i] & table[first + i];
+        i += 1;
+    }
+}
+
 // Of the ids from start on and below end, those not marked under the column and the value's bucket are dead, and every
 // other bit stays.
 pub fn keep(
@@ -45,13 +75,16 @@ pub fn keep(
 {
     let begin = wide(start);
     let stop = wide(end);
+    if stop <= begin {
+        return;
+    }
     let first = (wide(column) * 16 + wide(value) % 16) * 64;
-    let mut i = begin / 64;
-    while i * 64 < stop {
-        let low = below(i * 64, begin);
-        let high = below(i * 64, stop);
-        words[i] = words[i] & (low | (!high | table[first + i]));
-        i += 1;
+    let i = begin / 64;
+    let last = (stop - 1) / 64;
+    keep_word(table, words, first, i, begin, stop);
+    if i < last {
+        keep_words(table, words, first, i + 1, last);
+        keep_word(table, words, first, last, begin, stop);
     }
 }
 

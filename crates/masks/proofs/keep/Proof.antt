@@ -1,175 +1,144 @@
--- `keep` narrows word by word. The loop's invariant: the ids of the words passed are narrowed, and all others are as at entry.
--- From the laws of one word narrowed.
-use mathlib.Core.Path.{_≡_, ap, ap₂, _∙_}
-use Prim.Native.Nat.{ℕ, _+_, _-_, _*_, _%_, _≤_, _<_}
+-- `keep` narrows the first word, and where there are more, the words between and the last one.
+-- From what `keep_word` and `keep_words` ensure, and the laws of words narrowed by the table.
+use mathlib.Core.Path.{_≡_, ap₂, _∙_}
+use mathlib.Core.Bool.{_&&_}
+use mathlib.Core.List.{List}
+use Prim.Native.Nat.{ℕ, _+_, _-_, _*_, _/_, _%_, _≤_, _<_}
 use native.Mathlib.Nat.{le-refl}
 use native.Mathlib.Omega.{arith}
-use lib.Dec.{ltb}
-use lib.ListN.{length, getD, length-set}
+use lib.ListN.{getD}
 use borrow.Author.Needs.{needs}
-use Rattle.masks.specs.Masks.{Lower}
-use Rattle.masks.proofs.Words.{lower-more, NarrowedBefore, narrowed-none, narrowed-more, narrowed-all}
+use Rattle.model.specs.LiveWords.{isLive}
+use Rattle.masks.specs.Masks.{stays, staysBy, Kept}
+use Rattle.masks.proofs.Words.{lower-on, kept-on, kept-inner, kept-stays, stays-none}
 use Rattle.masks.proofs.keep.Statement.{statement}
 use Rattle.masks.proofs.keep.Tie as tie
 
-abbrev Inv-loop : tie.InvT-loop
-Inv-loop table words₀ start end column value begin stop first i₀ words i =
-    (i ≤ 1024)
-    × ((begin ≡ start)
-    × ((stop ≡ end)
-    × ((first ≡ (column * 16 + value % 16) * 64) × ((length words ≡ 64) × (Lower words₀ words × NarrowedBefore i table start end column value words₀ words)))))
+module _ (w : tie.After-wide4) where
+  abbrev start : tie.Start
+  start = w .before .before .before .before .before
 
-abbrev μ-loop : tie.MeasureT-loop
-μ-loop table words₀ start end column value begin stop first i₀ words i = 64 - i
+  abbrev begin : ℕ
+  begin = w .before .before .before .before .wide .result
 
-wide-requires : tie.Need-wide-requires Inv-loop μ-loop
+  abbrev stop : ℕ
+  stop = w .before .before .before .wide2 .result
+
+  abbrev first : ℕ
+  first = (w .before .wide3 .result * 16 + w .wide4 .result % 16) * 64
+
+  -- there are ids to narrow
+  some : begin < stop
+  some = w .before .before .if1 .left
+
+  -- the words narrowed hold them all
+  done : (n : ℕ) (after : List ℕ) → stop ≤ 64 * n → Kept (staysBy (start .args .table .now) first begin stop) (begin / 64) n (start .args .words .now) after → (g : ℕ) → isLive after g ≡ (isLive (start .args .words .now) g && stays (start .args .table .now) (start .args .start) (start .args .end) (start .args .column) (start .args .value) g)
+  done n after h f g =
+      let a = start .args in
+      let l : 64 * (begin / 64) ≤ begin = omega arith in
+      kept-stays (a .table .now) first begin stop (a .column) (a .value) (begin / 64) n (a .words .now) after (ap₂ (λ (x y : ℕ). (x * 16 + y % 16) * 64) (w .before .wide3 .ensures .0) (w .wide4 .ensures .0)) l h f g
+      ∙ ap₂ (λ (x y : ℕ). isLive (a .words .now) g && stays (a .table .now) x y (a .column) (a .value) g) (w .before .before .before .before .wide .ensures .0) (w .before .before .before .wide2 .ensures .0)
+
+wide-requires : tie.Need-wide-requires
 wide-requires c κs = search needs
 
-wide-requires-2 : tie.Need-wide-requires-2 Inv-loop μ-loop
+wide-requires-2 : tie.Need-wide-requires-2
 wide-requires-2 c κs = search needs
 
-wide-requires-3 : tie.Need-wide-requires-3 Inv-loop μ-loop
+returns : tie.Need-returns
+returns c =
+    let s = c .before .before .before in
+    let a = s .args in
+    let h : a .end ≤ a .start = omega (arith, c .if1 .taken, c .before .wide2 .ensures .0, c .before .before .wide .ensures .0) in
+    (s .pre .0, (λ i. le-refl (getD (a .words .now) i 0), λ g. stays-none (a .table .now) (a .start) (a .end) (a .column) (a .value) g h (isLive (a .words .now) g)))
+
+wide-requires-3 : tie.Need-wide-requires-3
 wide-requires-3 c κs = search needs
 
-mul-first : tie.Need-mul-first Inv-loop μ-loop
+mul-first : tie.Need-mul-first
 mul-first c = search needs
 
-wide-requires-4 : tie.Need-wide-requires-4 Inv-loop μ-loop
+wide-requires-4 : tie.Need-wide-requires-4
 wide-requires-4 c κs = search needs
 
-add-first : tie.Need-add-first Inv-loop μ-loop
+add-first : tie.Need-add-first
 add-first c = search needs
 
-mul-first-2 : tie.Need-mul-first-2 Inv-loop μ-loop
+mul-first-2 : tie.Need-mul-first-2
 mul-first-2 c = search needs
 
-loop-holds : tie.Need-loop-holds Inv-loop μ-loop
-loop-holds c =
-    let start = c .before .before .before .before in
-    let a = start .args in
-    let e = c .before .before .before .wide .ensures .0 in (
-      omega (arith, c .before .before .before .wide .ensures .1),
+sub-last : tie.Need-sub-last
+sub-last c = search needs
+
+keep-word-requires : tie.Need-keep-word-requires
+keep-word-requires c κs = search needs
+
+add-keep-words : tie.Need-add-keep-words
+add-keep-words c = search needs
+
+keep-words-requires : tie.Need-keep-words-requires
+keep-words-requires c κs = search needs
+
+keep-word-requires-2 : tie.Need-keep-word-requires-2
+keep-word-requires-2 c κs = search needs
+
+returns-2 : tie.Need-returns-2
+returns-2 c =
+    let between = c .before .before in
+    let one = between .before .before .before in
+    let w = one .before .before in
+    let a = start w .args in
+    let i = begin w / 64 in
+    let last = (stop w - 1) / 64 in
+    let words = a .words .now in
+    let words₁ = one .keep-word .last .1 .0 in
+    let words₂ = between .keep-words .last .1 .0 in
+    let words₃ = c .keep-word2 .last .1 .0 in
+    let h = some w in
+    let more : i < last = between .before .before .if2 .taken in
+    let low : begin w ≤ 64 * (i + 1) = omega arith in
+    let high : 64 * last ≤ stop w = omega arith in
+    let end : stop w ≤ 64 * (last + 1) = omega arith in
+    let test = staysBy (a .table .now) (first w) (begin w) (stop w) in
+    let inner = kept-inner (a .table .now) (first w) (begin w) (stop w) (i + 1) last words₁ words₂ low high (between .keep-words .ensures .1 .1) in
+    let l1 : i ≤ i + 1 = omega arith in
+    let l2 : i + 1 ≤ last = omega arith in
+    let l3 : i ≤ last = omega arith in
+    let l4 : last ≤ last + 1 = omega arith in (
+      c .keep-word2 .ensures .0,
       (
-        e,
-        (
-          c .before .before .wide2 .ensures .0,
-          (
-            ap₂ (λ (n v : ℕ). (n * 16 + v % 16) * 64) (c .before .wide3 .ensures .0) (c .wide4 .ensures .0),
-            (
-              start .pre .0,
-              (λ i. le-refl (getD (a .words .now) i 0), rw e (narrowed-none (a .table .now) (a .start) (a .end) (a .column) (a .value) (a .words .now))),
-            ),
-          ),
-        ),
+        lower-on words words₂ words₃ (lower-on words words₁ words₂ (one .keep-word .ensures .1 .0) (between .keep-words .ensures .1 .0)) (c .keep-word2 .ensures .1 .0),
+        done w (last + 1) words₃ end
+            (kept-on test i last (last + 1) words words₂ words₃ l3 l4
+            (kept-on test i (i + 1) last words words₁ words₂ l1 l2 (one .keep-word .ensures .1 .1) inner)
+            (c .keep-word2 .ensures .1 .1)),
       ),
     )
 
-mul-loop : tie.Need-mul-loop Inv-loop μ-loop
-mul-loop c = search needs
-
-mul-below : tie.Need-mul-below Inv-loop μ-loop
-mul-below c = search needs
-
-below-requires : tie.Need-below-requires Inv-loop μ-loop
-below-requires c κs = search needs
-
-mul-below-2 : tie.Need-mul-below-2 Inv-loop μ-loop
-mul-below-2 c = search needs
-
-below-requires-2 : tie.Need-below-requires-2 Inv-loop μ-loop
-below-requires-2 c κs = search needs
-
-mul-words : tie.Need-mul-words Inv-loop μ-loop
-mul-words c = search needs
-
-element-copy-out-words : tie.Need-element-copy-out-words Inv-loop μ-loop
-element-copy-out-words c = search needs
-
-add-words : tie.Need-add-words Inv-loop μ-loop
-add-words c = search needs
-
-mul-words-2 : tie.Need-mul-words-2 Inv-loop μ-loop
-mul-words-2 c = search needs
-
-element-copy-out-words-2 : tie.Need-element-copy-out-words-2 Inv-loop μ-loop
-element-copy-out-words-2 c = search needs
-
-mul-words-3 : tie.Need-mul-words-3 Inv-loop μ-loop
-mul-words-3 c = search needs
-
-element-write-words : tie.Need-element-write-words Inv-loop μ-loop
-element-write-words c = search needs
-
-add-i : tie.Need-add-i Inv-loop μ-loop
-add-i c = search needs
-
-loop-less : tie.Need-loop-less Inv-loop μ-loop
-loop-less c = search needs
-
-loop-again : tie.Need-loop-again Inv-loop μ-loop
-loop-again c =
-    let turn = c .before .before .before .before in
-    let l = turn .before .loop in
-    let a = turn .before .before .before .before .before .before .args in
-    let inv = l .inv in
-    let inside : l .i < 64 = omega arith in (
-      omega arith,
-      (
-        inv .1 .0,
-        (
-          inv .1 .1 .0,
-          (
-            inv .1 .1 .1 .0,
-            (
-              length-set (l .words) (l .i) _ ∙ inv .1 .1 .1 .1 .0,
-              (
-                lower-more (a .words .now) (l .words) (l .i) _ (omega arith) (inv .1 .1 .1 .1 .1 .0),
-                narrowed-more (a .table .now) (a .start) (a .end) (a .column) (a .value) (a .words .now) (l .i) (l .words) (omega arith) (c .before .before .before .below .result) (c .before .before .below2 .result) _
-                    (λ j h. c .before .before .before .below .ensures .1 j h ∙ ap (ltb (l .i * 64 + j)) (inv .1 .0))
-                    (c .before .before .below2 .ensures .0)
-                    (λ j h. c .before .before .below2 .ensures .1 j h ∙ ap (ltb (l .i * 64 + j)) (inv .1 .1 .0))
-                    (ap (λ (n : ℕ). getD (a .table .now) (n + l .i) 0) (inv .1 .1 .1 .0))
-                    (inv .1 .1 .1 .1 .1 .1),
-              ),
-            ),
-          ),
-        ),
-      ),
-    )
-
-returns : tie.Need-returns Inv-loop μ-loop
-returns c =
-    let a = c .before .before .before .before .before .before .args in
-    let l = c .before .loop in
-    (l .inv .1 .1 .1 .1 .0, (l .inv .1 .1 .1 .1 .1 .0, narrowed-all (a .table .now) (a .start) (a .end) (a .column) (a .value) (a .words .now) (l .i) (l .words) (omega arith) (l .inv .1 .1 .1 .1 .1 .1)))
+returns-3 : tie.Need-returns-3
+returns-3 c =
+    let one = c .before in
+    let w = one .before .before in
+    let h = some w in
+    let end : stop w ≤ 64 * (begin w / 64 + 1) = omega (arith, c .if2 .left) in
+    (one .keep-word .ensures .0, (one .keep-word .ensures .1 .0, done w (begin w / 64 + 1) (one .keep-word .last .1 .0) end (one .keep-word .ensures .1 .1)))
 
 pub keep-spec : {M : Type 1} → statement M
 keep-spec =
     tie.close
     (tie.spec
-    Inv-loop
-    μ-loop
     wide-requires
     wide-requires-2
+    returns
     wide-requires-3
     mul-first
     wide-requires-4
     add-first
     mul-first-2
-    loop-holds
-    mul-loop
-    mul-below
-    below-requires
-    mul-below-2
-    below-requires-2
-    mul-words
-    element-copy-out-words
-    add-words
-    mul-words-2
-    element-copy-out-words-2
-    mul-words-3
-    element-write-words
-    add-i
-    loop-less
-    loop-again
-    returns)
+    sub-last
+    keep-word-requires
+    add-keep-words
+    keep-words-requires
+    keep-word-requires-2
+    returns-2
+    returns-3)

@@ -9,7 +9,7 @@ use borrow.Author.Needs.{needs}
 use borrow.Author.Tests.{ltb-false}
 use Rattle.model.specs.Network.{Network, size, firstId}
 use Rattle.network.specs.Layout.{tabled}
-use Rattle.masks.proofs.Tables.{first-at, end-at, ids-rise, ids-few}
+use Rattle.masks.proofs.Tables.{first-at, end-at, ids-few}
 use Rattle.masks.proofs.Narrowing.{dead-past}
 use Rattle.masks.proofs.narrow_member.Statement.{statement}
 use Rattle.masks.proofs.narrow_member.Tie as tie
