@@ -42,14 +42,19 @@ static void mark_all(const network *n, marks table) {
     }
 }
 
+/* The bits of word i that stand for ids below the bound. */
+static uint64_t below(size_t i, size_t bound) {
+    if (bound <= i * 64) return 0;
+    return bound - i * 64 < 64 ? (1ull << (bound - i * 64)) - 1 : ~0ull;
+}
+
 /* Of the ids from begin on and below end, only those marked stay. */
 static void keep(uint64_t *words, const uint64_t *marked, size_t begin, size_t end) {
-    for (size_t i = begin / 64; i * 64 < end; i++) {
-        uint64_t stay = marked[i];
-        if (i * 64 < begin) stay |= (1ull << (begin - i * 64)) - 1;
-        if (end < i * 64 + 64) stay |= ~0ull << (end - i * 64);
-        words[i] &= stay;
-    }
+    size_t i = begin / 64, last = end / 64;
+    if (begin >= end) return;
+    words[i] &= marked[i] | below(i, begin) | ~below(i, end);
+    for (i++; i < last; i++) words[i] &= marked[i];
+    if (i * 64 < end) words[i] &= marked[i] | ~below(i, end);
 }
 
 static size_t column_of(const uint16_t *scope, size_t width, uint16_t x) {
