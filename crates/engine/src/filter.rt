@@ -10,7 +10,7 @@ ghost use Rattle.model.specs.LiveWords.{written};
 ghost use Rattle.engine.specs.Setting.{setting, network, listed, liveIn, Sound};
 use super::blank::blank_all;
 use super::visit::visit;
-use masks::mark_all;
+use narrowing::mark_all;
 use network::wide;
 use worklist::list::fill;
 use worklist::list::pair_starts;

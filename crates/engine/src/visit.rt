@@ -4,7 +4,7 @@ ghost use mathlib.Core.Bool.{true};
 ghost use Prim.Native.Nat.{ℕ, _<_};
 ghost use lib.ListN.{length, getD};
 ghost use Rattle.model.specs.TupleSet.{has};
-ghost use Rattle.masks.specs.Masks.{Marks};
+ghost use Rattle.narrowing.specs.Marks.{Marks};
 ghost use Rattle.engine.specs.Setting.{setting, network, Sound, liveIn, sizeOf, tupleId, placeOf};
 ghost use Rattle.engine.specs.Work.{Working, Renewed, Visited};
 use live::clear;

@@ -19,7 +19,7 @@ use Rattle.model.proofs.Network.{index-bounds, ids-below}
 use Rattle.model.proofs.LiveWords.{living-length, living-has}
 use Rattle.model.proofs.Search.{completion-bare}
 use Rattle.model.proofs.Narrowing.{Narrower, narrow-all, completion-narrow, supportFrom-narrow}
-use Rattle.masks.specs.Masks.{Later, Others, Narrowed, Bare}
+use Rattle.narrowing.specs.Marks.{Later, Others, Narrowed, Bare}
 use Rattle.support.specs.Search.{Search, searching, network, live, seeker, Ready, chosenIds, Begun}
 use Rattle.support.proofs.Walk.{members-apart, few-tuples, member-below}
 use Rattle.support.proofs.Ends.{sought-first}

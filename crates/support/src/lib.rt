@@ -10,11 +10,11 @@ ghost use Rattle.model.specs.Agreement.{cellsOf};
 ghost use Rattle.model.specs.TupleSet.{has};
 ghost use Rattle.model.specs.Support.{supportFrom, completion};
 ghost use Rattle.network.specs.Layout.{tabled, Laid};
-ghost use Rattle.masks.specs.Masks.{Marks};
+ghost use Rattle.narrowing.specs.Marks.{Marks};
 ghost use Rattle.support.specs.Search.{searching, network, live, idAt, seeker, Ready, chosenIds, Begun, Due, pastOwn, spanAt, fits, Trial, answer};
 use live::is_live;
 use live::next;
-use masks::narrow_members;
+use narrowing::narrow_members;
 use network::agreement::tuples_agree;
 use network::wide;
 

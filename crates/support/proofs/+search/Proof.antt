@@ -17,7 +17,7 @@ use borrow.Fn.PlainCycle.{Measures, is, falls, and}
 use Rattle.model.specs.TupleSet.{has}
 use Rattle.support.specs.declared.Span.{Span}
 use Rattle.model.proofs.LiveWords.{nextLive-first}
-use Rattle.masks.specs.Masks.{Marks}
+use Rattle.narrowing.specs.Marks.{Marks}
 use Rattle.support.specs.Search.{Search, searching, network, live, idAt, seeker, Ready, chosenIds, Begun, Due, answer}
 use Rattle.support.proofs.Chosen.{chosen-mem}
 use Rattle.support.proofs.Ends.{turn-done}
@@ -26,7 +26,7 @@ use Rattle.support.proofs.Own.{Staged, staged}
 use Rattle.support.proofs.Turn.{sought, onward, Come, span-asks, Turn, walk-asks, walk-forward, come-first, come-from, come-none, come-found, come-next, come-lives, index-below, trial, come-clash, onward-more, come-more, agrees-own}
 use Rattle.support.proofs.Narrow.{others, onWords, Fewer, fewer-words, ready-narrowed, sought-bare, begun-narrowed, sought-narrowed}
 use Rattle.live.proofs.next.Reads as next-reads
-use Rattle.masks.proofs.narrow_members.Reads as narrow-members-reads
+use Rattle.narrowing.proofs.narrow_members.Reads as narrow-members-reads
 use Rattle.support.proofs.fits.Reads as fits-reads
 use Rattle.support.proofs.past_own.Reads as past-own-reads
 use Rattle.support.proofs.span_of.Reads as span-of-reads

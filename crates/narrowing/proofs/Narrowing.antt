@@ -1,0 +1,126 @@
+-- Laws of narrowing: by no column, by one, and one after the other; relation s narrowed for a tuple of relation r; and the members
+-- of a combination, one after the other.
+-- From what `keep` ensures, and the laws of agreement by places and of ids.
+use mathlib.Core.Path.{_≡_, refl, sym, _∙_, ap, subst}
+use mathlib.Core.Bool.{Bool, true, _&&_, and-true}
+use mathlib.Core.List.{List}
+use mathlib.Core.Logic.{_⊎_, inl, inr, ⊎-elim}
+use Prim.Native.Nat.{ℕ, _+_, _-_, _≤_, _<_}
+use native.Mathlib.Nat.{le-refl}
+use native.Mathlib.Omega.{arith}
+use native.Mathlib.Decide.{ℕ-discrete, decLt, decLe}
+use lib.Dec.{ltb, leb}
+use lib.ListN.{length, getD}
+use Rattle.model.specs.Network.{Network, width, size, firstId, scopeOf, valuesAt, relationOf}
+use Rattle.model.specs.Agreement.{Cell, cells, cellsOf, agreeing, agree}
+use Rattle.model.specs.LiveWords.{isLive, nextLive}
+use Rattle.model.proofs.Bools.{and-left, and-intro, or-right, not-both}
+use Rattle.model.proofs.Network.{relationOf-at}
+use Rattle.model.proofs.LiveWords.{nextLive-first}
+use Rattle.model.proofs.Agreement.{cellAt, cellsOf-at, agreeing-clash, clash-different-value}
+use Rattle.network.specs.Layout.{Laid}
+use Rattle.narrowing.specs.Marks.{bucketOf, marked, Marks, stays, Lower, Narrows, Agreeing, Dead, Narrowed}
+use Rattle.narrowing.proofs.Words.{lower-on, stays-low, stays-high}
+use Rattle.narrowing.proofs.Tables.{scope-length, values-length}
+
+module _ (accepts : List ℕ → Bool) (columns : ℕ) (table : List ℕ) (start end : ℕ) where
+  pub narrows-none : (ws : List ℕ) → Narrows accepts columns table start end ws ws
+  narrows-none ws = record { lower = λ i. le-refl (getD ws i 0); inside = λ g e. e; outside = λ g o. refl; keeps = λ g b l m a e. e }
+
+  pub narrows-on : (a b c : List ℕ) → Narrows accepts columns table start end a b → Narrows accepts columns table start end b c → Narrows accepts columns table start end a c
+  narrows-on a b c f g =
+      record {
+        lower = lower-on a b c (f .lower) (g .lower);
+        inside = λ h e. f .inside h (g .inside h e);
+        outside = λ h o. g .outside h o ∙ f .outside h o;
+        keeps = λ h v l m p e. g .keeps h v l m p (f .keeps h v l m p e);
+      }
+
+  -- a column in which accepted values have value v
+  pub narrows-keep : (column v : ℕ) (before after : List ℕ) → Lower before after → column < columns → ((b : List ℕ) → columns ≡ length b → accepts b ≡ true → getD b column 0 ≡ v) → ((g : ℕ) → isLive after g ≡ (isLive before g && stays table start end column v g)) → Narrows accepts columns table start end before after
+  narrows-keep column v before after lower h told kept =
+      record {
+        lower = lower;
+        inside = λ g e. and-left (isLive before g) (stays table start end column v g) (sym (kept g) ∙ e);
+        outside = λ g o. kept g ∙ ap (λ (x : Bool). isLive before g && x) (⊎-elim (stays-low table start end column v g) (stays-high table start end column v g) o) ∙ and-true (isLive before g);
+        keeps = λ g b l m a e. kept g ∙ and-intro e (or-right (ltb g start) (or-right (leb end g) (subst (λ (x : ℕ). marked table column (bucketOf x) g ≡ true) (told b l a) (m column h))));
+      }
+
+-- tuples that agree have the same value under a variable that stands at place i of the one scope and at place j of the other
+module _ (scopeA a scopeB : List ℕ) (i j : ℕ) (widths : length scopeA ≡ length a) (hi : i < length scopeA) (hj : j < length scopeB) (same : getD scopeA i 0 ≡ getD scopeB j 0) where
+  pub same-value : (b : List ℕ) → length scopeB ≡ length b → agreeing (cells scopeA a) (cells scopeB b) ≡ true → getD b j 0 ≡ getD a i 0
+  same-value b l e = go (ℕ-discrete (getD a i 0) (getD b j 0))
+    where
+      go : Dec (getD a i 0 ≡ getD b j 0) → getD b j 0 ≡ getD a i 0
+      go (yes q) = sym q
+      go (no d) = absurd (not-both e (agreeing-clash scopeA a scopeB b i j widths l hi hj (clash-different-value (cellAt scopeA a i) (cellAt scopeB b j) same d)))
+
+-- relation s, by its scope and the values of its tuples
+pub narrows-agreeing : (N : Network) (vs ws : List ℕ) → Laid N vs ws → (table : List ℕ) → Marks N table → (r x s start end : ℕ) → start ≡ firstId N s → end ≡ firstId N s + size N s → (xs : List Cell) → xs ≡ cellsOf N (firstId N r + x) → (scope : List ℕ) → scope ≡ scopeOf N s → (before after : List ℕ) → Narrows (λ (b : List ℕ). agreeing xs (cells scope b)) (length scope) table start end before after → Agreeing N r x s before after
+unfolding agree
+narrows-agreeing N vs ws laid table marks r x s start end es ee xs ex scope ep before after n =
+    record {
+      lower = n .lower;
+      inside = n .inside;
+      outside = λ g o. n .outside g (subst (λ (k : ℕ). (g < k) ⊎ (end ≤ g)) (sym es) (subst (λ (k : ℕ). (g < firstId N s) ⊎ (k ≤ g)) (sym ee) o));
+      keeps = λ z h a e.
+          let l : length scope ≡ width N s = ap (λ (p : List ℕ). length p) ep ∙ scope-length N vs ws laid s z h in
+          n .keeps (firstId N s + z) (valuesAt N s z) (l ∙ sym (values-length N vs ws laid s z h))
+          (λ c k. marks .at s z c h (omega arith))
+          (ap (λ (p : List ℕ). agreeing xs (cells p (valuesAt N s z))) ep
+          ∙ ap (agreeing xs) (sym (cellsOf-at N s z h))
+          ∙ ap (λ (ys : List Cell). agreeing ys (cellsOf N (firstId N s + z))) ex
+          ∙ a)
+          e;
+    }
+
+-- ---- Members
+
+-- where the next live id is past the relation's, none of them is live
+pub dead-past : (N : Network) (s start end : ℕ) (ws : List ℕ) → start ≡ firstId N s → end ≡ firstId N s + size N s → end ≤ nextLive ws start end → Dead N s ws
+dead-past N s start end ws es ee h z k = (nextLive-first ws start end (omega arith)) .none-before (firstId N s + z) (omega arith) (omega arith)
+
+-- a tuple of one relation lies outside every other
+ids-apart : (N : Network) (q z s : ℕ) → z < size N q → (s ≡ q → ⊥) → (firstId N q + z < firstId N s) ⊎ (firstId N s + size N s ≤ firstId N q + z)
+ids-apart N q z s h d = go (decLt g (firstId N s)) (decLe (firstId N s + size N s) g)
+  where
+    g : ℕ
+    g = firstId N q + z
+
+    inner : firstId N s ≤ g → g < firstId N s + size N s → s ≡ q
+    inner l k =
+        let e : firstId N s + (g - firstId N s) ≡ g = omega arith in
+        sym (ap (relationOf N) (sym e) ∙ relationOf-at N s (g - firstId N s) (omega arith)) ∙ relationOf-at N q z h
+
+    go : Dec (g < firstId N s) → Dec (firstId N s + size N s ≤ g) → (g < firstId N s) ⊎ (firstId N s + size N s ≤ g)
+    go (yes l) k = inl l
+    go (no l) (yes k) = inr k
+    go (no l) (no k) = absurd (d (inner (omega arith) (omega arith)))
+
+module _ (N : Network) (y : ℕ) where
+  pub narrowed-none : (ws : List ℕ) → Narrowed N y ws ws
+  narrowed-none ws = record { lower = λ i. le-refl (getD ws i 0); inside = λ g e. e; keeps = λ s z h a e. e; itself = refl }
+
+  pub narrowed-on : (a b c : List ℕ) → Narrowed N y a b → Narrowed N y b c → Narrowed N y a c
+  narrowed-on a b c f g =
+      record {
+        lower = lower-on a b c (f .lower) (g .lower);
+        inside = λ h e. f .inside h (g .inside h e);
+        keeps = λ s z h p e. g .keeps s z h p (f .keeps s z h p e);
+        itself = g .itself ∙ f .itself;
+      }
+
+-- relation s, which is not the tuple's own
+pub narrowed-one : (N : Network) (r x s : ℕ) → x < size N r → (s ≡ r → ⊥) → (before after : List ℕ) → Agreeing N r x s before after → Narrowed N (firstId N r + x) before after
+narrowed-one N r x s h d before after a =
+    record {
+      lower = a .lower;
+      inside = a .inside;
+      keeps = λ q z k p e. keep q z k p e (ℕ-discrete s q);
+      itself = a .outside (firstId N r + x) (ids-apart N r x s h d);
+    }
+  where
+    keep : (q z : ℕ) → z < size N q → agree N (firstId N r + x) (firstId N q + z) ≡ true → isLive before (firstId N q + z) ≡ true → Dec (s ≡ q) → isLive after (firstId N q + z) ≡ true
+    keep q z k p e (yes c) =
+        subst (λ (n : ℕ). z < size N n → agree N (firstId N r + x) (firstId N n + z) ≡ true → isLive before (firstId N n + z) ≡ true → isLive after (firstId N n + z) ≡ true) c (a .keeps z) k p e
+    keep q z k p e (no c) = a .outside (firstId N q + z) (ids-apart N q z s k c) ∙ e

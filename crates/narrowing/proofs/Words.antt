@@ -1,0 +1,234 @@
+-- Laws of the words that narrow: a word of the ids below a bound, and words narrowed by a test of ids or by the table.
+-- From the laws of the machine's operations on words.
+use mathlib.Core.Path.{_≡_, refl, sym, _∙_, ap, ap₂}
+use mathlib.Core.Bool.{Bool, true, false, not, _&&_, _||_, and-true, or-true, or-false}
+use mathlib.Core.List.{List}
+use Prim.Native.Nat.{ℕ, _+_, _-_, _*_, _/_, _%_, _^_, _≤_, _<_}
+use native.Mathlib.Nat.{le-trans}
+use native.Mathlib.Omega.{arith}
+use native.Mathlib.Decide.{ℕ-discrete, decLt}
+use lib.Dec.{ltb, leb, eqb}
+use lib.ListN.{length, getD, set}
+use lib.Seq.{getD-set-same, getD-set-other}
+use lib.Bits.{bitAnd, bitOr, and-le-l}
+use lib.Pow.{pow-pos}
+use borrow.Author.Tests.{lt-ltb, le-ltb, ltb-true, ltb-false, le-leb, lt-leb, leb-true, leb-false, eqb-true, eqb-false, eq-eqb, ne-eqb}
+use Rattle.model.specs.LiveWords.{isSet, isLive}
+use Rattle.model.proofs.LiveWords.{isLive-at}
+use Rattle.live.proofs.Bits.{isSet-high, isSet-not, isSet-and, isSet-or, isSet-pow, one-shl}
+use Rattle.narrowing.specs.Marks.{bucketOf, marked, stays, rowBit, staysBy, Kept, Lower}
+
+-- ---- The ids below a bound
+
+isSet-nought : (j : ℕ) → isSet 0 j ≡ false
+isSet-nought j = isSet-high 0 0 j (omega arith) (omega arith)
+
+module _ (base bound j : ℕ) where
+  pub below-none : bound ≤ base → isSet 0 j ≡ ltb (base + j) bound
+  below-none h = isSet-nought j ∙ sym (le-ltb (base + j) bound (omega arith))
+
+  pub below-all : 64 ≤ bound - base → j < 64 → isSet (2 ^ 64 - 1 - 0) j ≡ ltb (base + j) bound
+  below-all h l = isSet-not 64 0 j (omega arith) l ∙ ap not (isSet-nought j) ∙ sym (lt-ltb (base + j) bound (omega arith))
+
+  below-part : (k : ℕ) → k ≡ bound - base → base < bound → Dec (j < k) → isSet (2 ^ k - 1) j ≡ ltb (base + j) bound
+  below-part k e h (yes l) =
+      let q : 2 ^ k - 1 ≡ 2 ^ k - 1 - 0 = omega arith in
+      ap (λ (w : ℕ). isSet w j) q
+      ∙ isSet-not k 0 j (pow-pos k) l
+      ∙ ap not (isSet-nought j)
+      ∙ sym (lt-ltb (base + j) bound (omega arith))
+  below-part k e h (no l) = isSet-high (2 ^ k - 1) k j (omega (arith, pow-pos k)) (omega arith) ∙ sym (le-ltb (base + j) bound (omega arith))
+
+  pub below-some : base < bound → bound - base < 64 → isSet (1 * 2 ^ (bound - base) % 2 ^ 64 - 1) j ≡ ltb (base + j) bound
+  below-some h l = rw (one-shl (bound - base) l) (below-part (bound - base) refl h (decLt j (bound - base)))
+
+not-ltb : (a b : ℕ) → not (ltb a b) ≡ leb b a
+not-ltb a b = go (ltb a b) refl
+  where
+    go : (x : Bool) → ltb a b ≡ x → not x ≡ leb b a
+    go true e = sym (lt-leb b a (ltb-true a b e))
+    go false e = sym (le-leb b a (ltb-false a b e))
+
+-- ---- One word stored
+
+module _ (ws : List ℕ) (i w g : ℕ) where
+  isLive-set-same : i < length ws → g / 64 ≡ i → isLive (set ws i w) g ≡ isSet w (g % 64)
+  unfolding isLive
+  isLive-set-same h e =
+      ap (λ (k : ℕ). isSet (getD (set ws i w) k 0) (g % 64)) e ∙ ap (λ (x : ℕ). isSet x (g % 64)) (getD-set-same ws i w 0 h)
+
+  isLive-set-other : (g / 64 ≡ i → ⊥) → isLive (set ws i w) g ≡ isLive ws g
+  unfolding isLive
+  isLive-set-other d = ap (λ (x : ℕ). isSet x (g % 64)) (getD-set-other ws i (g / 64) w 0 d)
+
+-- the bit at place p is set, and no other changes
+pub marked-one : (ws : List ℕ) (p h : ℕ) → p / 64 < length ws → isLive (set ws (p / 64) (bitOr (getD ws (p / 64) 0) (1 * 2 ^ (p % 64) % 2 ^ 64))) h ≡ (isLive ws h || eqb p h)
+marked-one ws p h inside = rw (one-shl (p % 64) (omega arith)) (go (ℕ-discrete (h / 64) (p / 64)))
+  where
+    same : (x : Bool) → eqb p h ≡ x → h / 64 ≡ p / 64 → eqb (p % 64) (h % 64) ≡ x
+    same true e q = let d = eqb-true p h e in eq-eqb (p % 64) (h % 64) (omega arith)
+    same false e q = let d = eqb-false p h e in ne-eqb (p % 64) (h % 64) (λ f. d (omega arith))
+
+    go : Dec (h / 64 ≡ p / 64) → isLive (set ws (p / 64) (bitOr (getD ws (p / 64) 0) (2 ^ (p % 64)))) h ≡ (isLive ws h || eqb p h)
+    go (yes e) =
+        let q : h ≡ 64 * (p / 64) + h % 64 = omega arith in
+        isLive-set-same ws (p / 64) (bitOr (getD ws (p / 64) 0) (2 ^ (p % 64))) h inside e
+        ∙ isSet-or (getD ws (p / 64) 0) (2 ^ (p % 64)) (h % 64)
+        ∙ ap₂ (λ (x y : Bool). x || y) (sym (isLive-at ws (p / 64) (h % 64) (omega arith)) ∙ ap (isLive ws) (sym q)) (isSet-pow (p % 64) (h % 64) ∙ same (eqb p h) refl e)
+    go (no d) =
+        isLive-set-other ws (p / 64) (bitOr (getD ws (p / 64) 0) (2 ^ (p % 64))) h d
+        ∙ sym (ap (λ (x : Bool). isLive ws h || x) (ne-eqb p h (λ e. d (ap (λ (n : ℕ). n / 64) (sym e)))) ∙ or-false (isLive ws h))
+
+-- ---- Words narrowed
+
+-- a word that is narrowed is not above what it was
+pub lower-more : (ws₀ ws : List ℕ) (i x : ℕ) → i < length ws → Lower ws₀ ws → Lower ws₀ (set ws i (bitAnd (getD ws i 0) x))
+lower-more ws₀ ws i x inside f k = go (ℕ-discrete k i)
+  where
+    go : Dec (k ≡ i) → getD (set ws i (bitAnd (getD ws i 0) x)) k 0 ≤ getD ws₀ k 0
+    go (yes e) = rw e (rw (getD-set-same ws i (bitAnd (getD ws i 0) x) 0 inside) (le-trans (and-le-l (getD ws i 0) x) (f i)))
+    go (no d) = rw (getD-set-other ws i k (bitAnd (getD ws i 0) x) 0 d) (f k)
+
+pub lower-on : (a b c : List ℕ) → Lower a b → Lower b c → Lower a c
+lower-on a b c f g i = le-trans (g i) (f i)
+
+-- by any test of ids
+module _ (passes : ℕ → Bool) where
+  -- what stays of id g when the words from i on and below n are narrowed
+  abbrev left : ℕ → ℕ → ℕ → Bool
+  left i n g = ltb g (64 * i) || (leb (64 * n) g || passes g)
+
+  left-before : (i n g : ℕ) → g < 64 * i → left i n g ≡ true
+  left-before i n g h = ap (λ (x : Bool). x || (leb (64 * n) g || passes g)) (lt-ltb g (64 * i) h)
+
+  left-behind : (i n g : ℕ) → 64 * n ≤ g → left i n g ≡ true
+  left-behind i n g h = ap (λ (x : Bool). ltb g (64 * i) || (x || passes g)) (le-leb (64 * n) g h) ∙ or-true (ltb g (64 * i))
+
+  -- no word
+  pub kept-none : (i : ℕ) (ws : List ℕ) → Kept passes i i ws ws
+  kept-none i ws g = sym (ap (λ (x : Bool). isLive ws g && x) (go (decLt g (64 * i))) ∙ and-true (isLive ws g))
+    where
+      go : Dec (g < 64 * i) → left i i g ≡ true
+      go (yes h) = left-before i i g h
+      go (no h) = left-behind i i g (omega arith)
+
+  -- one word
+  pub kept-word : (i x : ℕ) (ws : List ℕ) → i < length ws → ((j : ℕ) → j < 64 → isSet x j ≡ passes (64 * i + j)) → Kept passes i (i + 1) ws (set ws i (bitAnd (getD ws i 0) x))
+  kept-word i x ws inside bits g = go (ℕ-discrete (g / 64) i)
+    where
+      new : ℕ
+      new = bitAnd (getD ws i 0) x
+
+      outside : (g / 64 ≡ i → ⊥) → Dec (g < 64 * i) → left i (i + 1) g ≡ true
+      outside d (yes h) = left-before i (i + 1) g h
+      outside d (no h) = left-behind i (i + 1) g (omega arith)
+
+      go : Dec (g / 64 ≡ i) → isLive (set ws i new) g ≡ (isLive ws g && left i (i + 1) g)
+      go (yes e) =
+          let j = g % 64 in
+          let q : g ≡ 64 * i + j = omega arith in
+          let l : j < 64 = omega arith in
+          isLive-set-same ws i new g inside e
+          ∙ isSet-and (getD ws i 0) x j
+          ∙ ap₂ (λ (y z : Bool). y && z) (sym (isLive-at ws i j l) ∙ ap (isLive ws) (sym q))
+          (bits j l
+          ∙ ap passes (sym q)
+          ∙ sym (ap₂ (λ (y z : Bool). y || (z || passes g)) (le-ltb g (64 * i) (omega arith)) (lt-leb (64 * (i + 1)) g (omega arith))))
+      go (no d) =
+          isLive-set-other ws i new g d
+          ∙ sym (ap (λ (y : Bool). isLive ws g && y) (outside d (decLt g (64 * i))) ∙ and-true (isLive ws g))
+
+  -- words, and the words behind them
+  pub kept-on : (i m n : ℕ) (a b c : List ℕ) → i ≤ m → m ≤ n → Kept passes i m a b → Kept passes m n b c → Kept passes i n a c
+  kept-on i m n a b c h k f s g = s g ∙ go (decLt g (64 * m))
+    where
+      go : Dec (g < 64 * m) → (isLive b g && left m n g) ≡ (isLive a g && left i n g)
+      go (yes l) =
+          ap (λ (x : Bool). isLive b g && x) (left-before m n g l)
+          ∙ and-true (isLive b g)
+          ∙ f g
+          ∙ ap (λ (x : Bool). isLive a g && (ltb g (64 * i) || (x || passes g))) (lt-leb (64 * m) g l ∙ sym (lt-leb (64 * n) g (omega arith)))
+      go (no l) =
+          ap₂ (λ (x y : Bool). x && (y || (leb (64 * n) g || passes g)))
+          (f g ∙ ap (λ (x : Bool). isLive a g && x) (left-behind i m g (omega arith)) ∙ and-true (isLive a g))
+          (le-ltb g (64 * m) (omega arith) ∙ sym (le-ltb g (64 * i) (omega arith)))
+
+  -- by another test that says the same of their ids
+  pub kept-same : (others : ℕ → Bool) (i n : ℕ) (a b : List ℕ) → ((g : ℕ) → 64 * i ≤ g → g < 64 * n → passes g ≡ others g) → Kept passes i n a b → Kept others i n a b
+  kept-same others i n a b same f g = f g ∙ ap (λ (x : Bool). isLive a g && x) (go (ltb g (64 * i)) refl (leb (64 * n) g) refl)
+    where
+      go : (x : Bool) → ltb g (64 * i) ≡ x → (y : Bool) → leb (64 * n) g ≡ y → (x || (y || passes g)) ≡ (x || (y || others g))
+      go true p y q = refl
+      go false p true q = refl
+      go false p false q = same g (ltb-false g (64 * i) p) (leb-false (64 * n) g q)
+
+  -- by a test that all other ids pass
+  pub kept-all : (i n : ℕ) (a b : List ℕ) → ((g : ℕ) → g < 64 * i → passes g ≡ true) → ((g : ℕ) → 64 * n ≤ g → passes g ≡ true) → Kept passes i n a b → (g : ℕ) → isLive b g ≡ (isLive a g && passes g)
+  kept-all i n a b low high f g = f g ∙ ap (λ (x : Bool). isLive a g && x) (go (ltb g (64 * i)) refl (leb (64 * n) g) refl)
+    where
+      go : (x : Bool) → ltb g (64 * i) ≡ x → (y : Bool) → leb (64 * n) g ≡ y → (x || (y || passes g)) ≡ passes g
+      go true p y q = sym (low g (ltb-true g (64 * i) p))
+      go false p true q = sym (high g (leb-true (64 * n) g q))
+      go false p false q = refl
+
+-- ---- Words narrowed by the table
+
+module _ (table : List ℕ) (first : ℕ) where
+  -- bit j of word i there is bit j of the table's word
+  pub row-at : (i j : ℕ) → j < 64 → isSet (getD table (first + i) 0) j ≡ rowBit table first (64 * i + j)
+  row-at i j h =
+      let e : 64 * first + (64 * i + j) ≡ 64 * (first + i) + j = omega arith in
+      sym (ap (isLive table) e ∙ isLive-at table (first + i) j h)
+
+  row-marked : (c b g : ℕ) → first ≡ (c * 16 + b) * 64 → rowBit table first g ≡ marked table c b g
+  unfolding marked
+  row-marked c b g e =
+      let q : 64 * first + g ≡ (c * 16 + b) * 4096 + g = omega arith in
+      ap (isLive table) q
+
+  module _ (start end : ℕ) where
+    before-start : (g : ℕ) → g < start → staysBy table first start end g ≡ true
+    before-start g h = ap (λ (x : Bool). x || (leb end g || rowBit table first g)) (lt-ltb g start h)
+
+    from-end : (g : ℕ) → end ≤ g → staysBy table first start end g ≡ true
+    from-end g h = ap (λ (x : Bool). ltb g start || (x || rowBit table first g)) (le-leb end g h) ∙ or-true (ltb g start)
+
+    -- the bits of the word that word i is narrowed by
+    pub stays-at : (i low high j : ℕ) → ((k : ℕ) → k < 64 → isSet low k ≡ ltb (i * 64 + k) start) → high < 2 ^ 64 → ((k : ℕ) → k < 64 → isSet high k ≡ ltb (i * 64 + k) end) → j < 64 → isSet (bitOr low (bitOr (2 ^ 64 - 1 - high) (getD table (first + i) 0))) j ≡ staysBy table first start end (64 * i + j)
+    stays-at i low high j lows fits highs h =
+        let c : i * 64 + j ≡ 64 * i + j = omega arith in
+        let m = getD table (first + i) 0 in
+        isSet-or low (bitOr (2 ^ 64 - 1 - high) m) j
+        ∙ ap₂ (λ (x y : Bool). x || y) (lows j h ∙ ap (λ (g : ℕ). ltb g start) c)
+        (isSet-or (2 ^ 64 - 1 - high) m j
+        ∙ ap₂ (λ (x y : Bool). x || y)
+        (isSet-not 64 high j fits h ∙ ap not (highs j h ∙ ap (λ (g : ℕ). ltb g end) c) ∙ not-ltb (64 * i + j) end)
+        (row-at i j h))
+
+    -- words whose ids all lie from start on and below end
+    pub kept-inner : (i n : ℕ) (a b : List ℕ) → start ≤ 64 * i → 64 * n ≤ end → Kept (rowBit table first) i n a b → Kept (staysBy table first start end) i n a b
+    kept-inner i n a b h k =
+        kept-same (rowBit table first) (staysBy table first start end) i n a b
+        (λ g l m. sym (ap₂ (λ (x y : Bool). x || (y || rowBit table first g)) (le-ltb g start (omega arith)) (lt-leb end g (omega arith))))
+
+    -- words that hold all ids from start on and below end
+    pub kept-stays : (column value i n : ℕ) (a b : List ℕ) → first ≡ (column * 16 + value % 16) * 64 → 64 * i ≤ start → end ≤ 64 * n → Kept (staysBy table first start end) i n a b → (g : ℕ) → isLive b g ≡ (isLive a g && stays table start end column value g)
+    kept-stays column value i n a b e h k f g =
+        kept-all (staysBy table first start end) i n a b (λ g l. before-start g (omega arith)) (λ g l. from-end g (omega arith)) f g
+        ∙ ap (λ (x : Bool). isLive a g && (ltb g start || (leb end g || x))) (row-marked column (bucketOf value) g e)
+
+-- an id outside those that are narrowed stays
+module _ (table : List ℕ) (start end column value g : ℕ) where
+  pub stays-low : g < start → stays table start end column value g ≡ true
+  stays-low l = ap (λ (x : Bool). x || (leb end g || marked table column (bucketOf value) g)) (lt-ltb g start l)
+
+  pub stays-high : end ≤ g → stays table start end column value g ≡ true
+  stays-high l = ap (λ (x : Bool). ltb g start || (x || marked table column (bucketOf value) g)) (le-leb end g l) ∙ or-true (ltb g start)
+
+  -- .. and so do all where there are none to narrow
+  pub stays-none : end ≤ start → (b : Bool) → b ≡ (b && stays table start end column value g)
+  stays-none h b = sym (ap (λ (x : Bool). b && x) (go (decLt g start)) ∙ and-true b)
+    where
+      go : Dec (g < start) → stays table start end column value g ≡ true
+      go (yes l) = stays-low l
+      go (no l) = stays-high (omega arith)

@@ -1,0 +1,144 @@
+-- `keep` narrows the first word, and where there are more, the words between and the last one.
+-- From what `keep_word` and `keep_words` ensure, and the laws of words narrowed by the table.
+use mathlib.Core.Path.{_≡_, ap₂, _∙_}
+use mathlib.Core.Bool.{_&&_}
+use mathlib.Core.List.{List}
+use Prim.Native.Nat.{ℕ, _+_, _-_, _*_, _/_, _%_, _≤_, _<_}
+use native.Mathlib.Nat.{le-refl}
+use native.Mathlib.Omega.{arith}
+use lib.ListN.{getD}
+use borrow.Author.Needs.{needs}
+use Rattle.model.specs.LiveWords.{isLive}
+use Rattle.narrowing.specs.Marks.{stays, staysBy, Kept}
+use Rattle.narrowing.proofs.Words.{lower-on, kept-on, kept-inner, kept-stays, stays-none}
+use Rattle.narrowing.proofs.keep.Statement.{statement}
+use Rattle.narrowing.proofs.keep.Tie as tie
+
+module _ (w : tie.After-wide4) where
+  abbrev start : tie.Start
+  start = w .before .before .before .before .before
+
+  abbrev begin : ℕ
+  begin = w .before .before .before .before .wide .result
+
+  abbrev stop : ℕ
+  stop = w .before .before .before .wide2 .result
+
+  abbrev first : ℕ
+  first = (w .before .wide3 .result * 16 + w .wide4 .result % 16) * 64
+
+  -- there are ids to narrow
+  some : begin < stop
+  some = w .before .before .if1 .left
+
+  -- the words narrowed hold them all
+  done : (n : ℕ) (after : List ℕ) → stop ≤ 64 * n → Kept (staysBy (start .args .table .now) first begin stop) (begin / 64) n (start .args .words .now) after → (g : ℕ) → isLive after g ≡ (isLive (start .args .words .now) g && stays (start .args .table .now) (start .args .start) (start .args .end) (start .args .column) (start .args .value) g)
+  done n after h f g =
+      let a = start .args in
+      let l : 64 * (begin / 64) ≤ begin = omega arith in
+      kept-stays (a .table .now) first begin stop (a .column) (a .value) (begin / 64) n (a .words .now) after (ap₂ (λ (x y : ℕ). (x * 16 + y % 16) * 64) (w .before .wide3 .ensures .0) (w .wide4 .ensures .0)) l h f g
+      ∙ ap₂ (λ (x y : ℕ). isLive (a .words .now) g && stays (a .table .now) x y (a .column) (a .value) g) (w .before .before .before .before .wide .ensures .0) (w .before .before .before .wide2 .ensures .0)
+
+wide-requires : tie.Need-wide-requires
+wide-requires c κs = search needs
+
+wide-requires-2 : tie.Need-wide-requires-2
+wide-requires-2 c κs = search needs
+
+returns : tie.Need-returns
+returns c =
+    let s = c .before .before .before in
+    let a = s .args in
+    let h : a .end ≤ a .start = omega (arith, c .if1 .taken, c .before .wide2 .ensures .0, c .before .before .wide .ensures .0) in
+    (s .pre .0, (λ i. le-refl (getD (a .words .now) i 0), λ g. stays-none (a .table .now) (a .start) (a .end) (a .column) (a .value) g h (isLive (a .words .now) g)))
+
+wide-requires-3 : tie.Need-wide-requires-3
+wide-requires-3 c κs = search needs
+
+mul-first : tie.Need-mul-first
+mul-first c = search needs
+
+wide-requires-4 : tie.Need-wide-requires-4
+wide-requires-4 c κs = search needs
+
+add-first : tie.Need-add-first
+add-first c = search needs
+
+mul-first-2 : tie.Need-mul-first-2
+mul-first-2 c = search needs
+
+sub-last : tie.Need-sub-last
+sub-last c = search needs
+
+keep-word-requires : tie.Need-keep-word-requires
+keep-word-requires c κs = search needs
+
+add-keep-words : tie.Need-add-keep-words
+add-keep-words c = search needs
+
+keep-words-requires : tie.Need-keep-words-requires
+keep-words-requires c κs = search needs
+
+keep-word-requires-2 : tie.Need-keep-word-requires-2
+keep-word-requires-2 c κs = search needs
+
+returns-2 : tie.Need-returns-2
+returns-2 c =
+    let between = c .before .before in
+    let one = between .before .before .before in
+    let w = one .before .before in
+    let a = start w .args in
+    let i = begin w / 64 in
+    let last = (stop w - 1) / 64 in
+    let words = a .words .now in
+    let words₁ = one .keep-word .last .1 .0 in
+    let words₂ = between .keep-words .last .1 .0 in
+    let words₃ = c .keep-word2 .last .1 .0 in
+    let h = some w in
+    let more : i < last = between .before .before .if2 .taken in
+    let low : begin w ≤ 64 * (i + 1) = omega arith in
+    let high : 64 * last ≤ stop w = omega arith in
+    let end : stop w ≤ 64 * (last + 1) = omega arith in
+    let test = staysBy (a .table .now) (first w) (begin w) (stop w) in
+    let inner = kept-inner (a .table .now) (first w) (begin w) (stop w) (i + 1) last words₁ words₂ low high (between .keep-words .ensures .1 .1) in
+    let l1 : i ≤ i + 1 = omega arith in
+    let l2 : i + 1 ≤ last = omega arith in
+    let l3 : i ≤ last = omega arith in
+    let l4 : last ≤ last + 1 = omega arith in (
+      c .keep-word2 .ensures .0,
+      (
+        lower-on words words₂ words₃ (lower-on words words₁ words₂ (one .keep-word .ensures .1 .0) (between .keep-words .ensures .1 .0)) (c .keep-word2 .ensures .1 .0),
+        done w (last + 1) words₃ end
+            (kept-on test i last (last + 1) words words₂ words₃ l3 l4
+            (kept-on test i (i + 1) last words words₁ words₂ l1 l2 (one .keep-word .ensures .1 .1) inner)
+            (c .keep-word2 .ensures .1 .1)),
+      ),
+    )
+
+returns-3 : tie.Need-returns-3
+returns-3 c =
+    let one = c .before in
+    let w = one .before .before in
+    let h = some w in
+    let end : stop w ≤ 64 * (begin w / 64 + 1) = omega (arith, c .if2 .left) in
+    (one .keep-word .ensures .0, (one .keep-word .ensures .1 .0, done w (begin w / 64 + 1) (one .keep-word .last .1 .0) end (one .keep-word .ensures .1 .1)))
+
+pub keep-spec : {M : Type 1} → statement M
+keep-spec =
+    tie.close
+    (tie.spec
+    wide-requires
+    wide-requires-2
+    returns
+    wide-requires-3
+    mul-first
+    wide-requires-4
+    add-first
+    mul-first-2
+    sub-last
+    keep-word-requires
+    add-keep-words
+    keep-words-requires
+    keep-word-requires-2
+    returns-2
+    returns-3)

@@ -1,0 +1,102 @@
+-- `keep_words` narrows word by word. The loop's invariant: the words passed are narrowed.
+-- From the laws of one word narrowed, and of words narrowed one after the other.
+use mathlib.Core.Path.{_≡_, subst, _∙_}
+use Prim.Native.Nat.{ℕ, _+_, _-_, _≤_, _<_}
+use native.Mathlib.Nat.{le-refl}
+use native.Mathlib.Omega.{arith}
+use lib.ListN.{length, getD, length-set}
+use borrow.Author.Needs.{needs}
+use Rattle.narrowing.specs.Marks.{rowBit, Kept, Lower}
+use Rattle.narrowing.proofs.Words.{lower-more, kept-none, kept-word, kept-on, row-at}
+use Rattle.narrowing.proofs.keep_words.Statement.{statement}
+use Rattle.narrowing.proofs.keep_words.Tie as tie
+
+abbrev Inv-loop : tie.InvT-loop
+Inv-loop table words₀ first from to i₀ words i =
+    (from ≤ i) × ((i ≤ to) × ((length words ≡ 64) × (Lower words₀ words × Kept (rowBit table first) from i words₀ words)))
+
+abbrev μ-loop : tie.MeasureT-loop
+μ-loop table words₀ first from to i₀ words i = to - i
+
+loop-holds : tie.Need-loop-holds Inv-loop μ-loop
+loop-holds c =
+    let s = c in
+    let a = s .args in
+    (omega arith, (s .pre .1 .1 .0, (s .pre .0, (λ k. le-refl (getD (a .words .now) k 0), kept-none (rowBit (a .table .now) (a .first)) (a .from) (a .words .now)))))
+
+mul-words : tie.Need-mul-words Inv-loop μ-loop
+mul-words c = search needs
+
+element-copy-out-words : tie.Need-element-copy-out-words Inv-loop μ-loop
+element-copy-out-words c = search needs
+
+add-words : tie.Need-add-words Inv-loop μ-loop
+add-words c = search needs
+
+mul-words-2 : tie.Need-mul-words-2 Inv-loop μ-loop
+mul-words-2 c = search needs
+
+element-copy-out-words-2 : tie.Need-element-copy-out-words-2 Inv-loop μ-loop
+element-copy-out-words-2 c = search needs
+
+mul-words-3 : tie.Need-mul-words-3 Inv-loop μ-loop
+mul-words-3 c = search needs
+
+element-write-words : tie.Need-element-write-words Inv-loop μ-loop
+element-write-words c = search needs
+
+add-i : tie.Need-add-i Inv-loop μ-loop
+add-i c = search needs
+
+loop-less : tie.Need-loop-less Inv-loop μ-loop
+loop-less c = search needs
+
+loop-again : tie.Need-loop-again Inv-loop μ-loop
+loop-again c =
+    let turn = c .before .before in
+    let l = turn .before .loop in
+    let s = turn .before .before in
+    let a = s .args in
+    let inv = l .inv in
+    let inside : l .i < length (l .words) = omega (arith, turn .loop-test .taken, s .pre .1 .1 .1, inv .1 .1 .0) in
+    let on : l .i ≤ l .i + 1 = omega arith in (
+      omega (arith, inv .0),
+      (
+        omega (arith, turn .loop-test .taken),
+        (
+          length-set (l .words) (l .i) _ ∙ inv .1 .1 .0,
+          (
+            lower-more (a .words .now) (l .words) (l .i) _ inside (inv .1 .1 .1 .0),
+            kept-on (rowBit (a .table .now) (a .first)) (a .from) (l .i) (l .i + 1) (a .words .now) (l .words) _ (inv .0) on (inv .1 .1 .1 .1)
+                (kept-word (rowBit (a .table .now) (a .first)) (l .i) _ (l .words) inside (row-at (a .table .now) (a .first) (l .i))),
+          ),
+        ),
+      ),
+    )
+
+returns : tie.Need-returns Inv-loop μ-loop
+returns c =
+    let s = c .before .before in
+    let a = s .args in
+    let l = c .before .loop in
+    let e : l .i ≡ a .to = omega (arith, c .loop-test .left, l .inv .1 .0) in
+    (l .inv .1 .1 .0, (l .inv .1 .1 .1 .0, subst (λ (n : ℕ). Kept (rowBit (a .table .now) (a .first)) (a .from) n (a .words .now) (l .words)) e (l .inv .1 .1 .1 .1)))
+
+pub keep-words-spec : {M : Type 1} → statement M
+keep-words-spec =
+    tie.close
+    (tie.spec
+    Inv-loop
+    μ-loop
+    loop-holds
+    mul-words
+    element-copy-out-words
+    add-words
+    mul-words-2
+    element-copy-out-words-2
+    mul-words-3
+    element-write-words
+    add-i
+    loop-less
+    loop-again
+    returns)

@@ -1,0 +1,112 @@
+-- `mark_tuple` marks column by column. The loop's invariant: the columns passed are marked, and no mark is lost.
+-- From the law of one column more.
+use mathlib.Core.Path.{_≡_, ap₂}
+use Prim.Native.Nat.{ℕ, _+_, _-_, _*_, _%_, _≤_}
+use native.Mathlib.Omega.{arith}
+use lib.ListN.{length}
+use borrow.Author.Needs.{needs}
+use Rattle.narrowing.specs.Marks.{Grows, MarksTuple}
+use Rattle.narrowing.proofs.Marking.{grows-one, grows-on, tuple-more}
+use Rattle.narrowing.proofs.mark_tuple.Statement.{statement}
+use Rattle.narrowing.proofs.mark_tuple.Tie as tie
+
+abbrev Inv-loop : tie.InvT-loop
+Inv-loop values at width g table₀ id c₀ table c =
+    (c ≤ width) × ((id ≡ g) × ((length table ≡ 8192) × (Grows table₀ table × MarksTuple values at c g table)))
+
+abbrev μ-loop : tie.MeasureT-loop
+μ-loop values at width g table₀ id c₀ table c = width - c
+
+wide-requires : tie.Need-wide-requires Inv-loop μ-loop
+wide-requires c κs = search needs
+
+loop-holds : tie.Need-loop-holds Inv-loop μ-loop
+loop-holds c =
+    let a = c .before .before .args in
+    (search needs, (c .wide .ensures .0, (c .before .before .pre .0, (λ p e. e, λ k h. absurd (omega arith)))))
+
+add-wide : tie.Need-add-wide Inv-loop μ-loop
+add-wide c = search needs
+
+mul-wide : tie.Need-mul-wide Inv-loop μ-loop
+mul-wide c = search needs
+
+shared-slice-read-wide : tie.Need-shared-slice-read-wide Inv-loop μ-loop
+shared-slice-read-wide c = search needs
+
+wide-requires-2 : tie.Need-wide-requires-2 Inv-loop μ-loop
+wide-requires-2 c κs = search needs
+
+mul-mark : tie.Need-mul-mark Inv-loop μ-loop
+mul-mark c = search needs
+
+add-mark : tie.Need-add-mark Inv-loop μ-loop
+add-mark c = search needs
+
+mul-mark-2 : tie.Need-mul-mark-2 Inv-loop μ-loop
+mul-mark-2 c = search needs
+
+add-mark-2 : tie.Need-add-mark-2 Inv-loop μ-loop
+add-mark-2 c = search needs
+
+mark-requires : tie.Need-mark-requires Inv-loop μ-loop
+mark-requires c κs =
+    let l = c .before .before .before .before .loop in
+    (l .inv .1 .1 .0, omega arith)
+
+add-c : tie.Need-add-c Inv-loop μ-loop
+add-c c = search needs
+
+loop-less : tie.Need-loop-less Inv-loop μ-loop
+loop-less c = search needs
+
+loop-again : tie.Need-loop-again Inv-loop μ-loop
+loop-again c =
+    let l = c .before .before .before .before .before .loop in
+    let a = c .before .before .before .before .before .before .before .before .args in
+    let new = c .mark .last .0 in
+    let f = c .mark .ensures .1 in (
+      omega arith,
+      (
+        l .inv .1 .0,
+        (
+          c .mark .ensures .0,
+          (
+            grows-on (a .table .now) (l .table) new (l .inv .1 .1 .1 .0) (grows-one (l .table) new _ f),
+            tuple-more (a .values .now) (a .at) (l .c) (a .g) (l .table) new _
+                (ap₂ (λ (v i : ℕ). (l .c * 16 + v % 16) * 4096 + i) (c .before .before .wide2 .ensures .0) (l .inv .1 .0))
+                f
+                (l .inv .1 .1 .1 .1),
+          ),
+        ),
+      ),
+    )
+
+returns : tie.Need-returns Inv-loop μ-loop
+returns c =
+    let a = c .before .before .before .before .args in
+    let l = c .before .loop in
+    let e : l .c ≡ a .width = omega arith in
+    (l .inv .1 .1 .0, (l .inv .1 .1 .1 .0, rw e at (l .inv .1 .1 .1 .1)))
+
+pub mark-tuple-spec : {M : Type 1} → statement M
+mark-tuple-spec =
+    tie.close
+    (tie.spec
+    Inv-loop
+    μ-loop
+    wide-requires
+    loop-holds
+    add-wide
+    mul-wide
+    shared-slice-read-wide
+    wide-requires-2
+    mul-mark
+    add-mark
+    mul-mark-2
+    add-mark-2
+    mark-requires
+    add-c
+    loop-less
+    loop-again
+    returns)

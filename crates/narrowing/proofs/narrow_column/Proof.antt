@@ -1,0 +1,48 @@
+-- `narrow_column` narrows where scope a has the variable, and changes nothing where it does not.
+-- From what `column_of` and `keep` ensure, and what a shared variable tells.
+use mathlib.Core.Path.{_∙_, sym}
+use mathlib.Core.List.{List}
+use Prim.Native.Nat.{ℕ}
+use lib.ListN.{length, getD}
+use borrow.Author.Needs.{needs}
+use Rattle.model.specs.Agreement.{cells, agreeing}
+use Rattle.narrowing.proofs.Narrowing.{narrows-none, narrows-keep, same-value}
+use Rattle.narrowing.proofs.narrow_column.Statement.{statement}
+use Rattle.narrowing.proofs.narrow_column.Tie as tie
+
+column-of-requires : tie.Need-column-of-requires
+column-of-requires c κs = search needs
+
+returns : tie.Need-returns
+returns c =
+    let a = c .before .before .before .before .args in (
+      c .before .before .before .before .pre .0,
+      λ scope h e. narrows-none (λ (b : List ℕ). agreeing (cells (a .scope-a .now) (a .a .now)) (cells scope b)) (length scope) (a .table .now) (a .start) (a .end) (a .words .now),
+    )
+
+mul-keep : tie.Need-mul-keep
+mul-keep c = search needs
+
+shared-slice-read-keep : tie.Need-shared-slice-read-keep
+shared-slice-read-keep c = search needs
+
+keep-requires : tie.Need-keep-requires
+keep-requires c κs = search needs
+
+returns-2 : tie.Need-returns-2
+returns-2 c =
+    let found = c .before .before .before in
+    let s = found .before .before .before .before in
+    let a = s .args in
+    let i = found .before .column-of .result in (
+      c .keep .ensures .0,
+      λ scope h e.
+          narrows-keep (λ (b : List ℕ). agreeing (cells (a .scope-a .now) (a .a .now)) (cells scope b)) (length scope) (a .table .now) (a .start) (a .end) (a .column) (getD (a .a .now) i 0) (a .words .now) (c .keep .last .1 .0) (c .keep .ensures .1 .0) h
+          (same-value (a .scope-a .now) (a .a .now) scope i (a .column) (s .pre .1 .0) (found .if1 .left) h (found .before .column-of .ensures (found .if1 .left) ∙ sym e))
+          (c .keep .ensures .1 .1),
+    )
+
+pub narrow-column-spec : {M : Type 1} → statement M
+narrow-column-spec =
+    tie.close
+    (tie.spec column-of-requires returns mul-keep shared-slice-read-keep keep-requires returns-2)
