@@ -1,7 +1,7 @@
 // Live words: sixty-four ids to a word, id g at bit g mod 64 of word g / 64, and live where the bit is 1.
 ghost use mathlib.Core.Path.{_≡_};
-ghost use Prim.Native.Nat.{_-_, _*_, _/_, _%_, _≤_, _<_};
-ghost use lib.ListN.{length};
+ghost use Prim.Native.Nat.{ℕ, _-_, _*_, _/_, _%_, _≤_, _<_};
+ghost use lib.ListN.{length, getD};
 ghost use Rattle.model.specs.TupleSet.{count};
 ghost use Rattle.model.specs.LiveWords.{isLive, livingFrom, nextLive, cleared, raised};
 
@@ -76,4 +76,21 @@ pub fn next(words: &[u64], start: u16, end: u16) -> u16
         at = (at / 64 + 1) * 64;
     }
     end
+}
+
+// The first 64 words, and noughts where there are fewer.
+pub fn copied(words: &[u64]) -> [u64; 64]
+    ensures { λ r. ⌜ (length r ≡ 64) × ((i : ℕ) → i < 64 → getD r i 0 ≡ getD (now (words .entry)) i 0) ⌝ }
+{
+    let mut n = words.len();
+    if 64 < n {
+        n = 64;
+    }
+    let mut copy = [0u64; 64];
+    let mut i = 0;
+    while i < n {
+        copy[i] = words[i];
+        i += 1;
+    }
+    copy
 }

@@ -123,23 +123,6 @@ fn fits(
     true
 }
 
-// The first 64 words, and noughts where there are fewer.
-fn copied(words: &[u64]) -> [u64; 64]
-    ensures { λ r. ⌜ (length r ≡ 64) × ((i : ℕ) → i < 64 → getD r i 0 ≡ getD (now (words .entry)) i 0) ⌝ }
-{
-    let mut n = words.len();
-    if 64 < n {
-        n = 64;
-    }
-    let mut copy = [0u64; 64];
-    let mut i = 0;
-    while i < n {
-        copy[i] = words[i];
-        i += 1;
-    }
-    copy
-}
-
 // The first support at or after `low` that has the tuples chosen for the members before k.
 fn search(
     variables: &[u16],
@@ -240,13 +223,13 @@ pub fn first_support(
     tuple_starts: &[u16; 65],
     value_starts: &[u16; 65],
     table: &[u64; 8192],
-    words: &[u64],
+    words: &[u64; 64],
     members: &[u16],
     place: usize,
     own: u16,
     low: [u16; 4],
 ) -> Found
-    requires { ⌜ Ready (searching (now variables) (now values) (now «variable_starts») (now «tuple_starts») (now «value_starts») (now words) (now members) place own low) × Marks (tabled (now variables) (now values) (now «variable_starts») (now «value_starts»)) (now table) ⌝ }
+    requires { ⌜ (length (now words) ≡ 64) × (let Q = searching (now variables) (now values) (now «variable_starts») (now «tuple_starts») (now «value_starts») (now words) (now members) place own low in Ready Q × Marks (network Q) (now table)) ⌝ }
     ensures { λ f. ⌜ (let Q = searching (now (variables .entry)) (now (values .entry)) (now («variable_starts» .entry)) (now («tuple_starts» .entry)) (now («value_starts» .entry)) (now (words .entry)) (now (members .entry)) place own low in answer (f .ok) (take (length (now (members .entry))) (f .tuples)) ≡ supportFrom (network Q) (live Q) (now (members .entry)) (seeker Q) low) ⌝ }
 {
     let r = members[place];
@@ -256,7 +239,7 @@ pub fn first_support(
             tuples: low,
         };
     }
-    let mut candidates = copied(words);
+    let mut candidates = *words;
     if !narrow_members(
         variables,
         values,

@@ -3,17 +3,16 @@
 use mathlib.Core.Path.{_≡_, refl, sym, _∙_, ap}
 use mathlib.Core.Bool.{true}
 use mathlib.Core.List.{List}
-use Prim.Native.Nat.{ℕ, _+_, _/_, _%_, _<_}
+use Prim.Native.Nat.{ℕ, _+_}
 use native.Mathlib.Omega.{arith}
 use lib.ListN.{length, getD}
 use borrow.Kind.Array.{eInt, good-length}
 use mir.Syntax.{w16}
 use borrow.Author.Needs.{needs}
 use borrow.Author.Tests.{not-true, not-false}
-use Rattle.model.specs.Limits.{wordBits}
 use Rattle.model.specs.Network.{total}
 use Rattle.model.specs.TupleSet.{has}
-use Rattle.model.specs.LiveWords.{isSet, isLive}
+use Rattle.model.specs.LiveWords.{isLive}
 use Rattle.model.specs.Support.{supportFrom}
 use Rattle.model.proofs.LiveWords.{living-has}
 use Rattle.support.specs.Search.{Search, searching, network, live, seeker, Ready}
@@ -38,34 +37,21 @@ low-length a = good-length (eInt w16) 4 (a .args .low) _ (a .good .1 .1 .1 .1 .1
 own-id : (c : tie.After-wide) → getD (c .before .before .before .before .before .before .args .tuple-starts .now) (c .wide .result) 0 + c .before .before .before .before .before .before .args .own ≡ seeker (searchOf (c .before .before .before .before .before .before))
 own-id c =
     let a = c .before .before .before .before .before .before in
-    rw (c .wide .ensures .0) (ap (λ (n : ℕ). n + a .args .own) (member-start (searchOf a) (a .pre .0) (a .args .place) (a .pre .0 .place)))
+    rw (c .wide .ensures .0) (ap (λ (n : ℕ). n + a .args .own) (member-start (searchOf a) (a .pre .1 .0) (a .args .place) (a .pre .1 .0 .place)))
 
 own-lives : (c : tie.After-is-live) → has (live (searchOf (c .before .before .before .before .before .before .before .before))) (seeker (searchOf (c .before .before .before .before .before .before .before .before))) ≡ c .is-live .result
 own-lives c =
     let a = c .before .before .before .before .before .before .before .before in
     let Q = searchOf a in
-    living-has (total (network Q)) (a .args .words .now) (seeker Q) (seeker-below Q (a .pre .0)) ∙ ap (isLive (a .args .words .now)) (sym (own-id (c .before .before))) ∙ sym (c .is-live .ensures)
+    living-has (total (network Q)) (a .args .words .now) (seeker Q) (seeker-below Q (a .pre .1 .0)) ∙ ap (isLive (a .args .words .now)) (sym (own-id (c .before .before))) ∙ sym (c .is-live .ensures)
 
 lives : (c : tie.Else1) → has (live (searchOf (c .before .before .before .before .before .before .before .before .before))) (seeker (searchOf (c .before .before .before .before .before .before .before .before .before))) ≡ true
 lives c = own-lives (c .before) ∙ not-false _ (c .if1 .left)
 
--- ---- The words, copied and narrowed
-
-abbrev copier : tie.After-copied → tie.Start
-copier c = c .before .before .before .before .before .before .before .before .before .before
-
--- the copy has the same live tuples
-same-lives : (c : tie.After-copied) (g : ℕ) → g < total (network (searchOf (copier c))) → isLive (c .copied .result) g ≡ isLive (copier c .args .words .now) g
-unfolding isLive
-same-lives c g h =
-    let f = few-tuples (searchOf (copier c)) (copier c .pre .0) in
-    ap (λ (w : ℕ). isSet w (g % wordBits)) (c .copied .ensures .1 (g / wordBits) (omega arith))
-
-abbrev copying : tie.After-narrow-members → tie.After-copied
-copying n = n .before .before
+-- ---- The words, narrowed
 
 abbrev start : tie.After-narrow-members → tie.Start
-start n = copier (copying n)
+start n = n .before .before .before .before .before .before .before .before .before .before .before .before
 
 abbrev fewer : tie.After-narrow-members → List ℕ
 fewer n = n .narrow-members .last .1 .1 .1 .1 .1 .1 .0
@@ -77,13 +63,13 @@ narrowed n = onWords (searchOf (start n)) (fewer n)
 over : (n : tie.After-narrow-members) → Fewer (searchOf (start n)) (seeker (searchOf (start n))) (fewer n)
 over n =
     let a = start n in
-    fewer-words (searchOf a) (a .pre .0) (seeker (searchOf a)) (copying n .copied .result) (fewer n) (same-lives (copying n)) (n .narrow-members .ensures .1 .0) (n .narrow-members .ensures .0)
+    fewer-words (searchOf a) (a .pre .1 .0) (seeker (searchOf a)) (a .args .words .now) (fewer n) (λ g h. refl) (n .narrow-members .ensures .1 .0) (n .narrow-members .ensures .0)
 
 ready : (n : tie.After-narrow-members) → Ready (narrowed n)
 ready n = ready-narrowed (over n)
 
 lives-on : (n : tie.After-narrow-members) → has (live (narrowed n)) (seeker (narrowed n)) ≡ true
-lives-on n = seeker-narrowed (over n) refl (start n .args .low) (lives (copying n .before))
+lives-on n = seeker-narrowed (over n) refl (start n .args .low) (lives (n .before .before .before))
 
 -- what there is to find among them is the first support
 all-there : (n : tie.After-narrow-members) → sought (narrowed n) 0 (start n .args .low) ≡ supportFrom (network (searchOf (start n))) (live (searchOf (start n))) (start n .args .members .now) (seeker (searchOf (start n))) (start n .args .low)
@@ -117,29 +103,26 @@ mul-is-live c = search needs
 element-copy-out-is-live : tie.Need-element-copy-out-is-live
 element-copy-out-is-live c =
     let a = c .before .before .before .before .before .before in
-    omega (arith, c .wide .ensures .0, member-below (searchOf a) (a .pre .0) (a .args .place) (a .pre .0 .place))
+    omega (arith, c .wide .ensures .0, member-below (searchOf a) (a .pre .1 .0) (a .args .place) (a .pre .1 .0 .place))
 
 add-is-live : tie.Need-add-is-live
 add-is-live c =
     let a = c .before .before .before .before .before .before .before in
-    omega (arith, own-id (c .before), seeker-below (searchOf a) (a .pre .0), few-tuples (searchOf a) (a .pre .0))
+    omega (arith, own-id (c .before), seeker-below (searchOf a) (a .pre .1 .0), few-tuples (searchOf a) (a .pre .1 .0))
 
 is-live-requires : tie.Need-is-live-requires
 is-live-requires c κs =
     let a = c .before .before .before .before .before .before .before in
-    omega (arith, own-id (c .before), seeker-below (searchOf a) (a .pre .0), a .pre .0 .words)
+    omega (arith, own-id (c .before), seeker-below (searchOf a) (a .pre .1 .0), a .pre .1 .0 .words)
 
 returns : tie.Need-returns
 returns c = sym (sought-dead (searchOf (c .before .before .before .before .before .before .before .before .before)) (own-lives (c .before) ∙ not-true _ (c .if1 .taken)))
 
-copied-requires : tie.Need-copied-requires
-copied-requires c κs = search needs
-
 narrow-members-requires : tie.Need-narrow-members-requires
 narrow-members-requires c κs =
-    let a = copier (c .before) in
-    let R = a .pre .0 in
-    (c .before .copied .ensures .0, (R .laid, (R .tuples, (a .pre .1, (R .own, others (searchOf a) R (a .args .place) 0 (R .place) (λ j l e. l .other (sym e)))))))
+    let a = c .before .before .before .before .before .before .before .before .before .before .before in
+    let R = a .pre .1 .0 in
+    (a .pre .0, (R .laid, (R .tuples, (a .pre .1 .1, (R .own, others (searchOf a) R (a .args .place) 0 (R .place) (λ j l e. l .other (sym e)))))))
 
 returns-2 : tie.Need-returns-2
 returns-2 c =
@@ -151,7 +134,7 @@ returns-2 c =
     (n .narrow-members .ensures .1 .1 (not-true _ (c .if2 .taken))))
 
 past-own-requires : tie.Need-past-own-requires
-past-own-requires c κs = let R = start (c .before) .pre .0 in omega (arith, R .place, R .few)
+past-own-requires c κs = let R = start (c .before) .pre .1 .0 in omega (arith, R .place, R .few)
 
 returns-3 : tie.Need-returns-3
 returns-3 c =
@@ -169,7 +152,7 @@ search-requires c κs =
     let n = narrowing b in
     let S = stage b in (
       n .narrow-members .ensures .0,
-      (ready n, (start n .pre .1, (S .begun, (lives-on n, record { inside = omega (arith, S .begun .depth, c .before .if3 .left); other = S .other })))),
+      (ready n, (start n .pre .1 .1, (S .begun, (lives-on n, record { inside = omega (arith, S .begun .depth, c .before .if3 .left); other = S .other })))),
     )
 
 returns-4 : tie.Need-returns-4
@@ -189,7 +172,6 @@ first-support-spec =
     add-is-live
     is-live-requires
     returns
-    copied-requires
     narrow-members-requires
     returns-2
     past-own-requires

@@ -9,8 +9,8 @@ use native.Mathlib.Omega.{arith}
 use lib.ListN.{length, getD, set, length-set, replicate, getD-replicate, List·getD-eq-default}
 use lib.Seq.{getD-set-same, getD-set-other}
 use borrow.Author.Needs.{needs}
-use Rattle.support.proofs.copied.Statement.{statement}
-use Rattle.support.proofs.copied.Tie as tie
+use Rattle.live.proofs.copied.Statement.{statement}
+use Rattle.live.proofs.copied.Tie as tie
 
 -- n words are to be copied: all there are, or 64 if there are more
 abbrev Limit : List ℕ → ℕ → Type 0
