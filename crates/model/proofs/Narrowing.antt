@@ -1,7 +1,7 @@
 -- Laws of narrowing: of the live tuples, those that agree with a tuple y are enough to find the supports that hold y.
 -- From the parts of a support, and the laws of lists and of agreement.
 use mathlib.Core.Path.{_≡_, ap, subst}
-use mathlib.Core.Bool.{Bool, true, not}
+use mathlib.Core.Bool.{true, not}
 use mathlib.Core.List.{List, _++_, map, head?, List·Memᴰ, Memᴰ·append-left, Memᴰ·of-map}
 use Prim.Native.Nat.{ℕ}
 use native.Mathlib.Decide.{ℕ-discrete}

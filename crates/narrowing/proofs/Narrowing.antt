@@ -6,7 +6,6 @@ use mathlib.Core.Bool.{Bool, true, _&&_, and-true}
 use mathlib.Core.List.{List}
 use mathlib.Core.Logic.{_⊎_, inl, inr, ⊎-elim}
 use Prim.Native.Nat.{ℕ, _+_, _-_, _≤_, _<_}
-use native.Mathlib.Nat.{le-refl}
 use native.Mathlib.Omega.{arith}
 use native.Mathlib.Decide.{ℕ-discrete, decLt, decLe}
 use lib.Dec.{ltb, leb}
@@ -19,28 +18,26 @@ use Rattle.model.proofs.Network.{relationOf-at}
 use Rattle.model.proofs.LiveWords.{nextLive-first}
 use Rattle.model.proofs.Agreement.{cellAt, cellsOf-at, agreeing-clash, clash-different-value}
 use Rattle.network.specs.Layout.{Laid}
-use Rattle.narrowing.specs.Marks.{bucketOf, marked, Marks, stays, Lower, Narrows, Agreeing, Dead, Narrowed}
-use Rattle.narrowing.proofs.Words.{lower-on, stays-low, stays-high}
+use Rattle.narrowing.specs.Marks.{bucketOf, marked, Marks, stays, Narrows, Agreeing, Dead, Narrowed}
+use Rattle.narrowing.proofs.Words.{stays-low, stays-high}
 use Rattle.narrowing.proofs.Tables.{scope-length, values-length}
 
 module _ (accepts : List ℕ → Bool) (columns : ℕ) (table : List ℕ) (start end : ℕ) where
   pub narrows-none : (ws : List ℕ) → Narrows accepts columns table start end ws ws
-  narrows-none ws = record { lower = λ i. le-refl (getD ws i 0); inside = λ g e. e; outside = λ g o. refl; keeps = λ g b l m a e. e }
+  narrows-none ws = record { inside = λ g e. e; outside = λ g o. refl; keeps = λ g b l m a e. e }
 
   pub narrows-on : (a b c : List ℕ) → Narrows accepts columns table start end a b → Narrows accepts columns table start end b c → Narrows accepts columns table start end a c
   narrows-on a b c f g =
       record {
-        lower = lower-on a b c (f .lower) (g .lower);
         inside = λ h e. f .inside h (g .inside h e);
         outside = λ h o. g .outside h o ∙ f .outside h o;
         keeps = λ h v l m p e. g .keeps h v l m p (f .keeps h v l m p e);
       }
 
   -- a column in which accepted values have value v
-  pub narrows-keep : (column v : ℕ) (before after : List ℕ) → Lower before after → column < columns → ((b : List ℕ) → columns ≡ length b → accepts b ≡ true → getD b column 0 ≡ v) → ((g : ℕ) → isLive after g ≡ (isLive before g && stays table start end column v g)) → Narrows accepts columns table start end before after
-  narrows-keep column v before after lower h told kept =
+  pub narrows-keep : (column v : ℕ) (before after : List ℕ) → column < columns → ((b : List ℕ) → columns ≡ length b → accepts b ≡ true → getD b column 0 ≡ v) → ((g : ℕ) → isLive after g ≡ (isLive before g && stays table start end column v g)) → Narrows accepts columns table start end before after
+  narrows-keep column v before after h told kept =
       record {
-        lower = lower;
         inside = λ g e. and-left (isLive before g) (stays table start end column v g) (sym (kept g) ∙ e);
         outside = λ g o. kept g ∙ ap (λ (x : Bool). isLive before g && x) (⊎-elim (stays-low table start end column v g) (stays-high table start end column v g) o) ∙ and-true (isLive before g);
         keeps = λ g b l m a e. kept g ∙ and-intro e (or-right (ltb g start) (or-right (leb end g) (subst (λ (x : ℕ). marked table column (bucketOf x) g ≡ true) (told b l a) (m column h))));
@@ -60,7 +57,6 @@ pub narrows-agreeing : (N : Network) (vs ws : List ℕ) → Laid N vs ws → (ta
 unfolding agree
 narrows-agreeing N vs ws laid table marks r x s start end es ee xs ex scope ep before after n =
     record {
-      lower = n .lower;
       inside = n .inside;
       outside = λ g o. n .outside g (subst (λ (k : ℕ). (g < k) ⊎ (end ≤ g)) (sym es) (subst (λ (k : ℕ). (g < firstId N s) ⊎ (k ≤ g)) (sym ee) o));
       keeps = λ z h a e.
@@ -99,12 +95,11 @@ ids-apart N q z s h d = go (decLt g (firstId N s)) (decLe (firstId N s + size N 
 
 module _ (N : Network) (y : ℕ) where
   pub narrowed-none : (ws : List ℕ) → Narrowed N y ws ws
-  narrowed-none ws = record { lower = λ i. le-refl (getD ws i 0); inside = λ g e. e; keeps = λ s z h a e. e; itself = refl }
+  narrowed-none ws = record { inside = λ g e. e; keeps = λ s z h a e. e; itself = refl }
 
   pub narrowed-on : (a b c : List ℕ) → Narrowed N y a b → Narrowed N y b c → Narrowed N y a c
   narrowed-on a b c f g =
       record {
-        lower = lower-on a b c (f .lower) (g .lower);
         inside = λ h e. f .inside h (g .inside h e);
         keeps = λ s z h p e. g .keeps s z h p (f .keeps s z h p e);
         itself = g .itself ∙ f .itself;
@@ -114,7 +109,6 @@ module _ (N : Network) (y : ℕ) where
 pub narrowed-one : (N : Network) (r x s : ℕ) → x < size N r → (s ≡ r → ⊥) → (before after : List ℕ) → Agreeing N r x s before after → Narrowed N (firstId N r + x) before after
 narrowed-one N r x s h d before after a =
     record {
-      lower = a .lower;
       inside = a .inside;
       keeps = λ q z k p e. keep q z k p e (ℕ-discrete s q);
       itself = a .outside (firstId N r + x) (ids-apart N r x s h d);

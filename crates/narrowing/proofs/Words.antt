@@ -4,19 +4,18 @@ use mathlib.Core.Path.{_≡_, refl, sym, _∙_, ap, ap₂}
 use mathlib.Core.Bool.{Bool, true, false, not, _&&_, _||_, and-true, or-true, or-false}
 use mathlib.Core.List.{List}
 use Prim.Native.Nat.{ℕ, _+_, _-_, _*_, _/_, _%_, _^_, _≤_, _<_}
-use native.Mathlib.Nat.{le-trans}
 use native.Mathlib.Omega.{arith}
 use native.Mathlib.Decide.{ℕ-discrete, decLt}
 use lib.Dec.{ltb, leb, eqb}
 use lib.ListN.{length, getD, set}
 use lib.Seq.{getD-set-same, getD-set-other}
-use lib.Bits.{bitAnd, bitOr, and-le-l}
+use lib.Bits.{bitAnd, bitOr}
 use lib.Pow.{pow-pos}
 use borrow.Author.Tests.{lt-ltb, le-ltb, ltb-true, ltb-false, le-leb, lt-leb, leb-true, leb-false, eqb-true, eqb-false, eq-eqb, ne-eqb}
 use Rattle.model.specs.LiveWords.{isSet, isLive}
 use Rattle.model.proofs.LiveWords.{isLive-at}
 use Rattle.live.proofs.Bits.{isSet-high, isSet-not, isSet-and, isSet-or, isSet-pow, one-shl}
-use Rattle.narrowing.specs.Marks.{bucketOf, marked, stays, rowBit, staysBy, Kept, Lower}
+use Rattle.narrowing.specs.Marks.{bucketOf, marked, stays, rowBit, staysBy, Kept}
 
 -- ---- The ids below a bound
 
@@ -80,17 +79,6 @@ marked-one ws p h inside = rw (one-shl (p % 64) (omega arith)) (go (ℕ-discrete
         ∙ sym (ap (λ (x : Bool). isLive ws h || x) (ne-eqb p h (λ e. d (ap (λ (n : ℕ). n / 64) (sym e)))) ∙ or-false (isLive ws h))
 
 -- ---- Words narrowed
-
--- a word that is narrowed is not above what it was
-pub lower-more : (ws₀ ws : List ℕ) (i x : ℕ) → i < length ws → Lower ws₀ ws → Lower ws₀ (set ws i (bitAnd (getD ws i 0) x))
-lower-more ws₀ ws i x inside f k = go (ℕ-discrete k i)
-  where
-    go : Dec (k ≡ i) → getD (set ws i (bitAnd (getD ws i 0) x)) k 0 ≤ getD ws₀ k 0
-    go (yes e) = rw e (rw (getD-set-same ws i (bitAnd (getD ws i 0) x) 0 inside) (le-trans (and-le-l (getD ws i 0) x) (f i)))
-    go (no d) = rw (getD-set-other ws i k (bitAnd (getD ws i 0) x) 0 d) (f k)
-
-pub lower-on : (a b c : List ℕ) → Lower a b → Lower b c → Lower a c
-lower-on a b c f g i = le-trans (g i) (f i)
 
 -- by any test of ids
 module _ (passes : ℕ → Bool) where

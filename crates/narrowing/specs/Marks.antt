@@ -59,20 +59,14 @@ abbrev pub Kept : (ℕ → Bool) → ℕ → ℕ → List ℕ → List ℕ → T
 Kept passes i n before after =
     (g : ℕ) → isLive after g ≡ (isLive before g && (ltb g (wordBits * i) || (leb (wordBits * n) g || passes g)))
 
--- no word is above what it was, so each is below 2^64 if it was
-abbrev pub Lower : List ℕ → List ℕ → Type 0
-Lower before after = (i : ℕ) → getD after i 0 ≤ getD before i 0
-
 -- No id is raised, the ids outside stay, and so does an id that is marked under each of its columns by accepted values.
 pub record Narrows (accepts : List ℕ → Bool) (columns : ℕ) (table : List ℕ) (start end : ℕ) (before after : List ℕ) : Type 0 where
-  pub lower : Lower before after
   pub inside : (g : ℕ) → isLive after g ≡ true → isLive before g ≡ true
   pub outside : (g : ℕ) → (g < start) ⊎ (end ≤ g) → isLive after g ≡ isLive before g
   pub keeps : (g : ℕ) (b : List ℕ) → columns ≡ length b → ((c : ℕ) → c < columns → marked table c (bucketOf (getD b c 0)) g ≡ true) → accepts b ≡ true → isLive before g ≡ true → isLive after g ≡ true
 
 -- No id is raised, the ids outside relation s stay, and so does a tuple of it that agrees with tuple x of relation r.
 pub record Agreeing (N : Network) (r x s : ℕ) (before after : List ℕ) : Type 0 where
-  pub lower : Lower before after
   pub inside : (g : ℕ) → isLive after g ≡ true → isLive before g ≡ true
   pub outside : (g : ℕ) → (g < firstId N s) ⊎ (firstId N s + size N s ≤ g) → isLive after g ≡ isLive before g
   pub keeps : (z : ℕ) → z < size N s → agree N (firstId N r + x) (firstId N s + z) ≡ true → isLive before (firstId N s + z) ≡ true → isLive after (firstId N s + z) ≡ true
@@ -85,7 +79,6 @@ Dead N s words = (z : ℕ) → z < size N s → isLive words (firstId N s + z) �
 
 -- Narrowed for the tuple with id y: no id is raised, every tuple that agrees with it stays, and so does y itself.
 pub record Narrowed (N : Network) (y : ℕ) (before after : List ℕ) : Type 0 where
-  pub lower : Lower before after
   pub inside : (g : ℕ) → isLive after g ≡ true → isLive before g ≡ true
   pub keeps : (s z : ℕ) → z < size N s → agree N y (firstId N s + z) ≡ true → isLive before (firstId N s + z) ≡ true → isLive after (firstId N s + z) ≡ true
   pub itself : isLive after y ≡ isLive before y

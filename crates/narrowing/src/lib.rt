@@ -10,7 +10,7 @@ ghost use Rattle.model.specs.Network.{tuplesIn, size, firstId};
 ghost use Rattle.model.specs.Agreement.{cells, agreeing};
 ghost use Rattle.model.specs.LiveWords.{isSet, isLive};
 ghost use Rattle.network.specs.Layout.{tabled, Laid, starts};
-ghost use Rattle.narrowing.specs.Marks.{stays, rowBit, staysBy, Kept, Marks, Grows, MarksTuple, MarksTuples, Lower, Narrows, Agreeing, Dead, Narrowed, Others, Bare};
+ghost use Rattle.narrowing.specs.Marks.{stays, rowBit, staysBy, Kept, Marks, Grows, MarksTuple, MarksTuples, Narrows, Agreeing, Dead, Narrowed, Others, Bare};
 use live::next;
 use model::MAX_RELATIONS;
 use network::agreement::place_of;
@@ -41,7 +41,7 @@ fn keep_word(
     stop: usize,
 )
     requires { ⌜ (length (now words) ≡ 64) × ((first + 64 ≤ 8192) × (i < 64)) ⌝ }
-    ensures { λ _. ⌜ (length (now (words .exit)) ≡ 64) × (Lower (now (words .entry)) (now (words .exit)) × Kept (staysBy (now (table .entry)) first begin stop) i (i + 1) (now (words .entry)) (now (words .exit))) ⌝ }
+    ensures { λ _. ⌜ (length (now (words .exit)) ≡ 64) × Kept (staysBy (now (table .entry)) first begin stop) i (i + 1) (now (words .entry)) (now (words .exit)) ⌝ }
 {
     let low = below(i * 64, begin);
     let high = below(i * 64, stop);
@@ -51,7 +51,7 @@ fn keep_word(
 // The same for all ids of the words from `from` on and below `to`.
 fn keep_words(table: &[u64; 8192], words: &mut [u64; 64], first: usize, from: usize, to: usize)
     requires { ⌜ (length (now words) ≡ 64) × ((first + 64 ≤ 8192) × ((from ≤ to) × (to ≤ 64))) ⌝ }
-    ensures { λ _. ⌜ (length (now (words .exit)) ≡ 64) × (Lower (now (words .entry)) (now (words .exit)) × Kept (rowBit (now (table .entry)) first) from to (now (words .entry)) (now (words .exit))) ⌝ }
+    ensures { λ _. ⌜ (length (now (words .exit)) ≡ 64) × Kept (rowBit (now (table .entry)) first) from to (now (words .entry)) (now (words .exit)) ⌝ }
 {
     let mut i = from;
     while i < to {
@@ -71,7 +71,7 @@ pub fn keep(
     value: u16,
 )
     requires { ⌜ (length (now words) ≡ 64) × ((end ≤ maxTuples) × (column < maxWidth)) ⌝ }
-    ensures { λ _. ⌜ (length (now (words .exit)) ≡ 64) × (Lower (now (words .entry)) (now (words .exit)) × ((g : ℕ) → isLive (now (words .exit)) g ≡ (isLive (now (words .entry)) g && stays (now (table .entry)) start end column value g))) ⌝ }
+    ensures { λ _. ⌜ (length (now (words .exit)) ≡ 64) × ((g : ℕ) → isLive (now (words .exit)) g ≡ (isLive (now (words .entry)) g && stays (now (table .entry)) start end column value g)) ⌝ }
 {
     let begin = wide(start);
     let stop = wide(end);

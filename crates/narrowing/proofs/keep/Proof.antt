@@ -4,13 +4,11 @@ use mathlib.Core.Path.{_≡_, ap₂, _∙_}
 use mathlib.Core.Bool.{_&&_}
 use mathlib.Core.List.{List}
 use Prim.Native.Nat.{ℕ, _+_, _-_, _*_, _/_, _%_, _≤_, _<_}
-use native.Mathlib.Nat.{le-refl}
 use native.Mathlib.Omega.{arith}
-use lib.ListN.{getD}
 use borrow.Author.Needs.{needs}
 use Rattle.model.specs.LiveWords.{isLive}
 use Rattle.narrowing.specs.Marks.{stays, staysBy, Kept}
-use Rattle.narrowing.proofs.Words.{lower-on, kept-on, kept-inner, kept-stays, stays-none}
+use Rattle.narrowing.proofs.Words.{kept-on, kept-inner, kept-stays, stays-none}
 use Rattle.narrowing.proofs.keep.Statement.{statement}
 use Rattle.narrowing.proofs.keep.Tie as tie
 
@@ -50,7 +48,7 @@ returns c =
     let s = c .before .before .before in
     let a = s .args in
     let h : a .end ≤ a .start = omega (arith, c .if1 .taken, c .before .wide2 .ensures .0, c .before .before .wide .ensures .0) in
-    (s .pre .0, (λ i. le-refl (getD (a .words .now) i 0), λ g. stays-none (a .table .now) (a .start) (a .end) (a .column) (a .value) g h (isLive (a .words .now) g)))
+    (s .pre .0, λ g. stays-none (a .table .now) (a .start) (a .end) (a .column) (a .value) g h (isLive (a .words .now) g))
 
 wide-requires-3 : tie.Need-wide-requires-3
 wide-requires-3 c κs = search needs
@@ -100,19 +98,16 @@ returns-2 c =
     let high : 64 * last ≤ stop w = omega arith in
     let end : stop w ≤ 64 * (last + 1) = omega arith in
     let test = staysBy (a .table .now) (first w) (begin w) (stop w) in
-    let inner = kept-inner (a .table .now) (first w) (begin w) (stop w) (i + 1) last words₁ words₂ low high (between .keep-words .ensures .1 .1) in
+    let inner = kept-inner (a .table .now) (first w) (begin w) (stop w) (i + 1) last words₁ words₂ low high (between .keep-words .ensures .1) in
     let l1 : i ≤ i + 1 = omega arith in
     let l2 : i + 1 ≤ last = omega arith in
     let l3 : i ≤ last = omega arith in
     let l4 : last ≤ last + 1 = omega arith in (
       c .keep-word2 .ensures .0,
-      (
-        lower-on words words₂ words₃ (lower-on words words₁ words₂ (one .keep-word .ensures .1 .0) (between .keep-words .ensures .1 .0)) (c .keep-word2 .ensures .1 .0),
-        done w (last + 1) words₃ end
-            (kept-on test i last (last + 1) words words₂ words₃ l3 l4
-            (kept-on test i (i + 1) last words words₁ words₂ l1 l2 (one .keep-word .ensures .1 .1) inner)
-            (c .keep-word2 .ensures .1 .1)),
-      ),
+      done w (last + 1) words₃ end
+          (kept-on test i last (last + 1) words words₂ words₃ l3 l4
+          (kept-on test i (i + 1) last words words₁ words₂ l1 l2 (one .keep-word .ensures .1) inner)
+          (c .keep-word2 .ensures .1)),
     )
 
 returns-3 : tie.Need-returns-3
@@ -121,7 +116,7 @@ returns-3 c =
     let w = one .before .before in
     let h = some w in
     let end : stop w ≤ 64 * (begin w / 64 + 1) = omega (arith, c .if2 .left) in
-    (one .keep-word .ensures .0, (one .keep-word .ensures .1 .0, done w (begin w / 64 + 1) (one .keep-word .last .1 .0) end (one .keep-word .ensures .1 .1)))
+    (one .keep-word .ensures .0, done w (begin w / 64 + 1) (one .keep-word .last .1 .0) end (one .keep-word .ensures .1))
 
 pub keep-spec : {M : Type 1} → statement M
 keep-spec =

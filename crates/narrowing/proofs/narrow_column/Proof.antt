@@ -37,9 +37,9 @@ returns-2 c =
     let i = found .before .column-of .result in (
       c .keep .ensures .0,
       λ scope h e.
-          narrows-keep (λ (b : List ℕ). agreeing (cells (a .scope-a .now) (a .a .now)) (cells scope b)) (length scope) (a .table .now) (a .start) (a .end) (a .column) (getD (a .a .now) i 0) (a .words .now) (c .keep .last .1 .0) (c .keep .ensures .1 .0) h
+          narrows-keep (λ (b : List ℕ). agreeing (cells (a .scope-a .now) (a .a .now)) (cells scope b)) (length scope) (a .table .now) (a .start) (a .end) (a .column) (getD (a .a .now) i 0) (a .words .now) (c .keep .last .1 .0) h
           (same-value (a .scope-a .now) (a .a .now) scope i (a .column) (s .pre .1 .0) (found .if1 .left) h (found .before .column-of .ensures (found .if1 .left) ∙ sym e))
-          (c .keep .ensures .1 .1),
+          (c .keep .ensures .1),
     )
 
 pub narrow-column-spec : {M : Type 1} → statement M
