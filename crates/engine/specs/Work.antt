@@ -3,8 +3,8 @@ use mathlib.Core.Path.{_≡_}
 use mathlib.Core.Bool.{Bool, true, false}
 use mathlib.Core.Logic.{_⊎_}
 use mathlib.Core.List.{List, _++_, map, List·Memᴰ}
-use Prim.Native.Nat.{ℕ, _+_, _*_, _≤_, _<_}
-use lib.ListN.{length, take, drop, replicate}
+use Prim.Native.Nat.{ℕ, _+_, _*_, _^_, _≤_, _<_}
+use lib.ListN.{length, getD, take, drop, replicate}
 use Rattle.model.specs.Limits.{wordBits, noSupport}
 use Rattle.model.specs.Lists.{pairwise, earlier}
 use Rattle.model.specs.TupleSet.{TupleSet, has, count}
@@ -15,6 +15,11 @@ use Rattle.model.specs.Support.{candidates, isSupport, firstSupport}
 use Rattle.model.specs.Consistency.{filtered, needed}
 use Rattle.model.specs.LiveWords.{isLive, cleared, written}
 use Rattle.engine.specs.Setting.{Setting, network, listed, liveIn, combinationOf, sizeOf, tupleId, placeOf, held}
+
+-- An array of 64 words.
+pub record WordArray (words : List ℕ) : Type 0 where
+  pub long : length words ≡ 64
+  pub small : (i : ℕ) → i < length words → getD words i 0 < 2 ^ 64
 
 -- tuple g has a support in combination c while S lives
 abbrev pub Supported : Setting → TupleSet → Combination → ℕ → Type 0

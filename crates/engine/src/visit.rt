@@ -6,7 +6,7 @@ ghost use lib.ListN.{length, getD};
 ghost use Rattle.model.specs.TupleSet.{has};
 ghost use Rattle.narrowing.specs.Marks.{Marks};
 ghost use Rattle.engine.specs.Setting.{setting, network, Sound, liveIn, sizeOf, tupleId, placeOf};
-ghost use Rattle.engine.specs.Work.{Working, Renewed, Visited};
+ghost use Rattle.engine.specs.Work.{WordArray, Working, Renewed, Visited};
 use live::clear;
 use live::next;
 use model::NO_SUPPORT;
@@ -28,13 +28,13 @@ pub fn renew(
     table: &[u64; 8192],
     members: &[u16],
     m: u16,
-    words: &mut [u64],
+    words: &mut [u64; 64],
     numbers: &mut [u16],
     p: u16,
     x: u16,
     at: usize,
 ) -> bool
-    requires { ⌜ (let G = setting (now variables) (now values) (now «variable_starts») (now «tuple_starts») (now «value_starts») (now members) m in Sound G × (Marks (network G) (now table) × (Working G (now words) (now numbers) × ((p < length (now members)) × ((x < sizeOf G p) × ((has (liveIn G (now words)) (tupleId G p x) ≡ true) × (at ≡ placeOf G p x))))))) ⌝ }
+    requires { ⌜ (length (now words) ≡ 64) × (let G = setting (now variables) (now values) (now «variable_starts») (now «tuple_starts») (now «value_starts») (now members) m in Sound G × (Marks (network G) (now table) × (Working G (now words) (now numbers) × ((p < length (now members)) × ((x < sizeOf G p) × ((has (liveIn G (now words)) (tupleId G p x) ≡ true) × (at ≡ placeOf G p x))))))) ⌝ }
     ensures { λ r. ⌜ Renewed (setting (now (variables .entry)) (now (values .entry)) (now («variable_starts» .entry)) (now («tuple_starts» .entry)) (now («value_starts» .entry)) (now (members .entry)) m) p x (now (words .entry)) (now (numbers .entry)) r (now (words .exit)) (now (numbers .exit)) ⌝ }
 {
     let each = wide(m);
@@ -86,11 +86,11 @@ pub fn visit(
     members: &[u16],
     m: u16,
     pair_starts: &[u16; 1024],
-    words: &mut [u64],
+    words: &mut [u64; 64],
     numbers: &mut [u16],
     p: u16,
 ) -> Queue
-    requires { ⌜ (let G = setting (now variables) (now values) (now «variable_starts») (now «tuple_starts») (now «value_starts») (now members) m in Sound G × (Marks (network G) (now table) × (Working G (now words) (now numbers) × ((p < length (now members)) × (getD (now «pair_starts») p 0 ≡ placeOf G p 0))))) ⌝ }
+    requires { ⌜ WordArray (now words) × (let G = setting (now variables) (now values) (now «variable_starts») (now «tuple_starts») (now «value_starts») (now members) m in Sound G × (Marks (network G) (now table) × (Working G (now words) (now numbers) × ((p < length (now members)) × (getD (now «pair_starts») p 0 ≡ placeOf G p 0))))) ⌝ }
     ensures { λ r. ⌜ Visited (setting (now (variables .entry)) (now (values .entry)) (now («variable_starts» .entry)) (now («tuple_starts» .entry)) (now («value_starts» .entry)) (now (members .entry)) m) p (queue .words) (now (words .entry)) (now (numbers .entry)) (r .words) (now (words .exit)) (now (numbers .exit)) ⌝ }
 {
     let r = wide(members[wide(p)]);

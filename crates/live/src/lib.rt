@@ -1,7 +1,8 @@
 // Live words: sixty-four ids to a word, id g at bit g mod 64 of word g / 64, and live where the bit is 1.
 ghost use mathlib.Core.Path.{_≡_};
+ghost use mathlib.Core.List.{_++_};
 ghost use Prim.Native.Nat.{ℕ, _-_, _*_, _/_, _%_, _≤_, _<_};
-ghost use lib.ListN.{length, getD};
+ghost use lib.ListN.{length, getD, take, drop};
 ghost use Rattle.model.specs.TupleSet.{count};
 ghost use Rattle.model.specs.LiveWords.{isLive, livingFrom, nextLive, cleared, raised};
 
@@ -78,14 +79,21 @@ pub fn next(words: &[u64], start: u16, end: u16) -> u16
     end
 }
 
+// n, or 64 where it is more.
+fn capped(n: usize) -> usize
+    ensures { λ r. ⌜ (r ≤ 64) × ((r ≤ n) × (r < 64 → r ≡ n)) ⌝ }
+{
+    if n < 64 {
+        return n;
+    }
+    64
+}
+
 // The first 64 words, and noughts where there are fewer.
 pub fn copied(words: &[u64]) -> [u64; 64]
     ensures { λ r. ⌜ (length r ≡ 64) × ((i : ℕ) → i < 64 → getD r i 0 ≡ getD (now (words .entry)) i 0) ⌝ }
 {
-    let mut n = words.len();
-    if 64 < n {
-        n = 64;
-    }
+    let n = capped(words.len());
     let mut copy = [0u64; 64];
     let mut i = 0;
     while i < n {
@@ -93,4 +101,17 @@ pub fn copied(words: &[u64]) -> [u64; 64]
         i += 1;
     }
     copy
+}
+
+// The first 64 words are those of the copy, as many as there are, and all others stay.
+pub fn put_back(copy: &[u64; 64], words: &mut [u64])
+    requires { ⌜ length (now copy) ≡ 64 ⌝ }
+    ensures { λ _. ⌜ now (words .exit) ≡ take (length (now (words .entry))) (now (copy .entry)) ++ drop 64 (now (words .entry)) ⌝ }
+{
+    let n = capped(words.len());
+    let mut i = 0;
+    while i < n {
+        words[i] = copy[i];
+        i += 1;
+    }
 }

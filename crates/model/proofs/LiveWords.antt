@@ -3,12 +3,12 @@
 use mathlib.Core.Path.{_≡_, refl, sym, _∙_, ap, subst}
 use mathlib.Core.Bool.{Bool, true, false, not, _&&_, _||_, cond, and-true, or-false}
 use mathlib.Core.List.{List, [], _∷_, _++_, map}
-use Prim.Native.Nat.{ℕ, zero, suc, _+_, _*_, _-_, _/_, _%_, _^_, _≤_, _<_}
+use Prim.Native.Nat.{ℕ, zero, suc, _+_, _*_, _-_, _/_, _%_, _^_, _≤_, _<_, min}
 use native.Mathlib.Nat.{add-zero, zero-add, add-suc, suc-add, pow-suc, pow-succ', div-div-eq-div-mul, le-of-suc-le-suc}
 use native.Mathlib.Omega.{arith}
 use native.Mathlib.Decide.{ℕ-discrete, decLe}
 use lib.Dec.{ltb, eqb}
-use lib.ListN.{length, getD, set, take, drop, replicate, length-map, length-set}
+use lib.ListN.{length, getD, set, take, drop, replicate, length-map, length-set, length-take}
 use lib.Seq.{ext-getD, getD-set-same, getD-set-other, getD-take}
 use borrow.Author.Tests.{eqb-true, eqb-false, eq-eqb, ne-eqb, lt-ltb, le-ltb, ltb-true, ltb-false}
 use Rattle.model.specs.Limits.{wordBits}
@@ -434,11 +434,14 @@ cleared-written n S g ws h =
 -- ---- The first words
 
 -- ids below 64 k are read from k words
-pub living-take : (n k : ℕ) (ws : List ℕ) → n ≤ wordBits * k → living n (take k ws) ≡ living n ws
+pub living-same : (n k : ℕ) (vs ws : List ℕ) → n ≤ wordBits * k → ((i : ℕ) → i < k → getD vs i 0 ≡ getD ws i 0) → living n vs ≡ living n ws
 unfolding living isLive
-living-take n k ws h =
-    map-from-cong (isLive (take k ws)) (isLive ws) 0 0 n
-    (λ j l. ap (λ (w : ℕ). isSet w ((0 + j) % wordBits)) (getD-take k ws ((0 + j) / wordBits) 0 (omega arith)))
+living-same n k vs ws h same =
+    map-from-cong (isLive vs) (isLive ws) 0 0 n
+    (λ j l. ap (λ (w : ℕ). isSet w ((0 + j) % wordBits)) (same ((0 + j) / wordBits) (omega arith)))
+
+pub living-take : (n k : ℕ) (ws : List ℕ) → n ≤ wordBits * k → living n (take k ws) ≡ living n ws
+living-take n k ws h = living-same n k (take k ws) ws h (λ i l. getD-take k ws i 0 l)
 
 writtenFrom-past : (i n : ℕ) (S : TupleSet) (ws : List ℕ) → ((k : ℕ) → k < length ws → getD ws k 0 < 2 ^ 64) → n ≤ wordBits * i → writtenFrom i n S ws ≡ ws
 writtenFrom-past i n S [] small h = refl
@@ -458,3 +461,22 @@ writtenFrom-take i n (suc k) S (w ∷ ws) small h =
 pub written-take : (n k : ℕ) (S : TupleSet) (ws : List ℕ) → ((i : ℕ) → i < length ws → getD ws i 0 < 2 ^ 64) → n ≤ wordBits * k → written n S ws ≡ written n S (take k ws) ++ drop k ws
 unfolding written
 written-take n k S ws small h = writtenFrom-take 0 n k S ws small (omega (arith, zero-add k))
+
+-- .. or written to a copy of the first k words, which is put back, as much of it as there are words
+pub written-copy : (n k : ℕ) (S : TupleSet) (copy ws : List ℕ) → length copy ≡ k → ((i : ℕ) → i < k → getD copy i 0 ≡ getD ws i 0) → ((i : ℕ) → i < length ws → getD ws i 0 < 2 ^ 64) → n ≤ wordBits * k → take (length ws) (written n S copy) ++ drop k ws ≡ written n S ws
+written-copy n k S copy ws l same small h =
+    ap (λ (vs : List ℕ). vs ++ drop k ws) (ext-getD 0 (take (length ws) (written n S copy)) (written n S (take k ws)) (omega (arith, long, long-first)) (λ i b. at i (omega (arith, long)) (omega (arith, long))))
+    ∙ sym (written-take n k S ws small h)
+  where
+    long : length (take (length ws) (written n S copy)) ≡ min (length ws) k
+    long = length-take (length ws) (written n S copy) ∙ ap (min (length ws)) (written-length n S copy ∙ l)
+
+    long-first : length (written n S (take k ws)) ≡ min k (length ws)
+    long-first = written-length n S (take k ws) ∙ length-take k ws
+
+    at : (i : ℕ) → i < length ws → i < k → getD (take (length ws) (written n S copy)) i 0 ≡ getD (written n S (take k ws)) i 0
+    at i a b =
+        getD-take (length ws) (written n S copy) i 0 a
+        ∙ written-at n S copy i (omega arith)
+        ∙ ap (λ (w : ℕ). word (bitAfter n S i w)) (same i b ∙ sym (getD-take k ws i 0 b))
+        ∙ sym (written-at n S (take k ws) i (omega (arith, length-take k ws)))

@@ -12,6 +12,7 @@ ghost use Rattle.support.specs.Search as search;
 ghost use Rattle.calls.specs.Checks.{instanceOf};
 ghost use Rattle.testing.specs.Setting.{setting, network, live, listed, Sound, pairConsistent, searchIn};
 use calls::checks::test_checked;
+use live::copied;
 use live::next;
 use model::Verdict;
 use narrowing::mark_all;
@@ -28,12 +29,12 @@ fn has_support(
     tuple_starts: &[u16; 65],
     value_starts: &[u16; 65],
     table: &[u64; 8192],
-    words: &[u64],
+    words: &[u64; 64],
     members: &[u16],
     place: usize,
     own: u16,
 ) -> bool
-    requires { ⌜ (let Q = searchIn (now variables) (now values) (now «variable_starts») (now «tuple_starts») (now «value_starts») (now words) (now members) place own in Ready Q × Marks (search.network Q) (now table)) ⌝ }
+    requires { ⌜ (length (now words) ≡ 64) × (let Q = searchIn (now variables) (now values) (now «variable_starts») (now «tuple_starts») (now «value_starts») (now words) (now members) place own in Ready Q × Marks (search.network Q) (now table)) ⌝ }
     ensures { λ b. ⌜ (let Q = searchIn (now (variables .entry)) (now (values .entry)) (now («variable_starts» .entry)) (now («tuple_starts» .entry)) (now («value_starts» .entry)) (now (words .entry)) (now (members .entry)) place own in b ≡ any (isSupport (search.network Q) (search.live Q) (seeker Q)) (candidates (search.network Q) (now (members .entry)))) ⌝ }
 {
     let mut low = [0u16; 4];
@@ -62,12 +63,12 @@ fn pair_supported(
     tuple_starts: &[u16; 65],
     value_starts: &[u16; 65],
     table: &[u64; 8192],
-    words: &[u64],
+    words: &[u64; 64],
     members: &[u16],
     m: usize,
     p: usize,
 ) -> bool
-    requires { ⌜ (let G = setting (now variables) (now values) (now «variable_starts») (now «tuple_starts») (now «value_starts») (now words) (now members) m in Sound G × (Marks (network G) (now table) × (p < length (now members)))) ⌝ }
+    requires { ⌜ (length (now words) ≡ 64) × (let G = setting (now variables) (now values) (now «variable_starts») (now «tuple_starts») (now «value_starts») (now words) (now members) m in Sound G × (Marks (network G) (now table) × (p < length (now members)))) ⌝ }
     ensures { λ b. ⌜ b ≡ pairConsistent (setting (now (variables .entry)) (now (values .entry)) (now («variable_starts» .entry)) (now («tuple_starts» .entry)) (now («value_starts» .entry)) (now (words .entry)) (now (members .entry)) m) p ⌝ }
 {
     let base = p / m * m;
@@ -118,6 +119,7 @@ fn all_supported(
         value_starts,
         &mut table,
     );
+    let live = copied(words);
     let mut p = 0;
     while p < members.len() {
         if !pair_supported(
@@ -127,7 +129,7 @@ fn all_supported(
             tuple_starts,
             value_starts,
             &table,
-            words,
+            &live,
             members,
             m,
             p,

@@ -24,18 +24,18 @@ array-write-low : tie.Need-array-write-low
 array-write-low c = search needs
 
 first-support-requires : tie.Need-first-support-requires
-first-support-requires c κs = c .before .before .before .before .pre
+first-support-requires c κs = c .before .before .before .pre
 
 returns : tie.Need-returns
 returns c =
-    let a = c .before .before .before .before .before in
+    let a = c .before .before .before .before in
     let Q = searchOf a in
     let members = a .args .members .now in
     let N = network Q in
     supportFrom-any N (live Q) (seeker Q) (lowest (a .args .place) (a .args .own)) members
     (start-lowest N (live Q) (seeker Q) (lowest (a .args .place) (a .args .own)) members (a .args .place) (a .args .own)
-    (and-right (all (λ r. ltb r (length (N .relations))) members) (pairwise ltb members) (a .pre .0 .members))
-    (a .pre .0 .place) (a .pre .0 .own) refl (a .pre .0 .low-own) (lowest-other (a .args .place) (a .args .own)))
+    (and-right (all (λ r. ltb r (length (N .relations))) members) (pairwise ltb members) (a .pre .1 .0 .members))
+    (a .pre .1 .0 .place) (a .pre .1 .0 .own) refl (a .pre .1 .0 .low-own) (lowest-other (a .args .place) (a .args .own)))
     (c .first-support .result .ok) (take (length members) (c .first-support .result .tuples)) (c .first-support .ensures)
 
 pub has-support-spec : {M : Type 1} → statement M

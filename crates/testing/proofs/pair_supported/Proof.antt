@@ -34,14 +34,14 @@ abbrev given : Entry → Setting
 given a =
     setting (a .args .variables .now) (a .args .values .now) (a .args .variable-starts .now) (a .args .tuple-starts .now) (a .args .value-starts .now) (a .args .words .now) (a .args .members .now) (a .args .m)
 
-abbrev known : tie.After-shared-slice-known4 Inv-loop μ-loop → Entry
-known c = c .before .before .before .before
+abbrev known : tie.After-shared-slice-known3 Inv-loop μ-loop → Entry
+known c = c .before .before .before
 
 within : (a : Entry) → a .args .p / a .args .m * a .args .m + a .args .m ≤ length (a .args .members .now)
-within a = pair-within (a .args .m) (a .args .members .now) (a .pre .0 .positive) (a .pre .0 .whole) (a .args .p) (a .pre .1 .1)
+within a = pair-within (a .args .m) (a .args .members .now) (a .pre .1 .0 .positive) (a .pre .1 .0 .whole) (a .args .p) (a .pre .1 .1 .1)
 
 div-base : tie.Need-div-base Inv-loop μ-loop
-div-base c = omega (arith, known c .pre .0 .positive)
+div-base c = omega (arith, known c .pre .1 .0 .positive)
 
 mul-base : tie.Need-mul-base Inv-loop μ-loop
 mul-base c = omega (arith, within (known c))
@@ -64,7 +64,7 @@ entry c = known (c .before .before)
 few : (c : tie.After-wide Inv-loop μ-loop) → c .wide .result < 64
 few c =
     let a = entry c in
-    omega (arith, c .wide .ensures .0, number (given a) (a .pre .0) (a .args .p) (a .pre .1 .1))
+    omega (arith, c .wide .ensures .0, number (given a) (a .pre .1 .0) (a .args .p) (a .pre .1 .1 .1))
 
 mul-first : tie.Need-mul-first Inv-loop μ-loop
 mul-first c = search needs
@@ -97,21 +97,21 @@ module _ (c : tie.After-wide Inv-loop μ-loop) where
   end-read = ap (λ (i : ℕ). getD (entry c .args .tuple-starts .now) (i + 1) 0) (c .wide .ensures .0)
 
   ids : (first ≤ end) × (end ≤ 64 * length (entry c .args .words .now)) × (end ≤ 4096)
-  ids = let a = entry c in bounds (given a) (a .pre .0) (a .args .p) (a .pre .1 .1) first end first-read end-read
+  ids = let a = entry c in bounds (given a) (a .pre .1 .0) (a .args .p) (a .pre .1 .1 .1) first end first-read end-read
 
 next-requires : tie.Need-next-requires Inv-loop μ-loop
-next-requires c κs = ids (c .before .before)
+next-requires c κs = ids (c .before .before .before)
 
 loop-holds : tie.Need-loop-holds Inv-loop μ-loop
 loop-holds c =
-    let w = c .before .before .before in
+    let w = c .before .before .before .before in
     let a = entry w in
-    walk-starts (given a) (a .pre .0) (a .args .p) (a .pre .1 .1) (first w) (end w) (first-read w) (end-read w) (c .next .result) (c .next .ensures)
+    walk-starts (given a) (a .pre .1 .0) (a .args .p) (a .pre .1 .1 .1) (first w) (end w) (first-read w) (end-read w) (c .next .result) (c .next .ensures)
 
 -- ---- One turn
 
 abbrev read : tie.In-loop Inv-loop μ-loop → tie.After-wide Inv-loop μ-loop
-read c = c .before .before .before .before .before
+read c = c .before .before .before .before .before .before
 
 mul-has-support : tie.Need-mul-has-support Inv-loop μ-loop
 mul-has-support c = omega (arith, within (entry (read c)))
@@ -126,7 +126,7 @@ part-has-support-end : tie.Need-part-has-support-end Inv-loop μ-loop
 part-has-support-end c = omega (arith, within (entry (read c)))
 
 rem-has-support : tie.Need-rem-has-support Inv-loop μ-loop
-rem-has-support c = omega (arith, entry (read (c .before)) .pre .0 .positive)
+rem-has-support c = omega (arith, entry (read (c .before)) .pre .1 .0 .positive)
 
 sub-has-support-2 : tie.Need-sub-has-support-2 Inv-loop μ-loop
 sub-has-support-2 c = omega (arith, c .before .before .loop .inv .from-first)
@@ -136,8 +136,8 @@ has-support-requires c κs =
     let w = read (c .before) in
     let a = entry w in
     let l = c .before .before .loop in
-    let i = index (given a) (a .pre .0) (a .args .p) (a .pre .1 .1) (first w) (end w) (first-read w) (end-read w) (l .g) (l .inv .from-first) (c .before .loop-test .taken) in
-    (rw add-sub-cancel-left (ready (given a) (a .pre .0) (a .args .p) (a .pre .1 .1) (l .g - first w) i), a .pre .1 .0)
+    let i = index (given a) (a .pre .1 .0) (a .args .p) (a .pre .1 .1 .1) (first w) (end w) (first-read w) (end-read w) (l .g) (l .inv .from-first) (c .before .loop-test .taken) in
+    (a .pre .0, (rw add-sub-cancel-left (ready (given a) (a .pre .1 .0) (a .args .p) (a .pre .1 .1 .1) (l .g - first w) i), a .pre .1 .1 .0))
 
 -- what is answered of the tuple at g
 decided : (c : tie.After-has-support Inv-loop μ-loop) → (let G = given (entry (read (c .before .before))) in c .has-support .result ≡ any (isSupport (network G) (live G) (c .before .before .before .loop .g)) (candidates (network G) (pairCombination (G .m) (G .members) (entry (read (c .before .before)) .args .p))))
@@ -152,27 +152,27 @@ decided c =
     c .has-support .ensures
     ∙ ap (λ (k : ℕ). any (isSupport (network G) (live G) (firstId (network G) (getD (part k) (a .args .p % a .args .m) 0) + (l .g - first w))) (candidates (network G) (part k))) (add-sub-cancel-left base (a .args .m))
     ∙ ap (λ (h : ℕ). any (isSupport (network G) (live G) h) (candidates (network G) (part (a .args .m))))
-    (seeks G (a .pre .0) (a .args .p) (a .pre .1 .1) (first w) (end w) (first-read w) (end-read w) (l .g) (l .inv .from-first) (turn .loop-test .taken))
+    (seeks G (a .pre .1 .0) (a .args .p) (a .pre .1 .1 .1) (first w) (end w) (first-read w) (end-read w) (l .g) (l .inv .from-first) (turn .loop-test .taken))
 
 returns : tie.Need-returns Inv-loop μ-loop
 returns c =
     let turn = c .before .before .before in
     let w = read turn in
     let a = entry w in
-    walk-fails (given a) (a .pre .0) (a .args .p) (a .pre .1 .1) (first w) (end w) (first-read w) (end-read w) (turn .before .loop .g) (turn .before .loop .inv) (turn .loop-test .taken)
+    walk-fails (given a) (a .pre .1 .0) (a .args .p) (a .pre .1 .1 .1) (first w) (end w) (first-read w) (end-read w) (turn .before .loop .g) (turn .before .loop .inv) (turn .loop-test .taken)
     (sym (not-true _ (c .if1 .taken)) ∙ decided (c .before))
 
 add-next : tie.Need-add-next Inv-loop μ-loop
-add-next c = let turn = c .before .before .before in omega (arith, turn .loop-test .taken, ids (read turn) .2)
+add-next c = let turn = c .before .before .before .before in omega (arith, turn .loop-test .taken, ids (read turn) .2)
 
 next-requires-2 : tie.Need-next-requires-2 Inv-loop μ-loop
 next-requires-2 c κs =
-    let i = ids (read (c .before .before .before)) in
-    (omega (arith, c .before .before .before .loop-test .taken), i .1, i .2)
+    let i = ids (read (c .before .before .before .before)) in
+    (omega (arith, c .before .before .before .before .loop-test .taken), i .1, i .2)
 
 loop-less : tie.Need-loop-less Inv-loop μ-loop
 loop-less c =
-    let turn = c .before .before .before .before in
+    let turn = c .before .before .before .before .before in
     let w = read turn in
     let g = turn .before .loop .g in
     let b = turn .loop-test .taken in
@@ -181,18 +181,18 @@ loop-less c =
 
 loop-again : tie.Need-loop-again Inv-loop μ-loop
 loop-again c =
-    let turn = c .before .before .before .before in
+    let turn = c .before .before .before .before .before in
     let w = read turn in
     let a = entry w in
-    walk-goes (given a) (a .pre .0) (a .args .p) (a .pre .1 .1) (first w) (end w) (first-read w) (end-read w) (turn .before .loop .g) (c .next2 .result) (turn .before .loop .inv) (turn .loop-test .taken)
-    (sym (not-false _ (c .before .if1 .left)) ∙ decided (c .before .before)) (c .next2 .ensures)
+    walk-goes (given a) (a .pre .1 .0) (a .args .p) (a .pre .1 .1 .1) (first w) (end w) (first-read w) (end-read w) (turn .before .loop .g) (c .next2 .result) (turn .before .loop .inv) (turn .loop-test .taken)
+    (sym (not-false _ (c .before .before .if1 .left)) ∙ decided (c .before .before .before)) (c .next2 .ensures)
 
 returns-2 : tie.Need-returns-2 Inv-loop μ-loop
 returns-2 c =
     let l = c .before in
-    let w = l .before .before .before .before in
+    let w = l .before .before .before .before .before in
     let a = entry w in
-    walk-ends (given a) (a .pre .0) (a .args .p) (a .pre .1 .1) (first w) (end w) (first-read w) (end-read w) (l .loop .g) (l .loop .inv) (c .loop-test .left)
+    walk-ends (given a) (a .pre .1 .0) (a .args .p) (a .pre .1 .1 .1) (first w) (end w) (first-read w) (end-read w) (l .loop .g) (l .loop .inv) (c .loop-test .left)
 
 pub pair-supported-spec : {M : Type 1} → statement M
 pair-supported-spec =

@@ -1,211 +1,98 @@
--- `filter::filter` meets its contract. The loop's invariant: `Underway`; its measure: the live tuples, and then the pairs that wait.
--- From the laws of the filter's start, of a turn of it, and of its end.
-use mathlib.Core.Path.{_≡_, refl, ap, _∙_}
-use mathlib.Core.List.{_++_}
-use Prim.Native.Nat.{ℕ, _≤_, _<_}
-use native.Mathlib.Nat.{zero-mul}
+-- `filter::filter` meets its contract: the tuples that live in the copy are those of the words, and the copy put back is
+-- what is written to the words. From the contract of `settle`, and the laws of words copied and put back.
+use mathlib.Core.Path.{_≡_, sym, ap, subst, _∙_}
+use mathlib.Core.List.{List, _++_}
+use Prim.Native.Nat.{ℕ, _*_, _^_, _≤_, _<_}
 use native.Mathlib.Omega.{arith}
-use mir.Val.{Fits}
-use mir.Syntax.{w64}
-use lib.ListN.{length, getD, drop, replicate}
+use lib.ListN.{length, getD, take, drop}
 use borrow.Author.Needs.{needs}
-use Rattle.model.specs.Limits.{noSupport}
+use Rattle.model.specs.Limits.{wordBits}
 use Rattle.model.specs.TupleSet.{TupleSet}
-use Rattle.model.specs.Network.{Network}
-use Rattle.model.specs.Consistency.{supportList, needed, supportStart}
-use Rattle.worklist.specs.Tables.{Tabled}
-use Rattle.worklist.proofs.Waiting.{Words, words-of}
-use Rattle.engine.specs.Setting.{Setting, setting, network, listed, sizeOf}
-use Rattle.engine.specs.Work.{Done}
-use Rattle.engine.proofs.Members.{starts-tuples}
-use Rattle.engine.proofs.Start.{filled-long, filled-beyond, filled-working, full-rest}
-use Rattle.engine.proofs.Steps.{shrunk-refl}
-use Rattle.engine.proofs.Turn.{Underway, weight, shrunk-length, weight-less, underway}
-use Rattle.engine.proofs.End.{all-done, left, words-end, numbers-end}
+use Rattle.model.specs.Network.{total}
+use Rattle.model.specs.Consistency.{filtered, supportList, needed}
+use Rattle.model.specs.LiveWords.{written}
+use Rattle.model.proofs.LiveWords.{living-same, written-length, written-copy}
+use Rattle.engine.specs.Setting.{Setting, setting, network, listed, liveIn}
+use Rattle.engine.specs.Work.{WordArray}
+use Rattle.engine.proofs.Members.{few-tuples}
 use Rattle.engine.proofs.filter.filter.Statement.{statement}
 use Rattle.engine.proofs.filter.filter.Tie as tie
 
-abbrev Inv-loop : tie.InvT-loop
-Inv-loop variables values variable-starts tuple-starts value-starts members m wanted words₀ numbers₀ table starts waiting₀ words numbers waiting =
-    Underway (setting variables values variable-starts tuple-starts value-starts members m) words₀ numbers₀ (waiting .words) words numbers
-
-abbrev μ-loop : tie.MeasureT-loop
-μ-loop variables values variable-starts tuple-starts value-starts members m wanted words₀ numbers₀ table starts waiting₀ words numbers waiting =
-    weight (setting variables values variable-starts tuple-starts value-starts members m) (waiting .words) words
-
 -- the setting that the parameters make
-abbrev given : tie.Start Inv-loop μ-loop → Setting
+abbrev given : tie.Start → Setting
 given start =
     let a = start .args in
     setting (a .variables .now) (a .values .now) (a .variable-starts .now) (a .tuple-starts .now) (a .value-starts .now) (a .members .now) (a .m)
 
--- the start of the function, from the loop's test on
-abbrev entry : tie.At-loop Inv-loop μ-loop → tie.Start Inv-loop μ-loop
-entry c = c .before .before .before .before .before .before .before .before .before .before .before .before .before .before
+abbrev entry : tie.After-copied → tie.Start
+entry c = c .before .before .before .before .before .before .before
 
--- the loop's test, from the visit on
-abbrev test : tie.After-visit Inv-loop μ-loop → tie.At-loop Inv-loop μ-loop
-test c = c .before .before .before .before .before .before .before .before .before
+-- ---- The copy
 
--- there is room for the numbers
-room : (c : tie.Start Inv-loop μ-loop) → needed (network (given c)) (listed (given c)) ≤ length (c .args .numbers .now)
-room c = let e = c .pre .1 .1 .0 in omega (arith, c .pre .1 .1 .1)
+few : (c : tie.After-copied) → total (network (given (entry c))) ≤ wordBits * 64
+few c = few-tuples (given (entry c)) (entry c .pre .0)
 
--- the numbers once they are filled
-fills : (c : tie.After-fill Inv-loop μ-loop) → (let start = c .before .before .before .before .before .before .before .before .before .before in let n = needed (network (given start)) (listed (given start)) in c .fill .last .0 ≡ replicate n noSupport ++ drop n (start .args .numbers .now))
-fills c =
-    let start = c .before .before .before .before .before .before .before .before .before .before in
-    c .fill .ensures ∙ ap (λ (n : ℕ). replicate n noSupport ++ drop n (start .args .numbers .now)) (start .pre .1 .1 .0)
+small : (c : tie.After-copied) (i : ℕ) → getD (entry c .args .words .now) i 0 < 2 ^ 64
+small c i = c .before .before .before .slice-known .given i .fits
 
--- where a pair's numbers begin
-starts-at : (c : tie.At-loop Inv-loop μ-loop) (N : Network) → (let a = entry c .args in Tabled N (a .m) (a .tuple-starts .now) (a .members .now) → (p : ℕ) → p < length (a .members .now) → getD (c .before .before .before .before .before .before .pair-starts .result) p 0 ≡ supportStart N (a .m) (a .members .now) p)
-starts-at c = c .before .before .before .before .before .before .pair-starts .ensures
-
--- the pair taken is one
-pair-below : (c : tie.Else1 Inv-loop μ-loop) → c .before .before .take .result .pair < length (entry (c .before .before .before) .args .members .now)
-pair-below c = omega arith
-
-mark-all-requires : tie.Need-mark-all-requires Inv-loop μ-loop
-mark-all-requires c κs =
-    let start = c .before .before .before .before .before .before in
-    let sound = start .pre .0 in
-    (search needs, (start .args .variables .now, (sound .laid, starts-tuples (given start) sound)))
-
-pair-starts-requires : tie.Need-pair-starts-requires Inv-loop μ-loop
-pair-starts-requires c κs = let start = c .before .before .before .before .before .before .before in (network (given start), start .pre .0 .tables)
-
-fill-requires : tie.Need-fill-requires Inv-loop μ-loop
-fill-requires c κs = c .before .before .before .before .before .before .before .before .before .pre .1 .1 .1
-
-cast-full : tie.Need-cast-full Inv-loop μ-loop
-cast-full c = omega (arith, c .before .before .before .before .before .before .before .before .before .before .before .before .pre .0 .tables .pairs .few)
-
-full-requires : tie.Need-full-requires Inv-loop μ-loop
-full-requires c κs = omega (arith, c .before .before .before .before .before .before .before .before .before .before .before .before .pre .0 .tables .pairs .few)
-
-loop-holds : tie.Need-loop-holds Inv-loop μ-loop
-loop-holds c =
-    let start = c .before .before .before .before .before .before .before .before .before .before .before .before .before in
-    let a = start .args in
-    let G = given start in
-    let fill = c .before .before .before .fill in
-    let f : (i : ℕ) → Fits w64 (getD (c .full .result .words) i 0) = λ i. search needs in
+array : (c : tie.After-copied) → WordArray (c .copied .result)
+array c =
+    let e = c .copied .ensures in
     record {
-      sixteen = words-of (c .full .result .words) (search needs) f;
-      working = filled-working G (start .pre .0) (a .words .now) (a .numbers .now) (fill .last .0) (start .pre .1 .0) (room start) (fills (c .before .before .before));
-      shrunk = shrunk-refl G (start .pre .0) (a .words .now) (λ i h. (c .before .before .before .before .before .before .before .before .before .slice-known .given i) .fits);
-      beyond = refl;
-      long = refl;
-      rest = full-rest G (start .pre .0) (c .full .result .words) (a .words .now) (fill .last .0) (length (a .members .now)) refl (c .full .ensures);
+      long = e .0;
+      small = λ i h. subst (λ (w : ℕ). w < 2 ^ 64) (sym (e .1 i (omega (arith, e .0)))) (small c i);
     }
 
-take-requires : tie.Need-take-requires Inv-loop μ-loop
-take-requires c κs = search needs
+-- the same tuples live in it
+same : (c : tie.After-copied) → liveIn (given (entry c)) (c .copied .result) ≡ liveIn (given (entry c)) (entry c .args .words .now)
+same c = living-same (total (network (given (entry c)))) 64 (c .copied .result) (entry c .args .words .now) (few c) (c .copied .ensures .1)
 
-wide-requires : tie.Need-wide-requires Inv-loop μ-loop
-wide-requires c κs = search needs
+abbrev copying : tie.After-settle → tie.After-copied
+copying c = c .before .before .before
 
--- the queue that a visit gives back has sixteen words
-visit-words : (c : tie.After-visit Inv-loop μ-loop) → Words (c .visit .result .words)
-visit-words c =
-    let f : (i : ℕ) → Fits w64 (getD (c .visit .result .words) i 0) = λ i. search needs in
-    words-of (c .visit .result .words) (search needs) f
+-- ---- The needs
 
-visit-requires : tie.Need-visit-requires Inv-loop μ-loop
-visit-requires c κs =
-    let t = c .before .before .before .before .before .before .before .before in
-    let start = entry t in
-    let a = start .args in
-    let below = pair-below (c .before .before .before .before .before) in (
-      start .pre .0,
-      (t .before .before .before .before .before .before .before .mark-all .ensures .1 (a .variables .now), (t .loop .inv .working, (below, starts-at t (network (given start)) (start .pre .0 .tables) (c .before .before .before .before .before .before .before .take .result .pair) below ∙ omega (arith, zero-mul (a .m))))),
-    )
+copied-requires : tie.Need-copied-requires
+copied-requires c κs = search needs
 
-loop-less : tie.Need-loop-less Inv-loop μ-loop
-loop-less c =
-    let v = c .before .before .before .before in
-    let t = test v in
-    let start = entry t in
-    let take = v .before .before .before .before .before .before .before .before .take in
-    weight-less (given start) (start .pre .0) (t .loop .waiting .words) (t .loop .inv .sixteen) (take .result .pair) (take .ensures .0) (pair-below (v .before .before .before .before .before .before)) (take .result .rest .words) (take .ensures .1)
-    (start .args .words .now) (start .args .numbers .now) (t .loop .words) (t .loop .numbers) (v .visit .result .words) (v .visit .last .1 .1 .1 .1 .1 .1 .1 .1 .1 .1 .0) (v .visit .last .1 .1 .1 .1 .1 .1 .1 .1 .1 .1 .1 .0) (v .visit .ensures)
+settle-requires : tie.Need-settle-requires
+settle-requires c κs =
+    let k = c .before .before in
+    let a = entry k in
+    (array k, (a .pre .0, (omega (arith, few k, k .copied .ensures .0), a .pre .1 .1)))
 
-loop-again : tie.Need-loop-again Inv-loop μ-loop
-loop-again c =
-    let v = c .before .before .before .before in
-    let t = test v in
-    let start = entry t in
-    let take = v .before .before .before .before .before .before .before .before .take in
-    underway (given start) (start .pre .0) (t .loop .waiting .words) (t .loop .inv .sixteen) (take .result .pair) (take .ensures .0) (pair-below (v .before .before .before .before .before .before)) (take .result .rest .words) (take .ensures .1)
-    (start .args .words .now) (t .before .before .before .before .fill .last .0) (t .loop .words) (t .loop .numbers) (v .visit .result .words) (v .visit .last .1 .1 .1 .1 .1 .1 .1 .1 .1 .1 .0) (v .visit .last .1 .1 .1 .1 .1 .1 .1 .1 .1 .1 .1 .0) (v .visit .ensures)
-    (visit-words v) (t .loop .inv)
+put-back-requires : tie.Need-put-back-requires
+put-back-requires c κs =
+    let s = c .before .before .before .before in
+    let k = copying s in
+    let G = given (entry k) in
+    ap length (s .settle .ensures .0)
+    ∙ written-length (total (network G)) (filtered (network G) (listed G) (liveIn G (k .copied .result))) (k .copied .result)
+    ∙ k .copied .ensures .0
 
-blank-all-requires : tie.Need-blank-all-requires Inv-loop μ-loop
-blank-all-requires c κs =
-    let t = c .before .before .before .before .before .before in
-    let start = entry t in
-    let u = t .loop .inv in (
-      (network (given start), start .pre .0 .tables, u .working .enough, u .working .room),
-      (starts-at t, start .pre .0 .few),
-    )
+same-length : tie.Need-same-length
+same-length c = search needs
 
--- no pair waits
-finished : (c : tie.Then1 Inv-loop μ-loop) → (let t = c .before .before .before in let G = given (entry t) in (q : ℕ) → q < length (G .members) → Done G (t .loop .words) (t .loop .numbers) q (sizeOf G q))
-finished c =
-    let t = c .before .before .before in
-    let take = c .before .before .take in
-    all-done (given (entry t)) (entry t .pre .0) (t .loop .words) (t .loop .numbers) (t .loop .waiting .words) (take .result .pair) (take .ensures .0) (omega arith) (t .loop .inv .rest)
+same-length-2 : tie.Need-same-length-2
+same-length-2 c = search needs
 
-same-length : tie.Need-same-length Inv-loop μ-loop
-same-length c = let t = c .before .before .before .before .before .before .before .before .before in shrunk-length (given (entry t)) (entry t .args .words .now) (t .loop .words) (t .loop .inv .shrunk)
-
-same-length-2 : tie.Need-same-length-2 Inv-loop μ-loop
-same-length-2 c =
-    let t = c .before .before .before .before .before .before .before .before .before in
-    let start = entry t in
-    let G = given start in
-    let a = start .args in
-    (c .before .before .blank-all .ensures (network G) (start .pre .0 .tables)) .long
-    ∙ t .loop .inv .long
-    ∙ filled-long G (start .pre .0) (a .words .now) (a .numbers .now) (t .before .before .before .before .fill .last .0) (start .pre .1 .0) (room start) (fills (t .before .before .before .before))
-
-returns : tie.Need-returns Inv-loop μ-loop
+returns : tie.Need-returns
 returns c =
-    let t = c .before .before .before .before .before .before .before .before .before in
-    let start = entry t in
-    let G = given start in
+    let s = c .before .before .before .before .before .before .before in
+    let k = copying s in
+    let a = entry k .args in
+    let ws = a .words .now in
+    let G = given (entry k) in
     let N = network G in
-    let a = start .args in
-    let l = t .loop in
-    let done = finished (c .before .before .before .before .before .before) in
-    let final = c .before .before .blank-all .last .1 .1 .1 .1 .1 .0 in
-    let n = needed N (listed G) in
-    let beyond =
-    l .inv .beyond ∙ filled-beyond G (start .pre .0) (a .words .now) (a .numbers .now) (t .before .before .before .before .fill .last .0) (start .pre .1 .0) (room start) (fills (t .before .before .before .before))
-    in (
-      words-end G (start .pre .0) (l .words) (l .numbers) done (a .words .now) (l .inv .shrunk),
-      numbers-end G (start .pre .0) (l .words) (l .numbers) done final (c .before .before .blank-all .ensures N (start .pre .0 .tables)) (a .numbers .now) beyond
-          ∙ ap (λ (T : TupleSet). supportList N (listed G) T ++ drop n (a .numbers .now)) (left G (start .pre .0) (l .words) (l .numbers) done (a .words .now) (l .inv .shrunk)),
+    let C = listed G in (
+      c .before .before .put-back .ensures
+          ∙ ap (λ (xs : List ℕ). take (length ws) xs ++ drop 64 ws) (s .settle .ensures .0)
+          ∙ written-copy (total N) 64 (filtered N C (liveIn G (k .copied .result))) (k .copied .result) ws (k .copied .ensures .0) (k .copied .ensures .1) (λ i h. small k i) (few k)
+          ∙ ap (λ (S : TupleSet). written (total N) (filtered N C S) ws) (same k),
+      s .settle .ensures .1 ∙ ap (λ (S : TupleSet). supportList N C (filtered N C S) ++ drop (needed N C) (a .numbers .now)) (same k),
     )
 
 pub filter-spec : {M : Type 1} → statement M
 filter-spec =
     tie.close
-    (tie.spec
-    Inv-loop
-    μ-loop
-    mark-all-requires
-    pair-starts-requires
-    fill-requires
-    cast-full
-    full-requires
-    loop-holds
-    take-requires
-    wide-requires
-    visit-requires
-    loop-less
-    loop-again
-    blank-all-requires
-    same-length
-    same-length-2
-    returns)
+    (tie.spec copied-requires settle-requires put-back-requires same-length same-length-2 returns)

@@ -30,26 +30,26 @@ module _ (a : tie.Start) where
   G = setting (a .args .variables .now) (a .args .values .now) (a .args .variable-starts .now) (a .args .tuple-starts .now) (a .args .value-starts .now) (a .args .members .now) (a .args .m)
 
   abbrev sound : Sound G
-  sound = a .pre .0
+  sound = a .pre .1 .0
 
   abbrev in-members : a .args .p < length (a .args .members .now)
-  in-members = a .pre .1 .1 .1 .0
+  in-members = a .pre .1 .1 .1 .1 .0
 
   abbrev in-size : a .args .x < sizeOf G (a .args .p)
-  in-size = a .pre .1 .1 .1 .1 .0
+  in-size = a .pre .1 .1 .1 .1 .1 .0
 
   abbrev seeker : Seeker G (a .args .words .now) (a .args .numbers .now) (a .args .p) (a .args .x)
   seeker =
       record {
         sound = sound;
-        working = a .pre .1 .1 .0;
+        working = a .pre .1 .1 .1 .0;
         pair = in-members;
         index = in-size;
-        lives = a .pre .1 .1 .1 .1 .1 .0;
+        lives = a .pre .1 .1 .1 .1 .1 .1 .0;
       }
 
   abbrev is-at : a .args .at ≡ placeOf G (a .args .p) (a .args .x)
-  is-at = a .pre .1 .1 .1 .1 .1 .1
+  is-at = a .pre .1 .1 .1 .1 .1 .1 .1
 
   inside : a .args .at + a .args .m ≤ length (a .args .numbers .now)
   inside = omega (arith, is-at, held-inside seeker)
@@ -61,7 +61,7 @@ module _ (a : tie.Start) where
   loadedOf = loaded seeker
 
 abbrev entry : tie.After-wide2 → tie.Start
-entry c = c .before .before .before .before .before .before .before
+entry c = c .before .before .before .before .before .before
 
 -- ---- The numbers as they are read
 
@@ -104,7 +104,7 @@ low-is c =
     let a = entry w in
     ⊎-elim
     {C = c .if1 .low ≡ lowOf (seeker a)}
-    (λ t. t .6 ∙ loaded-is w (t .2 .ensures) ∙ sym (low-held (seeker a) (λ e. t .0 .taken (lead-is a ∙ e))))
+    (λ t. t .7 ∙ loaded-is w (t .2 .ensures) ∙ sym (low-held (seeker a) (λ e. t .0 .taken (lead-is a ∙ e))))
     (λ t. t .1 ∙ ap (λ (q : ℕ). set (replicate maxMembers 0) q (a .args .x)) (place-is w) ∙ sym (low-none (seeker a) (sym (lead-is a) ∙ t .0 .left)))
     (c .if1 .came)
 
@@ -189,7 +189,7 @@ load-requires c κs =
 
 all-live-requires : tie.Need-all-live-requires
 all-live-requires c κs =
-    let l = c .before in
+    let l = c .before .before in
     let w = l .before .before .before .before in
     let a = entry w in
     let ws = a .args .words .now in
@@ -203,12 +203,9 @@ all-live-requires c κs =
 same-length : tie.Need-same-length
 same-length c = search needs
 
-same-length-2 : tie.Need-same-length-2
-same-length-2 c = search needs
-
 returns : tie.Need-returns
 returns c =
-    let l = c .before .before .before in
+    let l = c .before .before .before .before in
     let w = l .before .before .before .before in
     let a = entry w in
     let live : ℕ → ℕ → List ℕ → Bool = λ b n is. all (λ (j : ℕ). isLive (a .args .words .now) (chosenId (a .args .tuple-starts .now) (a .args .members .now) b is j)) (from 0 n) in
@@ -245,7 +242,7 @@ first-support-requires c κs =
     let b = c .before .before in
     let w = b .before .before in
     let a = entry w in
-    (subst Ready (sym (search-is b)) (ready (seeker a)), a .pre .1 .0)
+    (a .pre .0, (subst Ready (sym (search-is b)) (ready (seeker a)), a .pre .1 .1 .0))
 
 store-requires : tie.Need-store-requires
 store-requires c κs =
@@ -253,11 +250,8 @@ store-requires c κs =
     let a = entry w in
     (omega (arith, each-is w, inside a), omega (arith, each-is w, sound a .few))
 
-same-length-3 : tie.Need-same-length-3
-same-length-3 c = search needs
-
-same-length-4 : tie.Need-same-length-4
-same-length-4 c = search needs
+same-length-2 : tie.Need-same-length-2
+same-length-2 c = search needs
 
 returns-2 : tie.Need-returns-2
 returns-2 c =
@@ -298,17 +292,14 @@ clear-requires c κs =
     let a = entry (looked (c .before .before)) in
     omega (arith, id-is (c .before .before), tuple-below (G a) (sound a) (a .args .p) (a .args .x) (in-members a) (in-size a), seeker a .working .enough)
 
-same-length-5 : tie.Need-same-length-5
-same-length-5 c = search needs
-
 returns-3 : tie.Need-returns-3
 returns-3 c =
-    let l = c .before .before .before .before .before in
+    let l = c .before .before .before in
     let f = l .before .before .before in
     let w = f .before .before .before .before .before in
     let a = entry w in
     subst (λ (ws : List ℕ). Renewed (G a) (a .args .p) (a .args .x) (a .args .words .now) (a .args .numbers .now) false ws (a .args .numbers .now))
-    (sym (c .before .before .clear .ensures ∙ ap (λ (g : ℕ). cleared g (a .args .words .now)) (id-is l)))
+    (sym (c .clear .ensures ∙ ap (λ (g : ℕ). cleared g (a .args .words .now)) (id-is l)))
     (renewed-none (seeker a)
     (f .first-support .result .ok) (f .first-support .result .tuples) (answer-is f) (l .before .before .if3 .left))
 
@@ -327,7 +318,6 @@ renew-spec =
     load-requires
     all-live-requires
     same-length
-    same-length-2
     returns
     mul-low
     array-write-low
@@ -337,8 +327,7 @@ renew-spec =
     part-first-support-end
     first-support-requires
     store-requires
-    same-length-3
-    same-length-4
+    same-length-2
     returns-2
     mul-wide
     shared-slice-read-wide
@@ -347,5 +336,4 @@ renew-spec =
     element-copy-out-clear
     add-clear
     clear-requires
-    same-length-5
     returns-3)

@@ -34,16 +34,16 @@ module _ (a : tie.Start Inv-loop μ-loop) where
   G = setting (a .args .variables .now) (a .args .values .now) (a .args .variable-starts .now) (a .args .tuple-starts .now) (a .args .value-starts .now) (a .args .members .now) (a .args .m)
 
   abbrev sound : Sound G
-  sound = a .pre .0
+  sound = a .pre .1 .0
 
   abbrev work : Working G (a .args .words .now) (a .args .numbers .now)
-  work = a .pre .1 .1 .0
+  work = a .pre .1 .1 .1 .0
 
   abbrev in-members : a .args .p < length (a .args .members .now)
-  in-members = a .pre .1 .1 .1 .0
+  in-members = a .pre .1 .1 .1 .1 .0
 
 abbrev found : tie.After-wide2 Inv-loop μ-loop → tie.Start Inv-loop μ-loop
-found c = c .before .before .before .before .before .before .before .before
+found c = c .before .before .before .before .before .before .before
 
 abbrev entry : tie.After-wide4 Inv-loop μ-loop → tie.Start Inv-loop μ-loop
 entry c = found (c .before .before .before .before .before)
@@ -68,7 +68,7 @@ start-is c =
     let a = entry c in
     c .wide4 .ensures .0
     ∙ ap (λ (q : ℕ). getD (a .args .pair-starts .now) q 0) (c .before .before .wide3 .ensures .0)
-    ∙ a .pre .1 .1 .1 .1
+    ∙ a .pre .1 .1 .1 .1 .1
 
 abbrev first : tie.After-wide4 Inv-loop μ-loop → ℕ
 first c = getD (entry c .args .tuple-starts .now) (c .before .before .before .before .before .wide2 .result) 0
@@ -79,7 +79,7 @@ end c = getD (entry c .args .tuple-starts .now) (c .before .before .before .befo
 -- ---- In the loop
 
 abbrev begun : tie.In-loop Inv-loop μ-loop → tie.After-wide4 Inv-loop μ-loop
-begun c = c .before .before .before .before
+begun c = c .before .before .before .before .before
 
 -- the place of the tuple's numbers
 place-is : (c : tie.After-wide6 Inv-loop μ-loop) → (let i = c .before .before in let b = begun i in b .wide4 .result + c .before .wide5 .result * c .wide6 .result ≡ placeOf (G (entry b)) (entry b .args .p) (i .before .loop .g - first b))
@@ -140,7 +140,7 @@ turned-removed c waiting e waits =
     (waiting .words) waits e
 
 abbrev renewed : tie.Joined1 Inv-loop μ-loop → tie.After-renew Inv-loop μ-loop
-renewed c = c .before .before .before .before .before
+renewed c = c .before .before .before
 
 turned : (c : tie.Joined1 Inv-loop μ-loop) → Turned (renewed c) (c .if1 .waiting) (c .if1 .shrunk)
 turned c =
@@ -171,7 +171,7 @@ mul-wide : tie.Need-mul-wide Inv-loop μ-loop
 mul-wide c = omega (arith, c .wide .ensures .1)
 
 shared-slice-read-wide : tie.Need-shared-slice-read-wide Inv-loop μ-loop
-shared-slice-read-wide c = omega (arith, c .before .wide .ensures .0, in-members (c .before .before .before .before .before .before .before))
+shared-slice-read-wide c = omega (arith, c .before .wide .ensures .0, in-members (c .before .before .before .before .before .before))
 
 wide-requires-2 : tie.Need-wide-requires-2 Inv-loop μ-loop
 wide-requires-2 c κs = search needs
@@ -205,16 +205,16 @@ wide-requires-4 c κs = search needs
 
 next-requires : tie.Need-next-requires Inv-loop μ-loop
 next-requires c κs =
-    let b = c .before in
+    let b = c .before .before in
     let a = entry b in
     walk-asks (row b) (a .args .words .now) (first b) (work a .enough) (omega (arith, row b .is-end))
 
 loop-holds : tie.Need-loop-holds Inv-loop μ-loop
 loop-holds c =
-    let b = c .before .before in
+    let b = c .before .before .before in
     let a = entry b in
     subst (Come (G a) (a .args .p) (first b) (end b) (a .args .queue .words) (a .args .words .now) (a .args .numbers .now) (a .args .queue .words) (a .args .words .now) (a .args .numbers .now) false) (sym (c .next .ensures))
-    (come-first (row b) (λ i h. b .before .before .before .before .before .before .before .before .before .slice-known .given i .fits) (work a))
+    (come-first (row b) (a .pre .0 .small) (work a))
 
 sub-x : tie.Need-sub-x Inv-loop μ-loop
 sub-x c = c .before .loop .inv .from-first
@@ -238,32 +238,34 @@ renew-requires c κs =
     let b = begun i in
     let a = entry b in
     let l = i .before .loop in
-    let lives = index-lives (row b) (l .inv) (i .loop-test .taken) in
-    (sound a, (a .pre .1 .0, (l .inv .going .working, (in-members a, (index-inside (row b) (l .inv) (i .loop-test .taken), (lives, place-is w))))))
+    let lives = index-lives (row b) (l .inv) (i .loop-test .taken) in (
+      l .inv .going .wide ∙ a .pre .0 .long,
+      (sound a, (a .pre .1 .1 .0, (l .inv .going .working, (in-members a, (index-inside (row b) (l .inv) (i .loop-test .taken), (lives, place-is w)))))),
+    )
 
 requeue-requires : tie.Need-requeue-requires Inv-loop μ-loop
 requeue-requires c κs =
-    let a = entry (begun (c .before .before .before .before .before .before .before .before .before .before .before)) in
+    let a = entry (begun (c .before .before .before .before .before .before .before .before .before)) in
     (sound a .tables .pairs, in-members a)
 
 add-next : tie.Need-add-next Inv-loop μ-loop
 add-next c =
-    let i = turning (renewed (c .before)) in
+    let i = turning (renewed (c .before .before)) in
     let b = begun i in
     let a = entry b in
     omega (arith, i .loop-test .taken, end-total (row b), few-tuples (G a) (sound a))
 
 next-requires-2 : tie.Need-next-requires-2 Inv-loop μ-loop
 next-requires-2 c κs =
-    let n = renewed (c .before) in
+    let n = renewed (c .before .before) in
     let i = turning n in
     let b = begun i in
     let a = entry b in
-    walk-asks (row b) (words-after n) (i .before .loop .g + 1) (turned (c .before) .working .enough) (omega (arith, i .loop-test .taken))
+    walk-asks (row b) (words-after n) (i .before .loop .g + 1) (turned (c .before .before) .working .enough) (omega (arith, i .loop-test .taken))
 
 loop-less : tie.Need-loop-less Inv-loop μ-loop
 loop-less c =
-    let n = renewed (c .before .before) in
+    let n = renewed (c .before .before .before) in
     let i = turning n in
     let b = begun i in
     let a = entry b in
@@ -273,7 +275,7 @@ loop-less c =
 
 loop-again : tie.Need-loop-again Inv-loop μ-loop
 loop-again c =
-    let j = c .before .before in
+    let j = c .before .before .before in
     let n = renewed j in
     let i = turning n in
     let b = begun i in
@@ -283,14 +285,11 @@ loop-again c =
     (come-more (row b) (l .inv) (i .loop-test .taken) (turned j))
 
 same-length : tie.Need-same-length Inv-loop μ-loop
-same-length c = c .before .loop .inv .going .wide
-
-same-length-2 : tie.Need-same-length-2 Inv-loop μ-loop
-same-length-2 c = c .before .loop .inv .going .long
+same-length c = c .before .loop .inv .going .long
 
 returns : tie.Need-returns Inv-loop μ-loop
 returns c =
-    let b = c .before .before .before .before in
+    let b = c .before .before .before .before .before in
     let a = entry b in
     let l = c .before .loop in
     come-end (row b) (l .inv) (c .loop-test .left)
@@ -328,5 +327,4 @@ visit-spec =
     loop-less
     loop-again
     same-length
-    same-length-2
     returns)
