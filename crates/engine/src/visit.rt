@@ -1,7 +1,7 @@
 // A visit of one pair of combination and member: each live tuple of the member gets its first support, or is removed.
 ghost use mathlib.Core.Path.{_≡_};
 ghost use mathlib.Core.Bool.{true};
-ghost use Prim.Native.Nat.{ℕ, _<_};
+ghost use Prim.Native.Nat.{_<_};
 ghost use lib.ListN.{length, getD};
 ghost use Rattle.model.specs.TupleSet.{has};
 ghost use Rattle.narrowing.specs.Marks.{Marks};

@@ -8,7 +8,7 @@
 -- test and compare write nothing; their contracts are the equations `Tested` and `Compared`.
 -- The promises are the records of the model's specs/Promises.antt; `reply` is in its specs/Reply.antt.
 use mathlib.Core.Path.{_≡_, refl, sym, _∙_, ap, subst}
-use mathlib.Core.Bool.{Bool, true, false, cond}
+use mathlib.Core.Bool.{true, false, cond}
 use mathlib.Core.Option.{some}
 use mathlib.Core.List.{List, [], _∷_, map}
 use Prim.Native.Nat.{ℕ, _+_}

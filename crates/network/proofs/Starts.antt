@@ -1,9 +1,8 @@
 -- Laws of the tables of starts: what stands in them, how they are filled, and that bounded records keep them within 16 bits.
 -- From the definitions of `starts` and `Bounded`.
 use mathlib.Core.Path.{_≡_, refl, sym, _∙_, ap}
-use mathlib.Core.Bool.{true}
-use mathlib.Core.List.{List, [], _∷_, map, List·Memᴰ}
-use Prim.Native.Nat.{ℕ, zero, suc, _+_, _-_, _*_, _≤_, _<_}
+use mathlib.Core.List.{List, map, List·Memᴰ}
+use Prim.Native.Nat.{ℕ, zero, suc, _+_, _-_, _≤_, _<_}
 use native.Mathlib.Nat.{zero-add}
 use native.Mathlib.Numerals.{add-one}
 use native.Mathlib.Decide.{decLt}
@@ -12,8 +11,7 @@ use borrow.Author.Count.{below-more}
 use lib.ListN.{length, getD, set, length-set, length-map}
 use lib.Seq.{getD-set-same, getD-set-other, ext-getD}
 use Rattle.model.specs.declared.Relation.{Relation}
-use Rattle.model.specs.Fault.{properWidth}
-use Rattle.model.specs.Lists.{from, sum, all}
+use Rattle.model.specs.Lists.{from}
 use Rattle.model.specs.Network.{Network, size, total, variablesIn, tuplesIn, valuesIn, before, firstId, idsOf, relationOf}
 use Rattle.model.proofs.Lists.{length-from, mem-from, getD-map-from}
 use Rattle.model.proofs.Network.{relationOf-ids, ids-relationOf, index-bounds, before-suc, before-past, before-le}
