@@ -11,9 +11,9 @@ use model::MAX_COMBINATIONS;
 use model::MAX_MEMBERS;
 use model::MAX_RELATIONS;
 use model::MIN_MEMBERS;
-use network::Shape;
+use model::wide;
 use network::faults::within;
-use network::wide;
+use network::Shape;
 use relations::relations_at;
 
 pub mod fields; // a field, a line of fields, and lines
