@@ -12,7 +12,7 @@ use live::next;
 use model::Answer;
 use model::Counts;
 use model::MAX_RELATIONS;
-use model::wide;
+use network::wide;
 
 // The lowest relation that has no live tuple; the number of relations if there is none.
 pub fn lowest_empty(tuple_starts: &[u16; 65], relations: u16, words: &[u64]) -> u16

@@ -16,9 +16,9 @@ use combination::supports_fault;
 use combination::words_fault;
 use model::MAX_RELATIONS;
 use model::VARIABLES;
-use model::wide;
 use network::Shape;
 use network::tables::offsets;
+use network::wide;
 
 // The number of the first fault of the network and its combinations, 2 to 10, or 0.
 fn instance_fault(shape: Shape, variables: &[u16], values: &[u16], m: u16, members: &[u16]) -> u8

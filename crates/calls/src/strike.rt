@@ -14,7 +14,7 @@ ghost use Rattle.calls.specs.Struck.{between, struck};
 ghost use Rattle.calls.specs.Tables.{Tables, columnOf};
 use live::clear;
 use live::next;
-use model::wide;
+use network::wide;
 
 // Every listed id is dead, and every other bit of every word stays.
 pub fn withdraw_ids(words: &mut [u64], ids: &[u16])

@@ -21,9 +21,9 @@ use model::MAX_COMBINATIONS;
 use model::MAX_MEMBERS;
 use model::MAX_SUPPORT_NUMBERS;
 use model::MIN_MEMBERS;
-use model::wide;
 use model::WORD_BITS;
 use network::Shape;
+use network::wide;
 
 // The set of a scope's variables: variable x is bit x.
 fn mask_of(scope: &[u16]) -> u64

@@ -10,7 +10,7 @@ ghost use Rattle.engine.specs.Work.{WordArray, Working, Renewed, Visited
 use live::clear;
 use live::next;
 use model::NO_SUPPORT;
-use model::wide;
+use network::wide;
 use support::first_support;
 use worklist::list::all_live;
 use worklist::list::load;

@@ -1,6 +1,4 @@
 // The types of the interface, and the papers' limits.
-ghost use mathlib.Core.Path.{_≡_};
-ghost use Prim.Native.Nat.{_<_};
 
 // Document 01's numbers. specs/Limits.antt names the same ones; code that used another would not be proved.
 pub const MAX_RELATIONS: usize = 64;
@@ -59,11 +57,4 @@ pub enum Comparison {
     Agree,
     Differ,
     Refused(u8),
-}
-
-// A 16-bit entry as an index.
-pub fn wide(x: u16) -> usize
-    ensures { λ n. ⌜ (n ≡ x) × (n < 65536) ⌝ }
-{
-    x as usize
 }

@@ -13,8 +13,8 @@ ghost use Rattle.network.specs.Layout.{tabled, Laid, starts};
 ghost use Rattle.narrowing.specs.Marks.{stays, rowBit, staysBy, Kept, Marks, Grows, MarksTuple, MarksTuples, Narrows, Agreeing, Dead, Narrowed, Others, Bare};
 use live::next;
 use model::MAX_RELATIONS;
-use model::wide;
 use network::agreement::place_of;
+use network::wide;
 
 // The word whose bit j is 1 where base + j is below the bound.
 fn below(base: usize, bound: usize) -> u64

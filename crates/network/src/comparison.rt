@@ -6,14 +6,14 @@ ghost use Rattle.model.specs.Agreement.{agree};
 ghost use Rattle.model.specs.Reply.{comparisonNumbers, compareReply};
 ghost use Rattle.network.specs.Shape.{networkOf};
 ghost use Rattle.network.specs.Layout.{starts, tabled, Laid};
+use super::Shape;
 use super::agreement::tuples_agree;
 use super::faults::fault;
-use super::Shape;
 use super::tables::offsets;
 use super::tables::relation_of;
+use super::wide;
 use model::Comparison;
 use model::MAX_RELATIONS;
-use model::wide;
 
 // Whether the tuples with ids g and h agree.
 fn ids_agree(

@@ -10,11 +10,11 @@ ghost use Rattle.model.specs.Network.{variablesIn, tuplesIn, valuesIn, scopeOf}
 ghost use Rattle.model.specs.Fault.{properWidth, within, different, properScope, networkFaults, firstFault, refusal};
 ghost use Rattle.network.specs.Shape.{relationsOf, networkOf};
 use super::Shape;
+use super::wide;
 use model::MAX_RELATIONS;
 use model::MAX_TUPLES;
 use model::MAX_WIDTH;
 use model::VARIABLES;
-use model::wide;
 
 // How many variables, tuples and values the records call for.
 pub struct Totals {

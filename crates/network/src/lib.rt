@@ -1,4 +1,6 @@
 // A network's lists: what is wrong with them, where each relation begins in them, and which of its tuples agree.
+ghost use mathlib.Core.Path.{_≡_};
+ghost use Prim.Native.Nat.{_<_};
 
 pub mod faults; // the faults of a network, in checking order
 pub mod tables; // where each relation begins in the lists
@@ -17,4 +19,11 @@ pub struct Offsets {
     pub variables: [u16; 65],
     pub tuples: [u16; 65],
     pub values: [u16; 65],
+}
+
+// A 16-bit entry as an index.
+pub fn wide(x: u16) -> usize
+    ensures { λ n. ⌜ (n ≡ x) × (n < 65536) ⌝ }
+{
+    x as usize
 }

@@ -11,9 +11,9 @@ ghost use Rattle.printing.specs.Appended.{Appended};
 ghost use Rattle.printing.specs.Lines.{lineRoom, part, placeIn, lineIn, textOver, Printable};
 use super::text::tuple_line;
 use live::next;
-use model::wide;
 use network::Shape;
 use network::tables::offsets;
+use network::wide;
 
 // Each live tuple of a relation, whose ids are those from start on and below end, and whose values stand from first on.
 fn relation_lines(

@@ -11,9 +11,9 @@ use model::MAX_COMBINATIONS;
 use model::MAX_MEMBERS;
 use model::MAX_RELATIONS;
 use model::MIN_MEMBERS;
-use model::wide;
-use network::faults::within;
 use network::Shape;
+use network::faults::within;
+use network::wide;
 use relations::relations_at;
 
 pub mod fields; // a field, a line of fields, and lines

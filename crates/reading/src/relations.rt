@@ -10,9 +10,9 @@ use super::fields::line;
 use super::fields::lines;
 use model::MAX_TUPLES;
 use model::MAX_WIDTH;
-use model::wide;
-use network::faults::within;
 use network::Shape;
+use network::faults::within;
+use network::wide;
 
 // A relation's width and how many tuples it has, and the position behind what was read; position 0 where it is not in the form.
 pub struct Record {

@@ -14,9 +14,9 @@ ghost use Rattle.narrowing.specs.Marks.{Marks};
 ghost use Rattle.support.specs.Search.{searching, network, live, idAt, seeker, Ready, chosenIds, Begun, Due, pastOwn, spanAt, fits, Trial, answer};
 use live::is_live;
 use live::next;
-use model::wide;
 use narrowing::narrow_members;
 use network::agreement::tuples_agree;
+use network::wide;
 
 // The indices of a support, one for each member; where there is none, ok is false.
 pub struct Found {

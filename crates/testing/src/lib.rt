@@ -15,10 +15,10 @@ use calls::checks::test_checked;
 use live::copied;
 use live::next;
 use model::Verdict;
-use model::wide;
 use narrowing::mark_all;
 use network::Shape;
 use network::tables::offsets;
+use network::wide;
 use support::first_support;
 
 // Whether tuple `own` of the member at `place` has a support in the combination of these members.

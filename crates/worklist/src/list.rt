@@ -9,8 +9,8 @@ ghost use Rattle.model.specs.Network.{Network};
 ghost use Rattle.model.specs.LiveWords.{isLive};
 ghost use Rattle.model.specs.Consistency.{supportStart};
 ghost use Rattle.worklist.specs.Tables.{Tabled, chosenId, Chosen};
+use super::wide;
 use model::NO_SUPPORT;
-use model::wide;
 
 // The first n numbers are 65,535, and all others stay.
 pub fn fill(numbers: &mut [u16], n: usize)
