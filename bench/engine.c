@@ -3,7 +3,7 @@
 #include "leaves.h"
 #include <string.h>
 
-enum { NO_SUPPORT = 65535, MAX_PAIRS = 1024, WORDS = 64, BUCKETS = 16, MAX_WIDTH = 8 };
+enum { NO_SUPPORT = 65535, MAX_PAIRS = 1024, WORDS = 64, BUCKETS = 17, MAX_WIDTH = 8 };
 
 /* For each column and bucket of values, the ids of the tuples that have such a value there. */
 typedef uint64_t marks[MAX_WIDTH][BUCKETS][WORDS];

@@ -35,7 +35,7 @@ fn settle(
     requires { ⌜ WordArray (now words) × (let G = setting (now variables) (now values) (now «variable_starts») (now «tuple_starts») (now «value_starts») (now members) m in Sound G × ((total (network G) ≤ wordBits * length (now words)) × ((wanted ≡ needed (network G) (listed G)) × (wanted ≤ length (now numbers))))) ⌝ }
     ensures { λ _. ⌜ (let G = setting (now (variables .entry)) (now (values .entry)) (now («variable_starts» .entry)) (now («tuple_starts» .entry)) (now («value_starts» .entry)) (now (members .entry)) m in let L = filtered (network G) (listed G) (liveIn G (now (words .entry))) in (now (words .exit) ≡ written (total (network G)) L (now (words .entry))) × (now (numbers .exit) ≡ supportList (network G) (listed G) L ++ drop (needed (network G) (listed G)) (now (numbers .entry)))) ⌝ }
 {
-    let mut table = [0u64; 8192];
+    let mut table = [0u64; 8704];
     mark_all(
         values,
         variable_starts,

@@ -15,7 +15,7 @@ use borrow.Author.Tests.{lt-ltb, le-ltb, ltb-true, ltb-false, le-leb, lt-leb, le
 use Rattle.model.specs.LiveWords.{isSet, isLive}
 use Rattle.model.proofs.LiveWords.{isLive-at}
 use Rattle.live.proofs.Bits.{isSet-high, isSet-not, isSet-and, isSet-or, isSet-pow, one-shl}
-use Rattle.narrowing.specs.Marks.{bucketOf, marked, stays, rowBit, staysBy, Kept}
+use Rattle.narrowing.specs.Marks.{buckets, bucketOf, marked, stays, rowBit, staysBy, Kept}
 
 -- ---- The ids below a bound
 
@@ -168,10 +168,10 @@ module _ (table : List ℕ) (first : ℕ) where
       let e : 64 * first + (64 * i + j) ≡ 64 * (first + i) + j = omega arith in
       sym (ap (isLive table) e ∙ isLive-at table (first + i) j h)
 
-  row-marked : (c b g : ℕ) → first ≡ (c * 16 + b) * 64 → rowBit table first g ≡ marked table c b g
+  row-marked : (c b g : ℕ) → first ≡ (c * buckets + b) * 64 → rowBit table first g ≡ marked table c b g
   unfolding marked
   row-marked c b g e =
-      let q : 64 * first + g ≡ (c * 16 + b) * 4096 + g = omega arith in
+      let q : 64 * first + g ≡ (c * buckets + b) * 4096 + g = omega arith in
       ap (isLive table) q
 
   module _ (start end : ℕ) where
@@ -200,7 +200,7 @@ module _ (table : List ℕ) (first : ℕ) where
         (λ g l m. sym (ap₂ (λ (x y : Bool). x || (y || rowBit table first g)) (le-ltb g start (omega arith)) (lt-leb end g (omega arith))))
 
     -- words that hold all ids from start on and below end
-    pub kept-stays : (column value i n : ℕ) (a b : List ℕ) → first ≡ (column * 16 + value % 16) * 64 → 64 * i ≤ start → end ≤ 64 * n → Kept (staysBy table first start end) i n a b → (g : ℕ) → isLive b g ≡ (isLive a g && stays table start end column value g)
+    pub kept-stays : (column value i n : ℕ) (a b : List ℕ) → first ≡ (column * buckets + value % buckets) * 64 → 64 * i ≤ start → end ≤ 64 * n → Kept (staysBy table first start end) i n a b → (g : ℕ) → isLive b g ≡ (isLive a g && stays table start end column value g)
     kept-stays column value i n a b e h k f g =
         kept-all (staysBy table first start end) i n a b (λ g l. before-start g (omega arith)) (λ g l. from-end g (omega arith)) f g
         ∙ ap (λ (x : Bool). isLive a g && (ltb g start || (leb end g || x))) (row-marked column (bucketOf value) g e)

@@ -11,13 +11,17 @@ use Rattle.model.specs.Network.{Network, width, size, firstId, valuesAt}
 use Rattle.model.specs.Agreement.{agree}
 use Rattle.model.specs.LiveWords.{isLive}
 
--- the bucket of a value, one of 16
+-- how many buckets of values there are: a prime, so that codes that are multiples of ten or of a power of two are spread over all
+abbrev pub buckets : ℕ
+buckets = 17
+
+-- the bucket of a value
 abbrev pub bucketOf : ℕ → ℕ
-bucketOf v = v % 16
+bucketOf v = v % buckets
 
 -- where the mark of column c, bucket b and id g stands among the table's bits: 64 words for each column and bucket
 abbrev pub markPlace : ℕ → ℕ → ℕ → ℕ
-markPlace c b g = (c * 16 + b) * maxTuples + g
+markPlace c b g = (c * buckets + b) * maxTuples + g
 
 -- the tuple with id g is marked under column c and bucket b
 unfoldable pub marked : List ℕ → ℕ → ℕ → ℕ → Bool

@@ -13,8 +13,13 @@ ghost use Rattle.network.specs.Layout.{tabled, Laid, starts};
 ghost use Rattle.narrowing.specs.Marks.{stays, rowBit, staysBy, Kept, Marks, Grows, MarksTuple, MarksTuples, Narrows, Agreeing, Dead, Narrowed, Others, Bare};
 use live::next;
 use model::MAX_RELATIONS;
+use model::MAX_TUPLES;
 use network::agreement::place_of;
 use network::wide;
+
+// The buckets of values: a prime, so that codes that are multiples of ten or of a power of two are spread over all of them.
+// A table has 64 words for each of 8 columns and each bucket, 8,704 in all.
+const BUCKETS: usize = 17;
 
 // The word whose bit j is 1 where base + j is below the bound.
 fn below(base: usize, bound: usize) -> u64
@@ -33,14 +38,14 @@ fn below(base: usize, bound: usize) -> u64
 // The ids of word i, of those from begin on and below stop, whose bit in the table's words from `first` on is 0, are dead,
 // and every other bit stays.
 fn keep_word(
-    table: &[u64; 8192],
+    table: &[u64; 8704],
     words: &mut [u64; 64],
     first: usize,
     i: usize,
     begin: usize,
     stop: usize,
 )
-    requires { ⌜ (length (now words) ≡ 64) × ((first + 64 ≤ 8192) × (i < 64)) ⌝ }
+    requires { ⌜ (length (now words) ≡ 64) × ((first + 64 ≤ 8704) × (i < 64)) ⌝ }
     ensures { λ _. ⌜ (length (now (words .exit)) ≡ 64) × Kept (staysBy (now (table .entry)) first begin stop) i (i + 1) (now (words .entry)) (now (words .exit)) ⌝ }
 {
     let low = below(i * 64, begin);
@@ -49,8 +54,8 @@ fn keep_word(
 }
 
 // The same for all ids of the words from `from` on and below `to`.
-fn keep_words(table: &[u64; 8192], words: &mut [u64; 64], first: usize, from: usize, to: usize)
-    requires { ⌜ (length (now words) ≡ 64) × ((first + 64 ≤ 8192) × ((from ≤ to) × (to ≤ 64))) ⌝ }
+fn keep_words(table: &[u64; 8704], words: &mut [u64; 64], first: usize, from: usize, to: usize)
+    requires { ⌜ (length (now words) ≡ 64) × ((first + 64 ≤ 8704) × ((from ≤ to) × (to ≤ 64))) ⌝ }
     ensures { λ _. ⌜ (length (now (words .exit)) ≡ 64) × Kept (rowBit (now (table .entry)) first) from to (now (words .entry)) (now (words .exit)) ⌝ }
 {
     let mut i = from;
@@ -63,7 +68,7 @@ fn keep_words(table: &[u64; 8192], words: &mut [u64; 64], first: usize, from: us
 // Of the ids from start on and below end, those not marked under the column and the value's bucket are dead, and every
 // other bit stays.
 pub fn keep(
-    table: &[u64; 8192],
+    table: &[u64; 8704],
     words: &mut [u64; 64],
     start: u16,
     end: u16,
@@ -78,7 +83,7 @@ pub fn keep(
     if stop <= begin {
         return;
     }
-    let first = (wide(column) * 16 + wide(value) % 16) * 64;
+    let first = (wide(column) * BUCKETS + wide(value) % BUCKETS) * 64;
     let i = begin / 64;
     let last = (stop - 1) / 64;
     keep_word(table, words, first, i, begin, stop);
@@ -89,23 +94,23 @@ pub fn keep(
 }
 
 // The bit at place p of the table is 1, and every other bit stays.
-fn mark(table: &mut [u64; 8192], p: usize)
-    requires { ⌜ (length (now table) ≡ 8192) × (p < 524288) ⌝ }
-    ensures { λ _. ⌜ (length (now (table .exit)) ≡ 8192) × ((h : ℕ) → isLive (now (table .exit)) h ≡ (isLive (now (table .entry)) h || eqb p h)) ⌝ }
+fn mark(table: &mut [u64; 8704], p: usize)
+    requires { ⌜ (length (now table) ≡ 8704) × (p < 557056) ⌝ }
+    ensures { λ _. ⌜ (length (now (table .exit)) ≡ 8704) × ((h : ℕ) → isLive (now (table .exit)) h ≡ (isLive (now (table .entry)) h || eqb p h)) ⌝ }
 {
     table[p / 64] = table[p / 64] | (1u64 << (p % 64));
 }
 
 // The tuple with id g, whose values begin at `at`, is marked under each of its columns, and no mark is lost.
-fn mark_tuple(values: &[u16], at: usize, width: usize, g: u16, table: &mut [u64; 8192])
-    requires { ⌜ (length (now table) ≡ 8192) × ((at + width ≤ length (now values)) × ((width ≤ maxWidth) × (g < maxTuples))) ⌝ }
-    ensures { λ _. ⌜ (length (now (table .exit)) ≡ 8192) × (Grows (now (table .entry)) (now (table .exit)) × MarksTuple (now (values .entry)) at width g (now (table .exit))) ⌝ }
+fn mark_tuple(values: &[u16], at: usize, width: usize, g: u16, table: &mut [u64; 8704])
+    requires { ⌜ (length (now table) ≡ 8704) × ((at + width ≤ length (now values)) × ((width ≤ maxWidth) × (g < maxTuples))) ⌝ }
+    ensures { λ _. ⌜ (length (now (table .exit)) ≡ 8704) × (Grows (now (table .entry)) (now (table .exit)) × MarksTuple (now (values .entry)) at width g (now (table .exit))) ⌝ }
 {
     let id = wide(g);
     let mut c = 0;
     while c < width {
-        let bucket = wide(values[at + c]) % 16;
-        mark(table, (c * 16 + bucket) * 4096 + id);
+        let bucket = wide(values[at + c]) % BUCKETS;
+        mark(table, (c * BUCKETS + bucket) * MAX_TUPLES + id);
         c += 1;
     }
 }
@@ -117,10 +122,10 @@ fn mark_tuples(
     width: usize,
     start: u16,
     end: u16,
-    table: &mut [u64; 8192],
+    table: &mut [u64; 8704],
 )
-    requires { ⌜ (length (now table) ≡ 8192) × ((start ≤ end) × ((end ≤ maxTuples) × ((width ≤ maxWidth) × (at + (end - start) * width ≤ length (now values))))) ⌝ }
-    ensures { λ _. ⌜ (length (now (table .exit)) ≡ 8192) × (Grows (now (table .entry)) (now (table .exit)) × MarksTuples (now (values .entry)) at width start end (now (table .exit))) ⌝ }
+    requires { ⌜ (length (now table) ≡ 8704) × ((start ≤ end) × ((end ≤ maxTuples) × ((width ≤ maxWidth) × (at + (end - start) * width ≤ length (now values))))) ⌝ }
+    ensures { λ _. ⌜ (length (now (table .exit)) ≡ 8704) × (Grows (now (table .entry)) (now (table .exit)) × MarksTuples (now (values .entry)) at width start end (now (table .exit))) ⌝ }
 {
     let mut g = start;
     let mut p = at;
@@ -137,10 +142,10 @@ pub fn mark_all(
     variable_starts: &[u16; 65],
     tuple_starts: &[u16; 65],
     value_starts: &[u16; 65],
-    table: &mut [u64; 8192],
+    table: &mut [u64; 8704],
 )
-    requires { ⌜ (length (now table) ≡ 8192) × ((variables : List ℕ) × (let N = tabled variables (now values) (now «variable_starts») (now «value_starts») in Laid N (now «variable_starts») (now «value_starts») × (now «tuple_starts» ≡ starts tuplesIn (N .relations)))) ⌝ }
-    ensures { λ _. ⌜ (length (now (table .exit)) ≡ 8192) × ((variables : List ℕ) → Marks (tabled variables (now (values .entry)) (now («variable_starts» .entry)) (now («value_starts» .entry))) (now (table .exit))) ⌝ }
+    requires { ⌜ (length (now table) ≡ 8704) × ((variables : List ℕ) × (let N = tabled variables (now values) (now «variable_starts») (now «value_starts») in Laid N (now «variable_starts») (now «value_starts») × (now «tuple_starts» ≡ starts tuplesIn (N .relations)))) ⌝ }
+    ensures { λ _. ⌜ (length (now (table .exit)) ≡ 8704) × ((variables : List ℕ) → Marks (tabled variables (now (values .entry)) (now («variable_starts» .entry)) (now («value_starts» .entry))) (now (table .exit))) ⌝ }
 {
     let mut r = 0;
     while r < MAX_RELATIONS {
@@ -177,7 +182,7 @@ fn narrow_column(
     scope_a: &[u16],
     a: &[u16],
     v: u16,
-    table: &[u64; 8192],
+    table: &[u64; 8704],
     words: &mut [u64; 64],
     start: u16,
     end: u16,
@@ -198,7 +203,7 @@ fn narrow_columns(
     scope_a: &[u16],
     a: &[u16],
     scope_b: &[u16],
-    table: &[u64; 8192],
+    table: &[u64; 8704],
     words: &mut [u64; 64],
     start: u16,
     end: u16,
@@ -221,7 +226,7 @@ pub fn narrow(
     variable_starts: &[u16; 65],
     tuple_starts: &[u16; 65],
     value_starts: &[u16; 65],
-    table: &[u64; 8192],
+    table: &[u64; 8704],
     words: &mut [u64; 64],
     r: u16,
     x: u16,
@@ -257,7 +262,7 @@ fn narrow_member(
     variable_starts: &[u16; 65],
     tuple_starts: &[u16; 65],
     value_starts: &[u16; 65],
-    table: &[u64; 8192],
+    table: &[u64; 8704],
     words: &mut [u64; 64],
     r: u16,
     x: u16,
@@ -291,7 +296,7 @@ pub fn narrow_members(
     variable_starts: &[u16; 65],
     tuple_starts: &[u16; 65],
     value_starts: &[u16; 65],
-    table: &[u64; 8192],
+    table: &[u64; 8704],
     words: &mut [u64; 64],
     members: &[u16],
     place: usize,

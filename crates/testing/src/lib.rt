@@ -28,7 +28,7 @@ fn has_support(
     variable_starts: &[u16; 65],
     tuple_starts: &[u16; 65],
     value_starts: &[u16; 65],
-    table: &[u64; 8192],
+    table: &[u64; 8704],
     words: &[u64; 64],
     members: &[u16],
     place: usize,
@@ -62,7 +62,7 @@ fn pair_supported(
     variable_starts: &[u16; 65],
     tuple_starts: &[u16; 65],
     value_starts: &[u16; 65],
-    table: &[u64; 8192],
+    table: &[u64; 8704],
     words: &[u64; 64],
     members: &[u16],
     m: usize,
@@ -111,7 +111,7 @@ fn all_supported(
     requires { ⌜ Sound (setting (now variables) (now values) (now «variable_starts») (now «tuple_starts») (now «value_starts») (now words) (now members) m) ⌝ }
     ensures { λ b. ⌜ (let G = setting (now (variables .entry)) (now (values .entry)) (now («variable_starts» .entry)) (now («tuple_starts» .entry)) (now («value_starts» .entry)) (now (words .entry)) (now (members .entry)) m in b ≡ isConsistent (network G) (listed G) (live G)) ⌝ }
 {
-    let mut table = [0u64; 8192];
+    let mut table = [0u64; 8704];
     mark_all(
         values,
         variable_starts,

@@ -7,7 +7,7 @@ use Prim.Native.Nat.{ℕ, _+_, _-_, _*_, _/_, _%_, _≤_, _<_}
 use native.Mathlib.Omega.{arith}
 use borrow.Author.Needs.{needs}
 use Rattle.model.specs.LiveWords.{isLive}
-use Rattle.narrowing.specs.Marks.{stays, staysBy, Kept}
+use Rattle.narrowing.specs.Marks.{buckets, stays, staysBy, Kept}
 use Rattle.narrowing.proofs.Words.{kept-on, kept-inner, kept-stays, stays-none}
 use Rattle.narrowing.proofs.keep.Statement.{statement}
 use Rattle.narrowing.proofs.keep.Tie as tie
@@ -23,7 +23,7 @@ module _ (w : tie.After-wide4) where
   stop = w .before .before .before .wide2 .result
 
   abbrev first : ℕ
-  first = (w .before .wide3 .result * 16 + w .wide4 .result % 16) * 64
+  first = (w .before .wide3 .result * buckets + w .wide4 .result % buckets) * 64
 
   -- there are ids to narrow
   some : begin < stop
@@ -34,7 +34,7 @@ module _ (w : tie.After-wide4) where
   done n after h f g =
       let a = start .args in
       let l : 64 * (begin / 64) ≤ begin = omega arith in
-      kept-stays (a .table .now) first begin stop (a .column) (a .value) (begin / 64) n (a .words .now) after (ap₂ (λ (x y : ℕ). (x * 16 + y % 16) * 64) (w .before .wide3 .ensures .0) (w .wide4 .ensures .0)) l h f g
+      kept-stays (a .table .now) first begin stop (a .column) (a .value) (begin / 64) n (a .words .now) after (ap₂ (λ (x y : ℕ). (x * buckets + y % buckets) * 64) (w .before .wide3 .ensures .0) (w .wide4 .ensures .0)) l h f g
       ∙ ap₂ (λ (x y : ℕ). isLive (a .words .now) g && stays (a .table .now) x y (a .column) (a .value) g) (w .before .before .before .before .wide .ensures .0) (w .before .before .before .wide2 .ensures .0)
 
 wide-requires : tie.Need-wide-requires

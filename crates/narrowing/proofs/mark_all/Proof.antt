@@ -15,7 +15,7 @@ use Rattle.narrowing.proofs.mark_all.Tie as tie
 
 abbrev Inv-loop : tie.InvT-loop
 Inv-loop values variable-starts tuple-starts value-starts table₀ r₀ table r =
-    (r ≤ 64) × ((length table ≡ 8192) × MarksBelow (tabled [] values variable-starts value-starts) r table)
+    (r ≤ 64) × ((length table ≡ 8704) × MarksBelow (tabled [] values variable-starts value-starts) r table)
 
 abbrev μ-loop : tie.MeasureT-loop
 μ-loop values variable-starts tuple-starts value-starts table₀ r₀ table r = 64 - r

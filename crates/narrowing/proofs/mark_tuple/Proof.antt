@@ -5,14 +5,14 @@ use Prim.Native.Nat.{ℕ, _+_, _-_, _*_, _%_, _≤_}
 use native.Mathlib.Omega.{arith}
 use lib.ListN.{length}
 use borrow.Author.Needs.{needs}
-use Rattle.narrowing.specs.Marks.{Grows, MarksTuple}
+use Rattle.narrowing.specs.Marks.{buckets, Grows, MarksTuple}
 use Rattle.narrowing.proofs.Marking.{grows-one, grows-on, tuple-more}
 use Rattle.narrowing.proofs.mark_tuple.Statement.{statement}
 use Rattle.narrowing.proofs.mark_tuple.Tie as tie
 
 abbrev Inv-loop : tie.InvT-loop
 Inv-loop values at width g table₀ id c₀ table c =
-    (c ≤ width) × ((id ≡ g) × ((length table ≡ 8192) × (Grows table₀ table × MarksTuple values at c g table)))
+    (c ≤ width) × ((id ≡ g) × ((length table ≡ 8704) × (Grows table₀ table × MarksTuple values at c g table)))
 
 abbrev μ-loop : tie.MeasureT-loop
 μ-loop values at width g table₀ id c₀ table c = width - c
@@ -74,7 +74,7 @@ loop-again c =
           (
             grows-on (a .table .now) (l .table) new (l .inv .1 .1 .1 .0) (grows-one (l .table) new _ f),
             tuple-more (a .values .now) (a .at) (l .c) (a .g) (l .table) new _
-                (ap₂ (λ (v i : ℕ). (l .c * 16 + v % 16) * 4096 + i) (c .before .before .wide2 .ensures .0) (l .inv .1 .0))
+                (ap₂ (λ (v i : ℕ). (l .c * buckets + v % buckets) * 4096 + i) (c .before .before .wide2 .ensures .0) (l .inv .1 .0))
                 f
                 (l .inv .1 .1 .1 .1),
           ),

@@ -15,7 +15,7 @@ Inv-loop values at width start end table₀ g₀ p₀ table g p =
     (start ≤ g)
     × ((g ≤ end)
     × ((p ≡ at + (g - start) * width)
-    × ((length table ≡ 8192) × (Grows table₀ table × MarksTuples values at width start g table))))
+    × ((length table ≡ 8704) × (Grows table₀ table × MarksTuples values at width start g table))))
 
 abbrev μ-loop : tie.MeasureT-loop
 μ-loop values at width start end table₀ g₀ p₀ table g p = end - g
