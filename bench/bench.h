@@ -17,8 +17,9 @@ uint16_t bench_next(const uint64_t *, size_t, uint16_t, uint16_t);
 uint16_t bench_count(const uint64_t *, size_t, uint16_t, uint16_t);
 void bench_filter(const uint16_t *, size_t, const uint16_t *, size_t, const uint16_t *, const uint16_t *, const uint16_t *, const uint16_t *, size_t, uint16_t, size_t, uint64_t *, size_t, uint16_t *, size_t);
 void c_filter(const network *, uint64_t *, uint16_t *);
-/* m neighbours to a combination; so many relations, tuples in each, and different values; a combination at every step-th relation. */
-void draw_network(network *, size_t m, size_t relations, size_t tuples, unsigned values, size_t step);
+/* m neighbours to a combination; so many relations, tuples in each, and different values, multiples of a factor; a combination at every
+ * step-th relation. */
+void draw_network(network *, size_t m, size_t relations, size_t tuples, unsigned values, unsigned factor, size_t step);
 bool c_agree(const uint16_t *, size_t, const uint16_t *, size_t, const uint16_t *, size_t, const uint16_t *, size_t);
 uint16_t c_next(const uint64_t *, size_t, uint16_t, uint16_t);
 uint16_t c_count(const uint64_t *, size_t, uint16_t, uint16_t);

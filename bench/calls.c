@@ -23,7 +23,7 @@ static void all_living(void) {
 }
 
 static void draw_lists(size_t m, size_t relations, size_t tuples, unsigned values, size_t step) {
-    draw_network(&n, m, relations, tuples, values, step);
+    draw_network(&n, m, relations, tuples, values, 1, step);
     for (size_t r = 0; r < relations; r++) records[2 * r] = 3, records[2 * r + 1] = (uint16_t)tuples;
 }
 

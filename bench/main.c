@@ -103,10 +103,10 @@ static unsigned left(const uint64_t *ws) {
 
 static FILE *times;
 
-/* Filters one network both ways, from all tuples live. */
-static void filters(const char *kind, size_t m, size_t relations, size_t tuples, unsigned values, size_t step) {
+/* Filters one network both ways, from all tuples live. Networks of a kind are written to the file. */
+static void filters(const char *kind, size_t m, size_t relations, size_t tuples, unsigned values, unsigned factor, size_t step) {
     double best_r = 1e9, best_c = 1e9;
-    draw_network(&n, m, relations, tuples, values, step);
+    draw_network(&n, m, relations, tuples, values, factor, step);
     for (int k = 0; k < 15; k++) {
         memset(live_r, 0, sizeof live_r);
         for (size_t g = 0; g < relations * tuples; g++) live_r[g / 64] |= 1ull << (g % 64);
@@ -118,10 +118,23 @@ static void filters(const char *kind, size_t m, size_t relations, size_t tuples,
         best_r = least(best_r, u - t);
         best_c = least(best_c, now() - u);
     }
-    if (times) fprintf(times, "%s %zu %zu %zu %u %zu %u %.9f %.9f\n", kind, m, relations, tuples, values, step, left(live_r), best_r, best_c);
+    if (times && kind) fprintf(times, "%s %zu %zu %zu %u %zu %u %.9f %.9f\n", kind, m, relations, tuples, values, step, left(live_r), best_r, best_c);
     char what[64];
     snprintf(what, sizeof what, "m = %zu, %4zu tuples, %4u left", m, relations * tuples, left(live_r));
     report(what, best_r, best_c, !memcmp(live_r, live_c, sizeof live_r) && !memcmp(numbers_r, numbers_c, n.needed * sizeof *numbers_r));
+}
+
+static void networks(const char *kind, unsigned factor) {
+    filters(kind, 2, 8, 75, 6, factor, 1);
+    filters(kind, 2, 16, 256, 9, factor, 1);
+    filters(kind, 2, 16, 256, 18, factor, 1);
+    filters(kind, 2, 16, 250, 60, factor, 1);
+    filters(kind, 3, 8, 150, 6, factor, 1);
+    filters(kind, 3, 12, 200, 12, factor, 1);
+    filters(kind, 3, 8, 200, 30, factor, 1);
+    filters(kind, 4, 6, 150, 5, factor, 1);
+    filters(kind, 4, 8, 200, 9, factor, 1);
+    filters(kind, 4, 8, 200, 25, factor, 1);
 }
 
 int main(int argc, char **argv) {
@@ -130,19 +143,14 @@ int main(int argc, char **argv) {
     times = argc > 1 ? fopen(argv[1], "w") : NULL;
     printf("%-34s %12s %12s   ratio\n", "", "Rattle", "C -O2");
     leaves();
-    filters("network", 2, 8, 75, 6, 1);
-    filters("network", 2, 16, 256, 9, 1);
-    filters("network", 2, 16, 256, 18, 1);
-    filters("network", 2, 16, 250, 60, 1);
-    filters("network", 3, 8, 150, 6, 1);
-    filters("network", 3, 12, 200, 12, 1);
-    filters("network", 3, 8, 200, 30, 1);
-    filters("network", 4, 6, 150, 5, 1);
-    filters("network", 4, 8, 200, 9, 1);
-    filters("network", 4, 8, 200, 25, 1);
+    networks("network", 1);
+    puts("codes times 100:");
+    networks(NULL, 100);
+    puts("codes times 256:");
+    networks(NULL, 256);
     puts("growth:");
     for (size_t m = 2; m <= 4; m++)
-        for (size_t k = 0; k < sizeof sizes / sizeof *sizes; k++) filters("growth", m, 16, sizes[k], 4, steps[m - 2]);
+        for (size_t k = 0; k < sizeof sizes / sizeof *sizes; k++) filters("growth", m, 16, sizes[k], 4, 1, steps[m - 2]);
     if (times) fclose(times);
     return failures != 0;
 }

@@ -10,12 +10,12 @@ static unsigned draw(unsigned below) {
 
 enum { WIDTH = 3 };
 
-void draw_network(network *n, size_t m, size_t relations, size_t tuples, unsigned values, size_t step) {
+void draw_network(network *n, size_t m, size_t relations, size_t tuples, unsigned values, unsigned factor, size_t step) {
     seed = 7 + m * 1000 + relations * 10 + values;
     *n = (network){.m = m, .relations = relations};
     for (size_t r = 0; r < relations; r++) {
         for (size_t j = 0; j < WIDTH; j++) n->variables[n->variable_count++] = (uint16_t)((r + (j + r) % WIDTH) % 64);
-        for (size_t i = 0; i < tuples * WIDTH; i++) n->values[n->value_count++] = (uint16_t)draw(values);
+        for (size_t i = 0; i < tuples * WIDTH; i++) n->values[n->value_count++] = (uint16_t)(draw(values) * factor);
     }
     for (size_t r = 0; r < 65; r++) {
         size_t k = r < relations ? r : relations;
