@@ -19,7 +19,7 @@ use Rattle.model.proofs.LiveWords.{nextLive-first}
 use Rattle.model.proofs.Agreement.{cellAt, cellsOf-at, agreeing-clash, clash-different-value}
 use Rattle.network.specs.Layout.{Laid}
 use Rattle.narrowing.specs.Marks.{bucketOf, marked, Marks, stays, Narrows, Agreeing, Dead, Narrowed}
-use Rattle.narrowing.proofs.Words.{stays-low, stays-high}
+use Rattle.narrowing.proofs.Words.{stays-before, stays-behind}
 use Rattle.narrowing.proofs.Tables.{scope-length, values-length}
 
 module _ (accepts : List ℕ → Bool) (columns : ℕ) (table : List ℕ) (start end : ℕ) where
@@ -35,11 +35,11 @@ module _ (accepts : List ℕ → Bool) (columns : ℕ) (table : List ℕ) (start
       }
 
   -- a column in which accepted values have value v
-  pub narrows-keep : (column v : ℕ) (before after : List ℕ) → column < columns → ((b : List ℕ) → columns ≡ length b → accepts b ≡ true → getD b column 0 ≡ v) → ((g : ℕ) → isLive after g ≡ (isLive before g && stays table start end column v g)) → Narrows accepts columns table start end before after
+  pub narrows-keep : (column v : ℕ) (before after : List ℕ) → column < columns → ((b : List ℕ) → columns ≡ length b → accepts b ≡ true → getD b column 0 ≡ v) → ((g : ℕ) → isLive after g ≡ (isLive before g && stays (marked table column (bucketOf v)) start end g)) → Narrows accepts columns table start end before after
   narrows-keep column v before after h told kept =
       record {
-        inside = λ g e. and-left (isLive before g) (stays table start end column v g) (sym (kept g) ∙ e);
-        outside = λ g o. kept g ∙ ap (λ (x : Bool). isLive before g && x) (⊎-elim (stays-low table start end column v g) (stays-high table start end column v g) o) ∙ and-true (isLive before g);
+        inside = λ g e. and-left (isLive before g) (stays (marked table column (bucketOf v)) start end g) (sym (kept g) ∙ e);
+        outside = λ g o. kept g ∙ ap (λ (x : Bool). isLive before g && x) (⊎-elim (stays-before (marked table column (bucketOf v)) start end g) (stays-behind (marked table column (bucketOf v)) start end g) o) ∙ and-true (isLive before g);
         keeps = λ g b l m a e. kept g ∙ and-intro e (or-right (ltb g start) (or-right (leb end g) (subst (λ (x : ℕ). marked table column (bucketOf x) g ≡ true) (told b l a) (m column h))));
       }
 

@@ -1,5 +1,5 @@
--- Laws of a network's tables at every number below 64, a relation or not: what begins and ends there, and its bounds.
--- Laws of a relation's parts of the lists: how long its scope and its tuples are, and where their values stand.
+-- Laws of a network's tables at every number below 64, a relation or not: what begins and ends there, and its bounds; and of a
+-- relation's parts of the lists: how long its scope and its tuples are, and where their values stand.
 -- From the definition of `Laid`, and what a network without network faults has.
 use mathlib.Core.Path.{_≡_, refl, sym, _∙_, ap, ap₂}
 use mathlib.Core.List.{List}

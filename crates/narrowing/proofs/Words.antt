@@ -15,7 +15,7 @@ use borrow.Author.Tests.{lt-ltb, le-ltb, ltb-true, ltb-false, le-leb, lt-leb, le
 use Rattle.model.specs.LiveWords.{isSet, isLive}
 use Rattle.model.proofs.LiveWords.{isLive-at}
 use Rattle.live.proofs.Bits.{isSet-high, isSet-not, isSet-and, isSet-or, isSet-pow, one-shl}
-use Rattle.narrowing.specs.Marks.{buckets, bucketOf, marked, stays, rowBit, staysBy, Kept}
+use Rattle.narrowing.specs.Marks.{buckets, bucketOf, marked, stays, rowBit, Kept}
 
 -- ---- The ids below a bound
 
@@ -80,25 +80,27 @@ marked-one ws p h inside = rw (one-shl (p % 64) (omega arith)) (go (ℕ-discrete
 
 -- ---- Words narrowed
 
+-- an id outside those that are narrowed stays
+module _ (passes : ℕ → Bool) (start end g : ℕ) where
+  pub stays-before : g < start → stays passes start end g ≡ true
+  stays-before h = ap (λ (x : Bool). x || (leb end g || passes g)) (lt-ltb g start h)
+
+  pub stays-behind : end ≤ g → stays passes start end g ≡ true
+  stays-behind h = ap (λ (x : Bool). ltb g start || (x || passes g)) (le-leb end g h) ∙ or-true (ltb g start)
+
+  -- .. and so do all where there are none to narrow
+  pub stays-none : end ≤ start → (b : Bool) → b ≡ (b && stays passes start end g)
+  stays-none h b = sym (ap (λ (x : Bool). b && x) (go (decLt g start)) ∙ and-true b)
+    where
+      go : Dec (g < start) → stays passes start end g ≡ true
+      go (yes l) = stays-before l
+      go (no l) = stays-behind (omega arith)
+
 -- by any test of ids
 module _ (passes : ℕ → Bool) where
-  -- what stays of id g when the words from i on and below n are narrowed
-  abbrev left : ℕ → ℕ → ℕ → Bool
-  left i n g = ltb g (64 * i) || (leb (64 * n) g || passes g)
-
-  left-before : (i n g : ℕ) → g < 64 * i → left i n g ≡ true
-  left-before i n g h = ap (λ (x : Bool). x || (leb (64 * n) g || passes g)) (lt-ltb g (64 * i) h)
-
-  left-behind : (i n g : ℕ) → 64 * n ≤ g → left i n g ≡ true
-  left-behind i n g h = ap (λ (x : Bool). ltb g (64 * i) || (x || passes g)) (le-leb (64 * n) g h) ∙ or-true (ltb g (64 * i))
-
   -- no word
   pub kept-none : (i : ℕ) (ws : List ℕ) → Kept passes i i ws ws
-  kept-none i ws g = sym (ap (λ (x : Bool). isLive ws g && x) (go (decLt g (64 * i))) ∙ and-true (isLive ws g))
-    where
-      go : Dec (g < 64 * i) → left i i g ≡ true
-      go (yes h) = left-before i i g h
-      go (no h) = left-behind i i g (omega arith)
+  kept-none i ws g = stays-none passes (64 * i) (64 * i) g (omega arith) (isLive ws g)
 
   -- one word
   pub kept-word : (i x : ℕ) (ws : List ℕ) → i < length ws → ((j : ℕ) → j < 64 → isSet x j ≡ passes (64 * i + j)) → Kept passes i (i + 1) ws (set ws i (bitAnd (getD ws i 0) x))
@@ -107,11 +109,11 @@ module _ (passes : ℕ → Bool) where
       new : ℕ
       new = bitAnd (getD ws i 0) x
 
-      outside : (g / 64 ≡ i → ⊥) → Dec (g < 64 * i) → left i (i + 1) g ≡ true
-      outside d (yes h) = left-before i (i + 1) g h
-      outside d (no h) = left-behind i (i + 1) g (omega arith)
+      outside : (g / 64 ≡ i → ⊥) → Dec (g < 64 * i) → stays passes (64 * i) (64 * (i + 1)) g ≡ true
+      outside d (yes h) = stays-before passes (64 * i) (64 * (i + 1)) g h
+      outside d (no h) = stays-behind passes (64 * i) (64 * (i + 1)) g (omega arith)
 
-      go : Dec (g / 64 ≡ i) → isLive (set ws i new) g ≡ (isLive ws g && left i (i + 1) g)
+      go : Dec (g / 64 ≡ i) → isLive (set ws i new) g ≡ (isLive ws g && stays passes (64 * i) (64 * (i + 1)) g)
       go (yes e) =
           let j = g % 64 in
           let q : g ≡ 64 * i + j = omega arith in
@@ -130,15 +132,15 @@ module _ (passes : ℕ → Bool) where
   pub kept-on : (i m n : ℕ) (a b c : List ℕ) → i ≤ m → m ≤ n → Kept passes i m a b → Kept passes m n b c → Kept passes i n a c
   kept-on i m n a b c h k f s g = s g ∙ go (decLt g (64 * m))
     where
-      go : Dec (g < 64 * m) → (isLive b g && left m n g) ≡ (isLive a g && left i n g)
+      go : Dec (g < 64 * m) → (isLive b g && stays passes (64 * m) (64 * n) g) ≡ (isLive a g && stays passes (64 * i) (64 * n) g)
       go (yes l) =
-          ap (λ (x : Bool). isLive b g && x) (left-before m n g l)
+          ap (λ (x : Bool). isLive b g && x) (stays-before passes (64 * m) (64 * n) g l)
           ∙ and-true (isLive b g)
           ∙ f g
           ∙ ap (λ (x : Bool). isLive a g && (ltb g (64 * i) || (x || passes g))) (lt-leb (64 * m) g l ∙ sym (lt-leb (64 * n) g (omega arith)))
       go (no l) =
           ap₂ (λ (x y : Bool). x && (y || (leb (64 * n) g || passes g)))
-          (f g ∙ ap (λ (x : Bool). isLive a g && x) (left-behind i m g (omega arith)) ∙ and-true (isLive a g))
+          (f g ∙ ap (λ (x : Bool). isLive a g && x) (stays-behind passes (64 * i) (64 * m) g (omega arith)) ∙ and-true (isLive a g))
           (le-ltb g (64 * m) (omega arith) ∙ sym (le-ltb g (64 * i) (omega arith)))
 
   -- by another test that says the same of their ids
@@ -175,14 +177,8 @@ module _ (table : List ℕ) (first : ℕ) where
       ap (isLive table) q
 
   module _ (start end : ℕ) where
-    before-start : (g : ℕ) → g < start → staysBy table first start end g ≡ true
-    before-start g h = ap (λ (x : Bool). x || (leb end g || rowBit table first g)) (lt-ltb g start h)
-
-    from-end : (g : ℕ) → end ≤ g → staysBy table first start end g ≡ true
-    from-end g h = ap (λ (x : Bool). ltb g start || (x || rowBit table first g)) (le-leb end g h) ∙ or-true (ltb g start)
-
     -- the bits of the word that word i is narrowed by
-    pub stays-at : (i low high j : ℕ) → ((k : ℕ) → k < 64 → isSet low k ≡ ltb (i * 64 + k) start) → high < 2 ^ 64 → ((k : ℕ) → k < 64 → isSet high k ≡ ltb (i * 64 + k) end) → j < 64 → isSet (bitOr low (bitOr (2 ^ 64 - 1 - high) (getD table (first + i) 0))) j ≡ staysBy table first start end (64 * i + j)
+    pub stays-at : (i low high j : ℕ) → ((k : ℕ) → k < 64 → isSet low k ≡ ltb (i * 64 + k) start) → high < 2 ^ 64 → ((k : ℕ) → k < 64 → isSet high k ≡ ltb (i * 64 + k) end) → j < 64 → isSet (bitOr low (bitOr (2 ^ 64 - 1 - high) (getD table (first + i) 0))) j ≡ stays (rowBit table first) start end (64 * i + j)
     stays-at i low high j lows fits highs h =
         let c : i * 64 + j ≡ 64 * i + j = omega arith in
         let m = getD table (first + i) 0 in
@@ -194,29 +190,13 @@ module _ (table : List ℕ) (first : ℕ) where
         (row-at i j h))
 
     -- words whose ids all lie from start on and below end
-    pub kept-inner : (i n : ℕ) (a b : List ℕ) → start ≤ 64 * i → 64 * n ≤ end → Kept (rowBit table first) i n a b → Kept (staysBy table first start end) i n a b
+    pub kept-inner : (i n : ℕ) (a b : List ℕ) → start ≤ 64 * i → 64 * n ≤ end → Kept (rowBit table first) i n a b → Kept (stays (rowBit table first) start end) i n a b
     kept-inner i n a b h k =
-        kept-same (rowBit table first) (staysBy table first start end) i n a b
+        kept-same (rowBit table first) (stays (rowBit table first) start end) i n a b
         (λ g l m. sym (ap₂ (λ (x y : Bool). x || (y || rowBit table first g)) (le-ltb g start (omega arith)) (lt-leb end g (omega arith))))
 
     -- words that hold all ids from start on and below end
-    pub kept-stays : (column value i n : ℕ) (a b : List ℕ) → first ≡ (column * buckets + value % buckets) * 64 → 64 * i ≤ start → end ≤ 64 * n → Kept (staysBy table first start end) i n a b → (g : ℕ) → isLive b g ≡ (isLive a g && stays table start end column value g)
+    pub kept-stays : (column value i n : ℕ) (a b : List ℕ) → first ≡ (column * buckets + value % buckets) * 64 → 64 * i ≤ start → end ≤ 64 * n → Kept (stays (rowBit table first) start end) i n a b → (g : ℕ) → isLive b g ≡ (isLive a g && stays (marked table column (bucketOf value)) start end g)
     kept-stays column value i n a b e h k f g =
-        kept-all (staysBy table first start end) i n a b (λ g l. before-start g (omega arith)) (λ g l. from-end g (omega arith)) f g
+        kept-all (stays (rowBit table first) start end) i n a b (λ g l. stays-before (rowBit table first) start end g (omega arith)) (λ g l. stays-behind (rowBit table first) start end g (omega arith)) f g
         ∙ ap (λ (x : Bool). isLive a g && (ltb g start || (leb end g || x))) (row-marked column (bucketOf value) g e)
-
--- an id outside those that are narrowed stays
-module _ (table : List ℕ) (start end column value g : ℕ) where
-  pub stays-low : g < start → stays table start end column value g ≡ true
-  stays-low l = ap (λ (x : Bool). x || (leb end g || marked table column (bucketOf value) g)) (lt-ltb g start l)
-
-  pub stays-high : end ≤ g → stays table start end column value g ≡ true
-  stays-high l = ap (λ (x : Bool). ltb g start || (x || marked table column (bucketOf value) g)) (le-leb end g l) ∙ or-true (ltb g start)
-
-  -- .. and so do all where there are none to narrow
-  pub stays-none : end ≤ start → (b : Bool) → b ≡ (b && stays table start end column value g)
-  stays-none h b = sym (ap (λ (x : Bool). b && x) (go (decLt g start)) ∙ and-true b)
-    where
-      go : Dec (g < start) → stays table start end column value g ≡ true
-      go (yes l) = stays-low l
-      go (no l) = stays-high (omega arith)

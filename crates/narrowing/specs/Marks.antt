@@ -11,7 +11,7 @@ use Rattle.model.specs.Network.{Network, width, size, firstId, valuesAt}
 use Rattle.model.specs.Agreement.{agree}
 use Rattle.model.specs.LiveWords.{isLive}
 
--- how many buckets of values there are: a prime, so that codes that are multiples of ten or of a power of two are spread over all
+-- how many buckets of values there are: a prime, so that codes that are multiples of ten or of a power of two spread over all
 abbrev pub buckets : ℕ
 buckets = 17
 
@@ -44,24 +44,20 @@ abbrev pub MarksTuples : List ℕ → ℕ → ℕ → ℕ → ℕ → List ℕ �
 MarksTuples values at columns start end table =
     (g : ℕ) → start ≤ g → g < end → MarksTuple values (at + (g - start) * columns) columns g table
 
--- id g stays when the ids from start on and below end are narrowed to those marked under the column and the value's bucket
-abbrev pub stays : List ℕ → ℕ → ℕ → ℕ → ℕ → ℕ → Bool
-stays table start end column value g = ltb g start || (leb end g || marked table column (bucketOf value) g)
-
 -- ---- Narrowing
+
+-- id g stays when the ids from start on and below end are narrowed to those that pass the test
+abbrev pub stays : (ℕ → Bool) → ℕ → ℕ → ℕ → Bool
+stays passes start end g = ltb g start || (leb end g || passes g)
+
+-- the ids of the words from i on and below n are narrowed to those that pass the test, and every other bit is as before
+abbrev pub Kept : (ℕ → Bool) → ℕ → ℕ → List ℕ → List ℕ → Type 0
+Kept passes i n before after =
+    (g : ℕ) → isLive after g ≡ (isLive before g && stays passes (wordBits * i) (wordBits * n) g)
 
 -- bit g of the 64 words of the table that begin at word `first`: those of one column and bucket
 abbrev pub rowBit : List ℕ → ℕ → ℕ → Bool
 rowBit table first g = isLive table (wordBits * first + g)
-
--- id g stays when the ids from start on and below end are narrowed to those whose bit is 1 there
-abbrev pub staysBy : List ℕ → ℕ → ℕ → ℕ → ℕ → Bool
-staysBy table first start end g = ltb g start || (leb end g || rowBit table first g)
-
--- the ids of the words from i on and below n that do not pass the test are dead, and every other bit is as before
-abbrev pub Kept : (ℕ → Bool) → ℕ → ℕ → List ℕ → List ℕ → Type 0
-Kept passes i n before after =
-    (g : ℕ) → isLive after g ≡ (isLive before g && (ltb g (wordBits * i) || (leb (wordBits * n) g || passes g)))
 
 -- No id is raised, the ids outside stay, and so does an id that is marked under each of its columns by accepted values.
 pub record Narrows (accepts : List ℕ → Bool) (columns : ℕ) (table : List ℕ) (start end : ℕ) (before after : List ℕ) : Type 0 where

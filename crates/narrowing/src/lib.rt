@@ -10,15 +10,14 @@ ghost use Rattle.model.specs.Network.{tuplesIn, size, firstId};
 ghost use Rattle.model.specs.Agreement.{cells, agreeing};
 ghost use Rattle.model.specs.LiveWords.{isSet, isLive};
 ghost use Rattle.network.specs.Layout.{tabled, Laid, starts};
-ghost use Rattle.narrowing.specs.Marks.{stays, rowBit, staysBy, Kept, Marks, Grows, MarksTuple, MarksTuples, Narrows, Agreeing, Dead, Narrowed, Others, Bare};
+ghost use Rattle.narrowing.specs.Marks.{bucketOf, marked, stays, rowBit, Kept, Marks, Grows, MarksTuple, MarksTuples, Narrows, Agreeing, Dead, Narrowed, Others, Bare};
 use live::next;
 use model::MAX_RELATIONS;
 use model::MAX_TUPLES;
 use network::agreement::place_of;
 use network::wide;
 
-// The buckets of values: a prime, so that codes that are multiples of ten or of a power of two are spread over all of them.
-// A table has 64 words for each of 8 columns and each bucket, 8,704 in all.
+// How many buckets of values there are; specs/Marks.antt says why. A table has 64 words for each of 8 columns and each bucket.
 const BUCKETS: usize = 17;
 
 // The word whose bit j is 1 where base + j is below the bound.
@@ -46,7 +45,7 @@ fn keep_word(
     stop: usize,
 )
     requires { ⌜ (length (now words) ≡ 64) × ((first + 64 ≤ 8704) × (i < 64)) ⌝ }
-    ensures { λ _. ⌜ (length (now (words .exit)) ≡ 64) × Kept (staysBy (now (table .entry)) first begin stop) i (i + 1) (now (words .entry)) (now (words .exit)) ⌝ }
+    ensures { λ _. ⌜ (length (now (words .exit)) ≡ 64) × Kept (stays (rowBit (now (table .entry)) first) begin stop) i (i + 1) (now (words .entry)) (now (words .exit)) ⌝ }
 {
     let low = below(i * 64, begin);
     let high = below(i * 64, stop);
@@ -67,16 +66,9 @@ fn keep_words(table: &[u64; 8704], words: &mut [u64; 64], first: usize, from: us
 
 // Of the ids from start on and below end, those not marked under the column and the value's bucket are dead, and every
 // other bit stays.
-pub fn keep(
-    table: &[u64; 8704],
-    words: &mut [u64; 64],
-    start: u16,
-    end: u16,
-    column: u16,
-    value: u16,
-)
+fn keep(table: &[u64; 8704], words: &mut [u64; 64], start: u16, end: u16, column: u16, value: u16)
     requires { ⌜ (length (now words) ≡ 64) × ((end ≤ maxTuples) × (column < maxWidth)) ⌝ }
-    ensures { λ _. ⌜ (length (now (words .exit)) ≡ 64) × ((g : ℕ) → isLive (now (words .exit)) g ≡ (isLive (now (words .entry)) g && stays (now (table .entry)) start end column value g)) ⌝ }
+    ensures { λ _. ⌜ (length (now (words .exit)) ≡ 64) × ((g : ℕ) → isLive (now (words .exit)) g ≡ (isLive (now (words .entry)) g && stays (marked (now (table .entry)) column (bucketOf value)) start end g)) ⌝ }
 {
     let begin = wide(start);
     let stop = wide(end);
@@ -220,7 +212,7 @@ fn narrow_columns(
 
 // Relation s's ids narrowed for tuple x of relation r: under each variable that both scopes have, to those marked with the
 // bucket of its value.
-pub fn narrow(
+fn narrow(
     variables: &[u16],
     values: &[u16],
     variable_starts: &[u16; 65],

@@ -5,7 +5,6 @@ use mathlib.Core.Bool.{Bool, true, false, cond}
 use mathlib.Core.Option.{Option, none}
 use mathlib.Core.List.{List, [], _∷_, _++_, map, map-append, Memᴰ·append-right}
 use Prim.Native.Nat.{ℕ, suc, _+_, _-_, _≤_, _<_}
-use native.Mathlib.Numerals.{add-one}
 use native.Mathlib.Omega.{arith}
 use lib.Dec.{ltb, eqb}
 use lib.ListN.{length, getD, take, drop, take-append-drop}
@@ -16,10 +15,10 @@ use Rattle.model.specs.Network.{size, total, firstId, idsOf, indexOf, relationO
 use Rattle.model.specs.Support.{completion}
 use Rattle.model.proofs.Bools.{and-left, and-right}
 use Rattle.model.proofs.Lists.{here, all-getD, pairwise-getD, mem-from, picks-append, pick, done, earlier-below}
-use Rattle.model.proofs.Network.{relationOf-at, indexOf-at, before-suc, before-within}
+use Rattle.model.proofs.Network.{relationOf-at, indexOf-at, before-within}
 use Rattle.model.proofs.Fault.{faultless}
 use Rattle.model.proofs.Search.{reach, reach-skip, reach-cut, completion-early, completion-other}
-use Rattle.network.proofs.Starts.{start-at}
+use Rattle.narrowing.proofs.Tables.{first-at, end-at}
 use Rattle.support.specs.declared.Span.{Span}
 use Rattle.support.specs.Search.{Search, network, live, seeker, Ready, chosenIds, Begun, spanAt}
 use Rattle.support.proofs.Chosen.{chosen-picks, chosen-indices}
@@ -58,16 +57,10 @@ module _ (Q : Search) (R : Ready Q) where
     member-below = let e = exists in omega (arith, faultless (network Q) (R .laid .faultless) .relations)
 
     pub member-start : getD (Q .tupleStarts) rel 0 ≡ firstId (network Q) rel
-    member-start =
-        let b = member-below in
-        ap (λ (l : List ℕ). getD l rel 0) (R .tuples) ∙ start-at tuplesIn (network Q .relations) rel (omega arith)
+    member-start = first-at (network Q) (Q .variableStarts) (Q .tupleStarts) (Q .valueStarts) (R .laid) (R .tuples) rel member-below
 
     pub member-end : getD (Q .tupleStarts) (rel + 1) 0 ≡ firstId (network Q) rel + size (network Q) rel
-    member-end =
-        let b = member-below in
-        ap (λ (l : List ℕ). getD l (rel + 1) 0) (R .tuples)
-        ∙ start-at tuplesIn (network Q .relations) (rel + 1) (omega arith)
-        ∙ rw add-one (before-suc tuplesIn (network Q .relations) rel exists)
+    member-end = end-at (network Q) (Q .variableStarts) (Q .tupleStarts) (Q .valueStarts) (R .laid) (R .tuples) rel member-below
 
     pub member-within : firstId (network Q) rel + size (network Q) rel ≤ total (network Q)
     member-within = before-within tuplesIn (network Q .relations) rel exists
