@@ -44,9 +44,9 @@ pub record Fewer (Q : Search) (y : ℕ) (words : List ℕ) : Type 0 where
   pub sized : length words ≡ 64
   pub narrower : Narrower (network Q) y (live Q) (live (onWords Q words))
 
--- ---- Words narrowed from the same live tuples
+-- ---- Its own words narrowed
 
-module _ (Q : Search) (R : Ready Q) (y : ℕ) (before after : List ℕ) (same : (g : ℕ) → g < total (network Q) → isLive before g ≡ isLive (Q .words) g) (W : Narrowed (network Q) y before after) where
+module _ (Q : Search) (R : Ready Q) (y : ℕ) (after : List ℕ) (W : Narrowed (network Q) y (Q .words) after) where
   id-below : (ws : List ℕ) (g : ℕ) → has (living (total (network Q)) ws) g ≡ true → g < total (network Q)
   id-below ws g e = subst (λ (n : ℕ). g < n) (living-length (total (network Q)) ws) (has-below (living (total (network Q)) ws) g e)
 
@@ -60,7 +60,7 @@ module _ (Q : Search) (R : Ready Q) (y : ℕ) (before after : List ℕ) (same : 
       living-has (total N) after g b
       ∙ subst (λ (h : ℕ). isLive after h ≡ true) is-g
       (W .keeps (relationOf N g) (g - first) (omega (arith, i .0, i .1)) (ap (agree N y) is-g ∙ a)
-      (ap (isLive before) is-g ∙ same g b ∙ sym (living-has (total N) (Q .words) g b) ∙ e))
+      (ap (isLive (Q .words)) is-g ∙ sym (living-has (total N) (Q .words) g b) ∙ e))
 
   pub fewer-words : length after ≡ 64 → Fewer Q y after
   fewer-words sized =
@@ -70,9 +70,9 @@ module _ (Q : Search) (R : Ready Q) (y : ℕ) (before after : List ℕ) (same : 
         sized = sized;
         narrower =
             record {
-              inside = λ g e. let b = id-below after g e in living-has n (Q .words) g b ∙ sym (same g b) ∙ W .inside g (sym (living-has n after g b) ∙ e);
+              inside = λ g e. let b = id-below after g e in living-has n (Q .words) g b ∙ W .inside g (sym (living-has n after g b) ∙ e);
               keeps = keeps;
-              itself = λ e. let b = id-below (Q .words) y e in living-has n after y b ∙ W .itself ∙ same y b ∙ sym (living-has n (Q .words) y b) ∙ e;
+              itself = λ e. let b = id-below (Q .words) y e in living-has n after y b ∙ W .itself ∙ sym (living-has n (Q .words) y b) ∙ e;
             };
       }
 

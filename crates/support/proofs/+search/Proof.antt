@@ -1,6 +1,6 @@
 -- `search` finds the first support that has the tuples chosen. The loop's invariant: from the id reached on, there is still all to find;
 -- the measure is the number of members still unchosen. From the laws of one member's turn, and of narrowed words.
-use mathlib.Core.Path.{_≡_, refl, sym, ap, subst, _∙_}
+use mathlib.Core.Path.{_≡_, sym, ap, subst, _∙_}
 use mathlib.Core.Bool.{Bool, true, false, _&&_}
 use mathlib.Core.Option.{none}
 use mathlib.Core.List.{List, List·Memᴰ}
@@ -279,7 +279,7 @@ latest t n = let a = asked t (chosen t n) in idAt (network (searchOf t a)) (a .a
 over : (t : ℕ) (n : Narrowing t) → Fewer (searchOf t (asked t (chosen t n))) (latest t n) (fewer t n)
 over t n =
     let a = asked t (chosen t n) in
-    fewer-words (searchOf t a) (ready t a) (latest t n) (a .args .words .now) (fewer t n) (λ g h. refl) (n .narrow-members .ensures .1 .0) (n .narrow-members .ensures .0)
+    fewer-words (searchOf t a) (ready t a) (latest t n) (fewer t n) (n .narrow-members .ensures .1 .0) (n .narrow-members .ensures .0)
 
 latest-chosen : (t : ℕ) (n : Narrowing t) →
     let s = chosen t n .past-own .result in

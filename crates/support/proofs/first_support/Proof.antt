@@ -63,7 +63,7 @@ narrowed n = onWords (searchOf (start n)) (fewer n)
 over : (n : tie.After-narrow-members) → Fewer (searchOf (start n)) (seeker (searchOf (start n))) (fewer n)
 over n =
     let a = start n in
-    fewer-words (searchOf a) (a .pre .1 .0) (seeker (searchOf a)) (a .args .words .now) (fewer n) (λ g h. refl) (n .narrow-members .ensures .1 .0) (n .narrow-members .ensures .0)
+    fewer-words (searchOf a) (a .pre .1 .0) (seeker (searchOf a)) (fewer n) (n .narrow-members .ensures .1 .0) (n .narrow-members .ensures .0)
 
 ready : (n : tie.After-narrow-members) → Ready (narrowed n)
 ready n = ready-narrowed (over n)
