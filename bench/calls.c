@@ -8,7 +8,7 @@
 #include <time.h>
 
 #define BOOK const uint16_t *, size_t, const uint16_t *, size_t, const uint16_t *, size_t
-void trial_filter(BOOK, uint16_t, const uint16_t *, size_t, uint64_t *, size_t, uint16_t *, size_t, uint16_t *);
+void plain_filter(BOOK, uint16_t, const uint16_t *, size_t, uint64_t *, size_t, uint16_t *, size_t, uint16_t *);
 
 enum { ROUNDS = 15, WORDS = 64, NUMBERS = 32768, STACK = 1 << 20, PAINT = 0xa5 };
 
@@ -51,7 +51,7 @@ static void cost(size_t m, size_t relations, size_t tuples, unsigned values, siz
         bytes = least(bytes, now() - t);
         all_living();
         t = now();
-        trial_filter(records, 2 * n.relations, n.variables, n.variable_count, n.values, n.value_count, (uint16_t)m, n.members, n.pairs, marks, WORDS, supports, NUMBERS, out);
+        plain_filter(records, 2 * n.relations, n.variables, n.variable_count, n.values, n.value_count, (uint16_t)m, n.members, n.pairs, marks, WORDS, supports, NUMBERS, out);
         lists = least(lists, now() - t);
     }
     printf("m = %zu, %4zu tuples %19.3f ms %9.3f ms   %.2f\n", m, relations * tuples, bytes * 1e3, lists * 1e3, bytes / lists);

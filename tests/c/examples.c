@@ -1,5 +1,5 @@
 /* Document 01's examples P1 to P9, and test and compare beside them, through the calls over relation records: the lines that the
- * program trial_examples writes through the calls on plain lists. */
+ * program test_examples writes through the calls on plain lists. */
 #include "records.h"
 #include "wakhvosi.h"
 #include <inttypes.h>

@@ -1,4 +1,4 @@
-/* The calls over a lent list of relation records, as the crate trial_records exports them. Answers are packed as include/wakhvosi.h
+/* The calls over a lent list of relation records, as the crate test_records exports them. Answers are packed as include/wakhvosi.h
  * says. */
 #ifndef RECORDS_H
 #define RECORDS_H

@@ -3,11 +3,11 @@
 
 #define BOOK const uint16_t *, size_t, const uint16_t *, size_t, const uint16_t *, size_t
 #define LISTS BOOK, uint16_t, const uint16_t *, size_t, uint64_t *, size_t, uint16_t *, size_t
-void trial_filter(LISTS, uint16_t *);
-void trial_withdraw(LISTS, const uint16_t *, size_t, uint16_t *);
-void trial_choose(LISTS, uint16_t, uint16_t, uint16_t *);
-uint32_t trial_test(BOOK, uint16_t, const uint16_t *, size_t, const uint64_t *, size_t);
-uint32_t trial_compare(BOOK, uint16_t, uint16_t);
+void plain_filter(LISTS, uint16_t *);
+void plain_withdraw(LISTS, const uint16_t *, size_t, uint16_t *);
+void plain_choose(LISTS, uint16_t, uint16_t, uint16_t *);
+uint32_t plain_test(BOOK, uint16_t, const uint16_t *, size_t, const uint64_t *, size_t);
+uint32_t plain_compare(BOOK, uint16_t, uint16_t);
 
 #define GIVEN q->records.at, q->records.n, q->questions.at, q->questions.n, q->codes.at, q->codes.n
 #define LENT GIVEN, q->m, q->members.at, q->members.n, marks.at, marks.n, q->supports.at, q->supports.n
@@ -15,12 +15,12 @@ uint32_t trial_compare(BOOK, uint16_t, uint16_t);
 bool put_to_library(request *q, words marks, uint16_t out[5]) {
     uint32_t short_answer;
     switch (q->call) {
-    case FILTER: trial_filter(LENT, out); break;
-    case WITHDRAW: trial_withdraw(LENT, q->rows.at, q->rows.n, out); break;
-    case CHOOSE: trial_choose(LENT, q->question, q->code, out); break;
+    case FILTER: plain_filter(LENT, out); break;
+    case WITHDRAW: plain_withdraw(LENT, q->rows.at, q->rows.n, out); break;
+    case CHOOSE: plain_choose(LENT, q->question, q->code, out); break;
     default:
-        short_answer = q->call == TEST ? trial_test(GIVEN, q->m, q->members.at, q->members.n, marks.at, marks.n)
-                                       : trial_compare(GIVEN, q->rows.at[0], q->rows.at[1]);
+        short_answer = q->call == TEST ? plain_test(GIVEN, q->m, q->members.at, q->members.n, marks.at, marks.n)
+                                       : plain_compare(GIVEN, q->rows.at[0], q->rows.at[1]);
         out[0] = short_answer % 256, out[1] = (uint16_t)(short_answer / 256);
     }
     return true;

@@ -15,14 +15,14 @@ use Rattle.model.proofs.Edges.{testReply-cut, compareReply-cut}
 use Rattle.network.specs.declared.Shape.{Shape}
 use Rattle.network.specs.Shape.{shapeOf, networkOf}
 use Rattle.network.proofs.Records.{reply-shapeOf, testReply-shapeOf, compareReply-shapeOf}
-use Rattle.calls.specs.Checks.{instanceOf}
+use Rattle.request.specs.Checks.{instanceOf}
 use Rattle.changes.specs.Change.{request}
 use Rattle.wire.specs.Entries.{entries, entries16, entries64}
 use Rattle.wire.proofs.Entries.{Bytes, bytes-entries, entries-below}
-use Rattle.capi_parts.specs.Records.{records}
-use Rattle.capi_parts.specs.Whole.{whole, wholeInstance}
-use Rattle.capi_parts.specs.Packed.{encoded, writtenBack}
-use Rattle.capi_parts.proofs.Written.{written-whole}
+use Rattle.encoding.specs.Records.{records}
+use Rattle.encoding.specs.Whole.{whole, wholeInstance}
+use Rattle.encoding.specs.Packed.{encoded, writtenBack}
+use Rattle.encoding.proofs.Written.{written-whole}
 use Rattle.capi.specs.Call.{networkIn, instanceIn, Lent, wholeLent, instanceLent, asked}
 
 -- ---- Lists that are only read

@@ -7,9 +7,9 @@ use Rattle.model.specs.Network.{Network}
 use Rattle.model.specs.Request.{Change, filter, withdraw, choose, Instance, Request}
 use Rattle.model.specs.Reply.{reply, testReply, compareReply}
 use Rattle.wire.specs.Entries.{entries16, entries64}
-use Rattle.capi_parts.specs.Records.{records}
-use Rattle.capi_parts.specs.Whole.{whole, wholeNetwork, wholeInstance, wholeChange}
-use Rattle.capi_parts.specs.Packed.{packedPair, Outcome, outcome, encoded}
+use Rattle.encoding.specs.Records.{records}
+use Rattle.encoding.specs.Whole.{whole, wholeNetwork, wholeInstance, wholeChange}
+use Rattle.encoding.specs.Packed.{packedPair, Outcome, outcome, encoded}
 use Rattle.capi.specs.declared.change.Call.{Call}
 use Rattle.capi.specs.declared.change.Call.the-variants as call
 

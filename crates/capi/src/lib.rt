@@ -1,11 +1,11 @@
 // The calls from C: numbers and lists of bytes. include/wakhvosi.h says what each byte means.
 ghost use mathlib.Core.Path.{_≡_};
-ghost use Rattle.capi_parts.specs.Packed.{outcome};
+ghost use Rattle.encoding.specs.Packed.{outcome};
 ghost use Rattle.capi.specs.Call.{lent, filterCall, withdrawCall, chooseCall, testCall, compareCall};
-use capi_parts::lengths::instance_whole;
-use capi_parts::lengths::network_whole;
 use change::Call;
 use change::change_call;
+use encoding::lengths::instance_whole;
+use encoding::lengths::network_whole;
 use reading::compare_bytes;
 use reading::test_bytes;
 

@@ -2,13 +2,13 @@
 ghost use mathlib.Core.Path.{_≡_};
 ghost use Rattle.model.specs.Reply.{testReply, compareReply};
 ghost use Rattle.wire.specs.Entries.{entries64};
-ghost use Rattle.capi_parts.specs.Packed.{packedPair};
+ghost use Rattle.encoding.specs.Packed.{packedPair};
 ghost use Rattle.capi.specs.Call.{networkIn, instanceIn};
-use capi_parts::packing::pack_comparison;
-use capi_parts::packing::pack_verdict;
-use capi_parts::sheets::shape_at;
+use consistency::test;
+use encoding::packing::pack_comparison;
+use encoding::packing::pack_verdict;
+use encoding::sheets::shape_at;
 use network::comparison::compare;
-use testing::test;
 use wire::load16;
 use wire::load64;
 

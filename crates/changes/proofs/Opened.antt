@@ -13,8 +13,8 @@ use Rattle.model.specs.Reply.{refused, reply}
 use Rattle.model.proofs.Reply.{reply-shared, reply-own}
 use Rattle.combination.specs.Proper.{below}
 use Rattle.combination.proofs.Members.{below-more-relations}
-use Rattle.calls.specs.Struck.{struck}
-use Rattle.calls.proofs.Change.{ids-below, withdraw-struck}
+use Rattle.request.specs.Struck.{struck}
+use Rattle.request.proofs.Change.{ids-below, withdraw-struck}
 use Rattle.changes.specs.declared.Opening.{Opening}
 use Rattle.changes.specs.Change.{request, Checked, Opened}
 use Rattle.changes.proofs.Ready.{checked-words, Changed}

@@ -39,13 +39,13 @@ use Rattle.combination.proofs.Members.{some-members, few-members, whole-combina
 use Rattle.worklist.specs.Tables.{Tabled}
 use Rattle.worklist.specs.Pairs.{Pairs}
 use Rattle.engine.specs.Setting.{Setting, setting, network, listed, Sound}
-use Rattle.calls.specs.Checks.{instanceOf}
-use Rattle.calls.specs.Tables.{TupleTable, Tables}
-use Rattle.calls.specs.Struck.{struck}
-use Rattle.calls.proofs.Instance.{network-few, network-bounded, combinations-proper}
-use Rattle.calls.proofs.Tables.{total-at}
-use Rattle.calls.proofs.Change.{tables-given}
-use Rattle.calls.proofs.Struck.{struck-length, struck-living}
+use Rattle.request.specs.Checks.{instanceOf}
+use Rattle.request.specs.Tables.{TupleTable, Tables}
+use Rattle.request.specs.Struck.{struck}
+use Rattle.request.proofs.Instance.{network-few, network-bounded, combinations-proper}
+use Rattle.request.proofs.Tables.{total-at}
+use Rattle.request.proofs.Change.{tables-given}
+use Rattle.request.proofs.Struck.{struck-length, struck-living}
 use Rattle.changes.specs.Change.{replied, Checked, finished}
 
 -- the words and the support list at the end of the filter

@@ -11,22 +11,22 @@ ghost use Rattle.model.specs.Request.{filter, withdraw, choose, removes};
 ghost use Rattle.model.specs.Fault.{networkFaults, firstFault};
 ghost use Rattle.model.specs.Reply.{reply};
 ghost use Rattle.network.specs.Shape.{networkOf};
-ghost use Rattle.calls.specs.Checks.{instanceOf};
-ghost use Rattle.calls.specs.Struck.{struck};
+ghost use Rattle.request.specs.Checks.{instanceOf};
+ghost use Rattle.request.specs.Struck.{struck};
 ghost use Rattle.changes.specs.Change.{request, replied, Opened, Checked, finished};
-use calls::answer::answer_for;
-use calls::checks::checked;
-use calls::checks::ids_fault;
-use calls::checks::total_of;
-use calls::checks::variable_fault;
-use calls::strike::choose_value;
-use calls::strike::withdraw_ids;
 use combination::needed;
 use live::count;
 use model::Answer;
 use model::MAX_RELATIONS;
 use network::Shape;
 use network::tables::offsets;
+use request::answer::answer_for;
+use request::checks::checked;
+use request::checks::ids_fault;
+use request::checks::total_of;
+use request::checks::variable_fault;
+use request::strike::choose_value;
+use request::strike::withdraw_ids;
 
 // What a change call finds before it strikes: the number of the first fault that every change call tests, 2 to 12, or 0; and where
 // there is none, how many tuples the network has and how many of them live.

@@ -2,23 +2,20 @@
 -- From the definitions, and the model's laws of combinations.
 use mathlib.Core.Path.{_≡_, refl, sym, _∙_, ap, subst}
 use mathlib.Core.Bool.{Bool, true, false, _&&_}
-use mathlib.Core.Option.{none}
-use mathlib.Core.List.{List, [], _∷_, map, List·Memᴰ, List·Memᴰ·tail}
+use mathlib.Core.List.{List, [], _∷_, map, List·Memᴰ}
 use Prim.Native.Nat.{ℕ, suc, _+_, _*_, _-_, _/_, _%_, _≤_, _<_}
 use native.Mathlib.Nat.{suc-mul, mul-le-mul, div-add-mod'}
 use native.Mathlib.Numerals.{add-one}
 use native.Mathlib.Omega.{arith}
-use borrow.Author.Tests.{not-false, ltb-true, lt-ltb, le-ltb, leb-true, eqb-true}
+use borrow.Author.Tests.{ltb-true, lt-ltb, le-ltb, leb-true, eqb-true}
 use lib.Dec.{leb, ltb, eqb}
 use lib.ListN.{length, getD, drop, length-drop, drop-of-length-le}
 use lib.Seq.{drop-cons}
 use Rattle.model.specs.Limits.{maxCombinations}
 use Rattle.model.specs.Lists.{all, pairwise, sum}
 use Rattle.model.specs.Combination.{combinations, Combination}
-use Rattle.model.specs.Request.{Instance}
-use Rattle.model.specs.Fault.{firstFault, combinationFaults, properMembers}
+use Rattle.model.specs.Fault.{properMembers}
 use Rattle.model.proofs.Bools.{and-left, and-right, and-intro, iff-eq}
-use Rattle.model.proofs.Fault.{no-fault-at}
 use Rattle.model.proofs.Lists.{here, all-more, all-getD}
 use Rattle.model.proofs.Combination.{combination-count, members-all}
 use Rattle.network.specs.declared.Shape.{Shape}
@@ -131,13 +128,3 @@ module _ (m : ℕ) (list : List ℕ) where
 -- the model's test of members, by the number of relations
 pub counted : (S : Shape) (cs : List Combination) → all (properMembers (networkOf S [] [])) cs ≡ all (proper (S .count)) cs
 counted S cs = ap (λ (n : ℕ). all (proper n) cs) (relation-count S)
-
--- what has no fault of the combinations has none of 7 to 9
-pub no-fault-proper : (S : Shape) (variables values : List ℕ) (m : ℕ) (list : List ℕ) → firstFault (combinationFaults (record { network = networkOf S variables values; m = m; members = list })) ≡ none → Proper (S .count) m list
-no-fault-proper S variables values m list e =
-    let I : Instance = record { network = networkOf S variables values; m = m; members = list } in
-    record {
-      number = not-false _ (no-fault-at (combinationFaults I) e here);
-      whole = not-false _ (no-fault-at (combinationFaults I) e (List·Memᴰ·tail here));
-      members = sym (counted S (combinations m list)) ∙ not-false _ (no-fault-at (combinationFaults I) e (List·Memᴰ·tail (List·Memᴰ·tail here)));
-    }

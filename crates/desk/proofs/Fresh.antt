@@ -19,7 +19,7 @@ use Rattle.model.proofs.LiveWords.{written-length}
 use Rattle.model.proofs.Fault.{accepts-network, accepts-words}
 use Rattle.model.proofs.Reply.{reply-accepted, reply-refused}
 use Rattle.network.specs.declared.Shape.{Shape}
-use Rattle.calls.specs.Checks.{instanceOf}
+use Rattle.request.specs.Checks.{instanceOf}
 use Rattle.changes.specs.Change.{request, replied}
 use Rattle.printing.specs.Lines.{Printable}
 

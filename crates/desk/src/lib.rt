@@ -5,7 +5,7 @@ ghost use Prim.Native.Nat.{_≤_};
 ghost use lib.ListN.{length, take};
 ghost use Rattle.model.specs.Text.{textOf};
 ghost use Rattle.model.specs.Listing.{linesFor, listing};
-ghost use Rattle.calls.specs.Checks.{instanceOf};
+ghost use Rattle.request.specs.Checks.{instanceOf};
 use changes::filter;
 use network::Shape;
 use printing::answer::print;

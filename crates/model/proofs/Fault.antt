@@ -253,7 +253,3 @@ module _ (q : Request) (e : accepts q ≡ true) where
   accepts-exist c m r k =
       ltb-true r (length (N .relations))
       (all-at (λ (r : ℕ). ltb r (length (N .relations))) c (and-left (all (λ (r : ℕ). ltb r (length (N .relations))) c) (pairwise ltb c) (proper m)) k)
-
-  -- the members of a combination rise
-  pub accepts-rise : (c : Combination) → List·Memᴰ c (combinationsOf I) → pairwise ltb c ≡ true
-  accepts-rise c m = and-right (all (λ (r : ℕ). ltb r (length (N .relations))) c) (pairwise ltb c) (proper m)

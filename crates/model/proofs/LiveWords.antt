@@ -369,39 +369,6 @@ module _ (n g : ℕ) (ws : List ℕ) (small : (i : ℕ) → i < length ws → ge
       let one = count-one g (living n ws) ∙ ap (λ (b : Bool). cond b 1 0) (living-has n ws g h ∙ live) in
       omega (arith, one, without-count (eqb g) (living n ws), ap count living-cleared)
 
-  drop-raised : (b e : Bool) → ((b || e) && not e) ≡ (b && not e)
-  drop-raised true e = refl
-  drop-raised false true = refl
-  drop-raised false false = refl
-
-  -- the ids but g are as they were
-  raised-others : without (eqb g) (living n (raised g ws)) ≡ without (eqb g) (living n ws)
-  raised-others =
-      ext-getD false (without (eqb g) (living n (raised g ws))) (without (eqb g) (living n ws))
-      (without-length (eqb g) (living n (raised g ws)) ∙ living-length n (raised g ws) ∙ sym (without-length (eqb g) (living n ws) ∙ living-length n ws))
-      (λ h k.
-      let b : h < n = subst (λ (x : ℕ). h < x) (without-length (eqb g) (living n (raised g ws)) ∙ living-length n (raised g ws)) k in
-      restrict-has (λ h. not (eqb g h)) (living n (raised g ws)) h
-      ∙ ap (λ (x : Bool). x && not (eqb g h)) (living-has n (raised g ws) h b ∙ raised-isLive g ws small h (omega arith))
-      ∙ drop-raised (isLive ws h) (eqb g h)
-      ∙ sym (restrict-has (λ h. not (eqb g h)) (living n ws) h ∙ ap (λ (x : Bool). x && not (eqb g h)) (living-has n ws h b)))
-
-  at-most-one : (b : Bool) → cond b 1 0 ≤ 1
-  at-most-one true = omega arith
-  at-most-one false = omega arith
-
-  -- at most one live id more
-  pub raised-count : count (living n (raised g ws)) ≤ suc (count (living n ws))
-  raised-count =
-      omega (
-        arith,
-        count-one g (living n (raised g ws)),
-        at-most-one (has (living n (raised g ws)) g),
-        without-count (eqb g) (living n (raised g ws)),
-        without-count (eqb g) (living n ws),
-        ap count raised-others,
-      )
-
 pub written-below : (n : ℕ) (S : TupleSet) (ws : List ℕ) (i : ℕ) → i < length ws → getD (written n S ws) i 0 < 2 ^ 64
 written-below n S ws i h = subst (λ (x : ℕ). x < 2 ^ 64) (sym (written-at n S ws i h)) (word-below (bitAfter n S i (getD ws i 0)))
 

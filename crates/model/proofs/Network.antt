@@ -7,7 +7,7 @@ use native.Mathlib.Omega.{arith}
 use native.Mathlib.Decide.{decLt}
 use borrow.Author.Tests.{lt-ltb, le-ltb}
 use lib.ListN.{length, getD, List·getD-eq-default}
-use lib.Seq.{take-length, take-all}
+use lib.Seq.{take-all}
 use Rattle.model.specs.declared.Relation.{Relation}
 use Rattle.model.specs.Lists.{sum}
 use Rattle.model.specs.Network.{Network, noRelation, size, tuplesIn, before, firstId, total, idsOf, relationAt, relationOf, indexOf}
@@ -60,10 +60,6 @@ module _ (N : Network) where
   ids-relationOf g h =
       let k = found-at (N .relations) g h in
       (k .0, mem-from (firstId N (relationOf N g)) (size N (relationOf N g)) g (k .1 .0) (k .1 .1))
-
-  -- where the relations end
-  pub before-all : (f : Relation → ℕ) → before f (N .relations) (length (N .relations)) ≡ sum (map f (N .relations))
-  before-all f = ap (λ (Rs : List Relation). sum (map f Rs)) (take-length (N .relations))
 
   -- a relation with a tuple exists
   pub size-below : (r x : ℕ) → x < size N r → r < length (N .relations)

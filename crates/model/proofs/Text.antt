@@ -17,7 +17,7 @@ use Rattle.model.specs.Network.{Network, width, size, variablesIn, value
 use Rattle.model.specs.Text.{maxField, comma, nought, digitsOf, decimal, lineText, textOf, relationLines, networkLines, smallFields}
 use Rattle.model.specs.Reading.{isDigit, joined}
 use Rattle.model.proofs.Bools.{and-intro}
-use Rattle.model.proofs.Lists.{all-append, all-of-append, map-from-shift, map-from-same, each-append, each-cong, each-from-shift, drop-behind, pieces, pieces-front}
+use Rattle.model.proofs.Lists.{all-of-append, map-from-shift, map-from-same, each-append, each-cong, each-from-shift, drop-behind, pieces, pieces-front}
 
 -- ---- Digits
 
@@ -54,29 +54,12 @@ digitsOf-room (suc k) n h p =
 pub digit-isDigit : (d : ℕ) → d < 10 → isDigit (nought + d) ≡ true
 digit-isDigit d h = and-intro (le-leb nought (nought + d) (omega arith)) (le-leb (nought + d) (nought + 9) (omega arith))
 
-digitsOf-digits : (k n : ℕ) → all isDigit (digitsOf k n) ≡ true
-digitsOf-digits zero n = refl
-digitsOf-digits (suc k) n =
-    ⊎-elim
-    (λ (l : n < 10). ap (all isDigit) (digitsOf-small k n l) ∙ and-intro (digit-isDigit n l) refl)
-    (λ (l : 10 ≤ n).
-    ap (all isDigit) (digitsOf-large k n l)
-    ∙ all-append isDigit (digitsOf k (n / 10)) ((nought + n % 10) ∷ []) (digitsOf-digits k (n / 10)) (and-intro (digit-isDigit (n % 10) (omega arith)) refl))
-    (small-or-large n)
-
 digitsOf-length : (k n : ℕ) → length (digitsOf k n) ≤ k
 digitsOf-length zero n = omega arith
 digitsOf-length (suc k) n =
     ⊎-elim
     (λ (l : n < 10). rw (digitsOf-small k n l) (omega arith))
     (λ (l : 10 ≤ n). let h = digitsOf-length k (n / 10) in rw (digitsOf-large k n l, length-append) (omega arith))
-    (small-or-large n)
-
-digitsOf-some : (k n : ℕ) → 1 ≤ length (digitsOf (suc k) n)
-digitsOf-some k n =
-    ⊎-elim
-    (λ (l : n < 10). rw (digitsOf-small k n l) (omega arith))
-    (λ (l : 10 ≤ n). rw (digitsOf-large k n l, length-append) (omega arith))
     (small-or-large n)
 
 -- ---- Fields
@@ -99,17 +82,9 @@ decimal-large n l m =
     let e : 10 * (n / 10) + n % 10 ≡ n = omega arith in
     rw e at (decimal-more (n / 10) (n % 10) (omega arith) (omega arith) (omega arith))
 
-pub decimal-digits : (n : ℕ) → all isDigit (decimal n) ≡ true
-unfolding decimal
-decimal-digits n = digitsOf-digits 5 n
-
 pub decimal-length : (n : ℕ) → length (decimal n) ≤ 5
 unfolding decimal
 decimal-length n = digitsOf-length 5 n
-
-pub decimal-some : (n : ℕ) → 1 ≤ length (decimal n)
-unfolding decimal
-decimal-some n = digitsOf-some 4 n
 
 -- ---- Lines
 

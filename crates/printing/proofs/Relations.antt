@@ -23,8 +23,8 @@ use Rattle.model.specs.Fault.{properWidth}
 use Rattle.network.specs.Shape.{networkOf}
 use Rattle.network.proofs.Tabled.{value-start}
 use Rattle.network.proofs.Places.{tuple-fits}
-use Rattle.calls.specs.Tables.{Tables}
-use Rattle.calls.proofs.Tables.{count-few, exists, next-id, next-within, starts-at, ends-at, ids-bounds}
+use Rattle.request.specs.Tables.{Tables}
+use Rattle.request.proofs.Tables.{count-few, exists, next-id, next-within, starts-at, ends-at, ids-bounds}
 use Rattle.printing.specs.Lines.{Part, part, placeIn, lineIn, textOver}
 use Rattle.printing.proofs.Over.{over-parts, over-none, over-cong}
 

@@ -18,7 +18,7 @@ use Rattle.model.specs.Limits.{maxPairs}
 use Rattle.model.specs.Lists.{elem}
 use Rattle.model.specs.Combination.{pairMember}
 use Rattle.model.specs.LiveWords.{isLive, cleared, raised}
-use Rattle.model.proofs.LiveWords.{cleared-length, cleared-isLive, raised-length, raised-isLive, cleared-below, raised-below}
+use Rattle.model.proofs.LiveWords.{cleared-isLive, raised-length, raised-isLive, raised-below}
 use Rattle.worklist.specs.Pairs.{Pairs, others, queues}
 
 -- ---- The words of a waiting list
@@ -42,9 +42,6 @@ pub put-waits : (ws : List ℕ) → Words ws → (p q : ℕ) → q < maxPairs �
 put-waits ws w p q h = raised-isLive p ws (w .small) q (omega (arith, w .sixteen))
 
 -- pair p waits no more, and every other pair is as before
-pub take-words : (ws : List ℕ) → Words ws → (p : ℕ) → Words (cleared p ws)
-take-words ws w p = record { sixteen = cleared-length p ws ∙ w .sixteen; small = λ i h. cleared-below p ws (w .small) i (omega (arith, cleared-length p ws)) }
-
 pub take-waits : (ws : List ℕ) → Words ws → (p q : ℕ) → q < maxPairs → isLive (cleared p ws) q ≡ (isLive ws q && not (eqb p q))
 take-waits ws w p q h = cleared-isLive p ws (w .small) q (omega (arith, w .sixteen))
 

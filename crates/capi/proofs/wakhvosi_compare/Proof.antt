@@ -8,15 +8,9 @@ use borrow.Author.Needs.{needs}
 use Rattle.capi.proofs.wakhvosi_compare.Statement.{statement}
 use Rattle.capi.proofs.wakhvosi_compare.Tie as tie
 
-network-whole-requires : tie.Need-network-whole-requires
-network-whole-requires c κs = search needs
-
 returns : tie.Need-returns
 unfolding compareCall
 returns c = cond-not _ _ _ (sym (c .before .network-whole .ensures) ∙ not-true _ (c .if1 .taken))
-
-compare-bytes-requires : tie.Need-compare-bytes-requires
-compare-bytes-requires c κs = search needs
 
 returns-2 : tie.Need-returns-2
 unfolding compareCall
@@ -24,4 +18,4 @@ returns-2 c = c .compare-bytes .ensures ∙ cond-whole _ _ _ (sym (c .before .be
 
 pub wakhvosi-compare-spec : {M : Type 1} → statement M
 wakhvosi-compare-spec =
-    tie.close (tie.spec network-whole-requires returns compare-bytes-requires returns-2)
+    tie.close (tie.spec (λ c κs. search needs) returns (λ c κs. search needs) returns-2)

@@ -9,18 +9,6 @@ use borrow.Author.Needs.{needs}
 use Rattle.capi.proofs.wakhvosi_filter.Statement.{statement}
 use Rattle.capi.proofs.wakhvosi_filter.Tie as tie
 
-slice-aggregate-change-call : tie.Need-slice-aggregate-change-call
-slice-aggregate-change-call c = search needs
-
-change-call-requires : tie.Need-change-call-requires
-change-call-requires c κs = search needs
-
-same-length : tie.Need-same-length
-same-length c = search needs
-
-same-length-2 : tie.Need-same-length-2
-same-length-2 c = search needs
-
 returns : tie.Need-returns
 unfolding filterCall changeIn
 returns c =
@@ -31,4 +19,6 @@ returns c =
 pub wakhvosi-filter-spec : {M : Type 1} → statement M
 wakhvosi-filter-spec =
     tie.close
-    (tie.spec slice-aggregate-change-call change-call-requires same-length same-length-2 returns)
+    (tie.spec
+    (λ c. search needs) (λ c κs. search needs) (λ c. search needs) (λ c. search needs)
+    returns)

@@ -4,7 +4,7 @@ use mathlib.Core.Path.{_≡_, sym, ap, _∙_}
 use mathlib.Core.Bool.{Bool, true, _&&_}
 use borrow.Author.Tests.{not-true, not-false, eq-eqb, ne-eqb}
 use lib.ListN.{length}
-use Rattle.capi_parts.specs.Whole.{whole, wholeInstance}
+use Rattle.encoding.specs.Whole.{whole, wholeInstance}
 use Rattle.capi.specs.Call.{testCall}
 use Rattle.capi.proofs.Calls.{cond-whole, cond-not}
 use borrow.Author.Needs.{needs}
@@ -17,9 +17,6 @@ words-whole c = whole 8 (length (c .args .marks .now))
 read-whole : (c : tie.Else1) → (let a = c .before .before .before .before .before .before .before .args in wholeInstance (length (a .sheets .now)) (length (a .questions .now)) (length (a .codes .now)) (length (a .combinations .now)) ≡ true)
 read-whole c = sym (c .before .instance-whole .ensures) ∙ not-false _ (c .if1 .left)
 
-instance-whole-requires : tie.Need-instance-whole-requires
-instance-whole-requires c κs = search needs
-
 returns : tie.Need-returns
 unfolding testCall
 returns c = cond-not _ _ _ (ap (λ (b : Bool). b && words-whole (c .before .before .before .before .before .before .before)) (sym (c .before .instance-whole .ensures) ∙ not-true _ (c .if1 .taken)))
@@ -28,13 +25,10 @@ returns-2 : tie.Need-returns-2
 unfolding testCall
 returns-2 c = cond-not _ _ _ (ap (λ (b : Bool). b && words-whole (c .before .before .before .before .before .before .before .before)) (read-whole (c .before)) ∙ ne-eqb _ _ (c .if2 .taken))
 
-test-bytes-requires : tie.Need-test-bytes-requires
-test-bytes-requires c κs = search needs
-
 returns-3 : tie.Need-returns-3
 unfolding testCall
 returns-3 c = c .test-bytes .ensures ∙ cond-whole _ _ _ (ap (λ (b : Bool). b && words-whole (c .before .before .before .before .before .before .before .before .before)) (read-whole (c .before .before)) ∙ eq-eqb _ _ (c .before .if2 .left))
 
 pub wakhvosi-test-spec : {M : Type 1} → statement M
 wakhvosi-test-spec =
-    tie.close (tie.spec instance-whole-requires returns returns-2 test-bytes-requires returns-3)
+    tie.close (tie.spec (λ c κs. search needs) returns returns-2 (λ c κs. search needs) returns-3)

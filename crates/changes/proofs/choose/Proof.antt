@@ -4,7 +4,7 @@ use mathlib.Core.Path.{_≡_, _∙_}
 use mathlib.Core.List.{List}
 use Prim.Native.Nat.{ℕ}
 use Rattle.model.specs.Request.{choose, Instance, Request}
-use Rattle.calls.specs.Checks.{instanceOf}
+use Rattle.request.specs.Checks.{instanceOf}
 use Rattle.changes.specs.Change.{request}
 use Rattle.changes.proofs.Ready.{network-sound, checked-words, Changed, changed-ready, changed-reply}
 use Rattle.changes.proofs.Opened.{own-number, opened-refused, opened-checked, opened-own, opened-changed}
@@ -45,26 +45,8 @@ done c =
     let d = tested c in
     opened-changed (asked (entry d)) _ (found d .examine .ensures) (d .before .if1 .left) (d .variable-fault .result) (own d) (c .before .before .if2 .left) (final c) (c .strike-value .ensures)
 
-examine-requires : tie.Need-examine-requires
-examine-requires c κs = search needs
-
-same-length : tie.Need-same-length
-same-length c = search needs
-
-same-length-2 : tie.Need-same-length-2
-same-length-2 c = search needs
-
 returns : tie.Need-returns
 returns c = opened-refused (asked (start (c .before))) _ (c .before .examine .ensures) (c .if1 .taken)
-
-variable-fault-requires : tie.Need-variable-fault-requires
-variable-fault-requires c κs = search needs
-
-same-length-3 : tie.Need-same-length-3
-same-length-3 c = search needs
-
-same-length-4 : tie.Need-same-length-4
-same-length-4 c = search needs
 
 returns-2 : tie.Need-returns-2
 returns-2 c =
@@ -81,12 +63,6 @@ strike-value-requires c κs =
 finish-requires : tie.Need-finish-requires
 finish-requires c κs = let d = c .before .before .before .before in changed-ready (asked (entry (tested d))) (final d) _ (done d)
 
-same-length-5 : tie.Need-same-length-5
-same-length-5 c = search needs
-
-same-length-6 : tie.Need-same-length-6
-same-length-6 c = search needs
-
 returns-3 : tie.Need-returns-3
 returns-3 c = let d = c .before .before .before .before .before .before .before .before .before in c .before .before .before .before .finish .ensures ∙ changed-reply (asked (entry (tested d))) (final d) _ (done d)
 
@@ -94,16 +70,11 @@ pub choose-spec : {M : Type 1} → statement M
 choose-spec =
     tie.close
     (tie.spec
-    examine-requires
-    same-length
-    same-length-2
+    (λ c κs. search needs) (λ c. search needs) (λ c. search needs)
     returns
-    variable-fault-requires
-    same-length-3
-    same-length-4
+    (λ c κs. search needs) (λ c. search needs) (λ c. search needs)
     returns-2
     strike-value-requires
     finish-requires
-    same-length-5
-    same-length-6
+    (λ c. search needs) (λ c. search needs)
     returns-3)

@@ -3,7 +3,7 @@
 use mathlib.Core.Path.{sym, _∙_}
 use Rattle.model.specs.Network.{total}
 use Rattle.model.specs.Request.{Instance}
-use Rattle.calls.specs.Checks.{instanceOf}
+use Rattle.request.specs.Checks.{instanceOf}
 use Rattle.changes.specs.Change.{Checked}
 use Rattle.changes.proofs.Ready.{checked-bounded, checked-ids, counted-all}
 use borrow.Author.Needs.{needs}
@@ -18,12 +18,6 @@ entry c = c .before .before .before .before .before .before .before
 
 sound : (c : tie.Else1) → Checked (instance (entry c)) (entry c .args .words .now) (entry c .args .supports .now)
 sound c = sym (c .if1 .left) ∙ c .before .checked .ensures
-
-checked-requires : tie.Need-checked-requires
-checked-requires c κs = search needs
-
-returns : tie.Need-returns
-returns c = search needs
 
 total-of-requires : tie.Need-total-of-requires
 total-of-requires c κs = let a = entry c .args in checked-bounded (a .shape) (a .variables .now) (a .values .now) (a .m) (a .members .now) (a .words .now) (a .supports .now) (sound c)
@@ -42,4 +36,9 @@ returns-2 c =
 
 pub examine-spec : {M : Type 1} → statement M
 examine-spec =
-    tie.close (tie.spec checked-requires returns total-of-requires count-requires returns-2)
+    tie.close
+    (tie.spec
+    (λ c κs. search needs) (λ c. search needs)
+    total-of-requires
+    count-requires
+    returns-2)

@@ -3,8 +3,8 @@
 use mathlib.Core.Path.{refl, sym, _∙_}
 use Rattle.model.specs.Network.{total}
 use Rattle.model.specs.Request.{filter, Instance, Request}
-use Rattle.calls.specs.Checks.{instanceOf}
-use Rattle.calls.proofs.Change.{filter-struck}
+use Rattle.request.specs.Checks.{instanceOf}
+use Rattle.request.proofs.Change.{filter-struck}
 use Rattle.changes.specs.Change.{request}
 use Rattle.changes.proofs.Ready.{Changed, changed-ready, changed-reply}
 use Rattle.changes.proofs.Opened.{opened-refused, opened-changed}
@@ -31,26 +31,11 @@ done c =
     opened-changed (asked (entry c)) _ (c .before .examine .ensures) (c .if1 .left) 0 refl refl (entry c .args .words .now)
     (sym (filter-struck N (total N) (entry c .args .words .now) (λ i _. c .before .before .before .before .before .slice-known .given i .fits)))
 
-examine-requires : tie.Need-examine-requires
-examine-requires c κs = search needs
-
-same-length : tie.Need-same-length
-same-length c = search needs
-
-same-length-2 : tie.Need-same-length-2
-same-length-2 c = search needs
-
 returns : tie.Need-returns
 returns c = opened-refused (asked (start (c .before))) _ (c .before .examine .ensures) (c .if1 .taken)
 
 finish-requires : tie.Need-finish-requires
 finish-requires c κs = let d = c .before .before in changed-ready (asked (entry d)) (entry d .args .words .now) _ (done d)
-
-same-length-3 : tie.Need-same-length-3
-same-length-3 c = search needs
-
-same-length-4 : tie.Need-same-length-4
-same-length-4 c = search needs
 
 returns-2 : tie.Need-returns-2
 returns-2 c = let d = c .before .before .before .before .before .before .before in c .before .before .before .before .finish .ensures ∙ changed-reply (asked (entry d)) (entry d .args .words .now) _ (done d)
@@ -59,11 +44,8 @@ pub filter-spec : {M : Type 1} → statement M
 filter-spec =
     tie.close
     (tie.spec
-    examine-requires
-    same-length
-    same-length-2
+    (λ c κs. search needs) (λ c. search needs) (λ c. search needs)
     returns
     finish-requires
-    same-length-3
-    same-length-4
+    (λ c. search needs) (λ c. search needs)
     returns-2)

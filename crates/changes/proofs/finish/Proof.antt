@@ -9,8 +9,8 @@ use Rattle.model.specs.TupleSet.{count}
 use Rattle.model.specs.Network.{Network, total}
 use Rattle.model.specs.LiveWords.{living}
 use Rattle.model.specs.Request.{Instance}
-use Rattle.calls.specs.Checks.{instanceOf}
-use Rattle.calls.specs.Tables.{TupleTable}
+use Rattle.request.specs.Checks.{instanceOf}
+use Rattle.request.specs.Tables.{TupleTable}
 use Rattle.changes.proofs.Ready.{checked-few, checked-bounded, checked-proper, checked-total, checked-ids, checked-sound, final-table, final-fewer, final-reply, counted-all}
 use borrow.Author.Needs.{needs}
 use Rattle.changes.proofs.finish.Statement.{statement}
@@ -82,9 +82,6 @@ needed-requires c κs =
       checked-proper (a .shape) (a .variables .now) (a .values .now) (a .m) (a .members .now) (a .words .now) (a .supports .now) (entry .pre .0),
     )
 
-array-read-count : tie.Need-array-read-count
-array-read-count c = search needs
-
 count-requires : tie.Need-count-requires
 count-requires c κs =
     let entry = start (laid (c .before)) in
@@ -112,12 +109,6 @@ answer-for-requires c κs =
     let entry = start (laid (ready (counts passed))) in
     ((network entry, table passed, fewer passed), omega (arith, struck (counts passed), entry .pre .1))
 
-same-length : tie.Need-same-length
-same-length c = search needs
-
-same-length-2 : tie.Need-same-length-2
-same-length-2 c = search needs
-
 returns : tie.Need-returns
 returns c =
     let passed = c .before .before .before .before .before .before .before .before in
@@ -133,11 +124,10 @@ finish-spec =
     (tie.spec
     offsets-requires
     needed-requires
-    array-read-count
+    (λ c. search needs)
     count-requires
     filter-requires
     cast-answer-for
     answer-for-requires
-    same-length
-    same-length-2
+    (λ c. search needs) (λ c. search needs)
     returns)

@@ -3,9 +3,9 @@
 use native.Mathlib.Omega.{arith}
 use lib.ListN.{length}
 use Rattle.network.specs.Shape.{networkOf}
-use Rattle.calls.specs.Tables.{Tables}
-use Rattle.calls.proofs.Instance.{network-few, network-bounded}
-use Rattle.calls.proofs.Change.{tables-given}
+use Rattle.request.specs.Tables.{Tables}
+use Rattle.request.proofs.Instance.{network-few, network-bounded}
+use Rattle.request.proofs.Change.{tables-given}
 use borrow.Author.Needs.{needs}
 use Rattle.changes.proofs.strike_value.Statement.{statement}
 use Rattle.changes.proofs.strike_value.Tie as tie
@@ -36,9 +36,6 @@ choose-value-requires c κs =
     let o = c .before .before .before .before .before .before .before .before in
     (start o .args .shape, given o)
 
-same-length : tie.Need-same-length
-same-length c = search needs
-
 returns : tie.Need-returns
 returns c =
     let struck = c .before .before in
@@ -46,4 +43,11 @@ returns c =
     struck .choose-value .ensures (start o .args .shape) (given o)
 
 pub strike-value-spec : {M : Type 1} → statement M
-strike-value-spec = tie.close (tie.spec offsets-requires cast-choose-value choose-value-requires same-length returns)
+strike-value-spec =
+    tie.close
+    (tie.spec
+    offsets-requires
+    cast-choose-value
+    choose-value-requires
+    (λ c. search needs)
+    returns)

@@ -21,15 +21,6 @@ abbrev μ-loop : tie.MeasureT-loop
 loop-holds : tie.Need-loop-holds Inv-loop μ-loop
 loop-holds c = (search needs, refl)
 
-mul-wide : tie.Need-mul-wide Inv-loop μ-loop
-mul-wide c = search needs
-
-shared-slice-read-wide : tie.Need-shared-slice-read-wide Inv-loop μ-loop
-shared-slice-read-wide c = search needs
-
-wide-requires : tie.Need-wide-requires Inv-loop μ-loop
-wide-requires c κs = search needs
-
 returns : tie.Need-returns Inv-loop μ-loop
 returns c =
     let turn = c .before .before .before in
@@ -37,12 +28,6 @@ returns c =
     let j = turn .before .loop .j in
     sym (all-fails (λ (r : ℕ). ltb r (args .count)) (args .members .now) j 0 (turn .loop-test .taken) (le-ltb (getD (args .members .now) j 0) (args .count) (omega arith)))
     ∙ turn .before .loop .inv .1
-
-add-j : tie.Need-add-j Inv-loop μ-loop
-add-j c = search needs
-
-loop-less : tie.Need-loop-less Inv-loop μ-loop
-loop-less c = search needs
 
 loop-again : tie.Need-loop-again Inv-loop μ-loop
 loop-again c =
@@ -66,11 +51,8 @@ all-below-spec =
     Inv-loop
     μ-loop
     loop-holds
-    mul-wide
-    shared-slice-read-wide
-    wide-requires
+    (λ c. search needs) (λ c. search needs) (λ c κs. search needs)
     returns
-    add-j
-    loop-less
+    (λ c. search needs) (λ c. search needs)
     loop-again
     returns-2)

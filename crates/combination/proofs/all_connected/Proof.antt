@@ -73,12 +73,6 @@ add-end c = omega (arith, fits c)
 mul-connected : tie.Need-mul-connected Inv-loop μ-loop
 mul-connected c = omega (arith, fits c)
 
-sub-connected : tie.Need-sub-connected Inv-loop μ-loop
-sub-connected c = search needs
-
-part-connected-start : tie.Need-part-connected-start Inv-loop μ-loop
-part-connected-start c = search needs
-
 part-connected-end : tie.Need-part-connected-end Inv-loop μ-loop
 part-connected-end c = fits c
 
@@ -97,9 +91,6 @@ returns c =
 
 add-k : tie.Need-add-k Inv-loop μ-loop
 add-k c = let args = c .before .before .before .before .before .before .args in omega (arith, div-le-self (length (args .members .now)) (args .m))
-
-loop-less : tie.Need-loop-less Inv-loop μ-loop
-loop-less c = search needs
 
 loop-again : tie.Need-loop-again Inv-loop μ-loop
 loop-again c =
@@ -132,12 +123,11 @@ all-connected-spec =
     div-loop
     add-end
     mul-connected
-    sub-connected
-    part-connected-start
+    (λ c. search needs) (λ c. search needs)
     part-connected-end
     connected-requires
     returns
     add-k
-    loop-less
+    (λ c. search needs)
     loop-again
     returns-2)

@@ -29,18 +29,6 @@ exists c = member-below maxRelations (c .before .before .before .args .members .
 loop-holds : tie.Need-loop-holds Inv-loop μ-loop
 loop-holds c = (search needs, refl)
 
-mul-wide : tie.Need-mul-wide Inv-loop μ-loop
-mul-wide c = search needs
-
-shared-slice-read-wide : tie.Need-shared-slice-read-wide Inv-loop μ-loop
-shared-slice-read-wide c = search needs
-
-wide-requires : tie.Need-wide-requires Inv-loop μ-loop
-wide-requires c κs = search needs
-
-mul-if1 : tie.Need-mul-if1 Inv-loop μ-loop
-mul-if1 c = search needs
-
 element-copy-out-if1 : tie.Need-element-copy-out-if1 Inv-loop μ-loop
 element-copy-out-if1 c = omega (arith, exists (c .before .before))
 
@@ -51,12 +39,6 @@ returns c =
     let fails = ap (meets (args .masks .now) (args .set)) (sym (c .before .before .wide .ensures .0)) ∙ ap not (eq-eqb (bitAnd (getD (args .masks .now) (c .before .before .wide .result) 0) (args .set)) 0 (c .if1 .taken)) in
     sym (all-fails (meets (args .masks .now) (args .set)) (args .members .now) (turn .before .loop .at) 0 (turn .loop-test .taken) fails)
     ∙ turn .before .loop .inv .1
-
-add-at : tie.Need-add-at Inv-loop μ-loop
-add-at c = search needs
-
-loop-less : tie.Need-loop-less Inv-loop μ-loop
-loop-less c = search needs
 
 loop-again : tie.Need-loop-again Inv-loop μ-loop
 loop-again c =
@@ -80,13 +62,9 @@ all-meet-spec =
     Inv-loop
     μ-loop
     loop-holds
-    mul-wide
-    shared-slice-read-wide
-    wide-requires
-    mul-if1
+    (λ c. search needs) (λ c. search needs) (λ c κs. search needs) (λ c. search needs)
     element-copy-out-if1
     returns
-    add-at
-    loop-less
+    (λ c. search needs) (λ c. search needs)
     loop-again
     returns-2)

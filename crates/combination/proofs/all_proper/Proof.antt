@@ -51,17 +51,8 @@ add-end c = omega (arith, fits c)
 mul-proper : tie.Need-mul-proper Inv-loop μ-loop
 mul-proper c = omega (arith, fits c)
 
-sub-proper : tie.Need-sub-proper Inv-loop μ-loop
-sub-proper c = search needs
-
-part-proper-start : tie.Need-part-proper-start Inv-loop μ-loop
-part-proper-start c = search needs
-
 part-proper-end : tie.Need-part-proper-end Inv-loop μ-loop
 part-proper-end c = fits c
-
-proper-requires : tie.Need-proper-requires Inv-loop μ-loop
-proper-requires c κs = search needs
 
 returns : tie.Need-returns Inv-loop μ-loop
 returns c =
@@ -73,9 +64,6 @@ returns c =
 
 add-passed : tie.Need-add-passed Inv-loop μ-loop
 add-passed c = let args = c .before .before .before .before .before .before .args in omega (arith, div-le-self (length (args .members .now)) (args .m))
-
-loop-less : tie.Need-loop-less Inv-loop μ-loop
-loop-less c = search needs
 
 loop-again : tie.Need-loop-again Inv-loop μ-loop
 loop-again c =
@@ -105,12 +93,11 @@ all-proper-spec =
     div-loop
     add-end
     mul-proper
-    sub-proper
-    part-proper-start
+    (λ c. search needs) (λ c. search needs)
     part-proper-end
-    proper-requires
+    (λ c κs. search needs)
     returns
     add-passed
-    loop-less
+    (λ c. search needs)
     loop-again
     returns-2)

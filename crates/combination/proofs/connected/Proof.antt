@@ -29,15 +29,6 @@ not-empty c = omega (arith, c .if1 .left)
 returns : tie.Need-returns Inv-loop μ-loop
 returns c = λ N e masks exist. sym (connected-none N (c .before .before .args .members .now) (c .if1 .taken))
 
-shared-slice-read-wide : tie.Need-shared-slice-read-wide Inv-loop μ-loop
-shared-slice-read-wide c = search needs
-
-wide-requires : tie.Need-wide-requires Inv-loop μ-loop
-wide-requires c κs = search needs
-
-mul-reached : tie.Need-mul-reached Inv-loop μ-loop
-mul-reached c = search needs
-
 element-copy-out-reached : tie.Need-element-copy-out-reached Inv-loop μ-loop
 element-copy-out-reached c =
     let some = c .before .before in
@@ -47,12 +38,6 @@ loop-holds : tie.Need-loop-holds Inv-loop μ-loop
 loop-holds c =
     let args = c .before .before .before .before .before .args in
     subst (λ (r : ℕ). Passed (args .masks .now) (args .members .now) (first (args .masks .now) (args .members .now)) (getD (args .masks .now) r 0)) (sym (c .before .wide .ensures .0)) none
-
-absorb-requires : tie.Need-absorb-requires Inv-loop μ-loop
-absorb-requires c κs = search needs
-
-all-meet-requires : tie.Need-all-meet-requires Inv-loop μ-loop
-all-meet-requires c κs = search needs
 
 returns-2 : tie.Need-returns-2 Inv-loop μ-loop
 returns-2 c =
@@ -82,13 +67,10 @@ connected-spec =
     Inv-loop
     μ-loop
     returns
-    shared-slice-read-wide
-    wide-requires
-    mul-reached
+    (λ c. search needs) (λ c κs. search needs) (λ c. search needs)
     element-copy-out-reached
     loop-holds
-    absorb-requires
-    all-meet-requires
+    (λ c κs. search needs) (λ c κs. search needs)
     returns-2
     loop-less
     loop-again)

@@ -116,9 +116,6 @@ none-before c variables values d e =
     (first-10 (networkOf (shapeOf w) variables values) (each w) (listOf w) d (members-few (c .before .before .before .before .before)) (whole-list (c .before .before .before))
     (counted (shapeOf w) (combinations (each w) (listOf w)) ∙ all-exist (c .before)) e)
 
-wide-requires : tie.Need-wide-requires
-wide-requires c κs = search needs
-
 returns : tie.Need-returns
 returns c =
     let w = c .before in
@@ -131,9 +128,6 @@ returns-2 c =
     let h : 4 < each w = omega arith in
     λ variables values e masks. answered w variables values 7 (first-7 (networkOf (shapeOf w) variables values) (each w) (listOf w) (many-absent (each w) h))
 
-rem-if3 : tie.Need-rem-if3
-rem-if3 c = search needs
-
 returns-3 : tie.Need-returns-3
 returns-3 c =
     let w = c .before .before .before in
@@ -143,9 +137,6 @@ returns-3 c =
     (first-8 (networkOf (shapeOf w) variables values) (each w) (listOf w) (members-few (c .before))
     (ap (λ (b : Bool). b && leb (length (listOf w) / each w) maxCombinations) rest))
 
-div-if4 : tie.Need-div-if4
-div-if4 c = search needs
-
 returns-4 : tie.Need-returns-4
 returns-4 c =
     let w = c .before .before .before .before in
@@ -154,9 +145,6 @@ returns-4 c =
     answered w variables values 8
     (first-8 (networkOf (shapeOf w) variables values) (each w) (listOf w) (members-few (c .before .before))
     (ap (λ (b : Bool). eqb (length (listOf w) % each w) 0 && b) many ∙ and-false (eqb (length (listOf w) % each w) 0)))
-
-all-proper-requires : tie.Need-all-proper-requires
-all-proper-requires c κs = search needs
 
 returns-5 : tie.Need-returns-5
 returns-5 c =
@@ -185,14 +173,14 @@ pub fault-spec : {M : Type 1} → statement M
 fault-spec =
     tie.close
     (tie.spec
-    wide-requires
+    (λ c κs. search needs)
     returns
     returns-2
-    rem-if3
+    (λ c. search needs)
     returns-3
-    div-if4
+    (λ c. search needs)
     returns-4
-    all-proper-requires
+    (λ c κs. search needs)
     returns-5
     all-connected-requires
     returns-6

@@ -55,23 +55,11 @@ variable c =
 loop-holds : tie.Need-loop-holds Inv-loop μ-loop
 loop-holds c = (search needs, λ x. ap (λ (b : Bool). b || elem x (c .args .scope .now)) (isSet-high 0 0 x (omega arith) (omega arith)))
 
-mul-mask : tie.Need-mul-mask Inv-loop μ-loop
-mul-mask c = search needs
-
-shared-slice-read-mask : tie.Need-shared-slice-read-mask Inv-loop μ-loop
-shared-slice-read-mask c = search needs
-
 cast-mask : tie.Need-cast-mask Inv-loop μ-loop
 cast-mask c = omega (arith, variable (c .before))
 
 shl-mask : tie.Need-shl-mask Inv-loop μ-loop
 shl-mask c = variable (c .before)
-
-add-column : tie.Need-add-column Inv-loop μ-loop
-add-column c = search needs
-
-loop-less : tie.Need-loop-less Inv-loop μ-loop
-loop-less c = search needs
 
 loop-again : tie.Need-loop-again Inv-loop μ-loop
 loop-again c =
@@ -94,11 +82,9 @@ mask-of-spec =
     Inv-loop
     μ-loop
     loop-holds
-    mul-mask
-    shared-slice-read-mask
+    (λ c. search needs) (λ c. search needs)
     cast-mask
     shl-mask
-    add-column
-    loop-less
+    (λ c. search needs) (λ c. search needs)
     loop-again
     returns)

@@ -73,20 +73,11 @@ mul-wide c = omega (arith, few c)
 element-copy-out-wide : tie.Need-element-copy-out-wide Inv-loop μ-loop
 element-copy-out-wide c = omega (arith, few c)
 
-wide-requires : tie.Need-wide-requires Inv-loop μ-loop
-wide-requires c κs = search needs
-
 add-end : tie.Need-add-end Inv-loop μ-loop
 add-end c = omega (arith, fits c)
 
 mul-mask-of : tie.Need-mul-mask-of Inv-loop μ-loop
 mul-mask-of c = omega (arith, fits c)
-
-sub-mask-of : tie.Need-sub-mask-of Inv-loop μ-loop
-sub-mask-of c = search needs
-
-part-mask-of-start : tie.Need-part-mask-of-start Inv-loop μ-loop
-part-mask-of-start c = search needs
 
 part-mask-of-end : tie.Need-part-mask-of-end Inv-loop μ-loop
 part-mask-of-end c = fits c
@@ -105,9 +96,6 @@ array-write-sets c = omega (arith, few (c .before .before .before .before))
 
 add-r : tie.Need-add-r Inv-loop μ-loop
 add-r c = omega (arith, few (c .before .before .before .before))
-
-loop-less : tie.Need-loop-less Inv-loop μ-loop
-loop-less c = search needs
 
 loop-again : tie.Need-loop-again Inv-loop μ-loop
 loop-again c =
@@ -137,16 +125,15 @@ masks-spec =
     loop-holds
     mul-wide
     element-copy-out-wide
-    wide-requires
+    (λ c κs. search needs)
     add-end
     mul-mask-of
-    sub-mask-of
-    part-mask-of-start
+    (λ c. search needs) (λ c. search needs)
     part-mask-of-end
     mask-of-requires
     mul-sets
     array-write-sets
     add-r
-    loop-less
+    (λ c. search needs)
     loop-again
     returns)

@@ -58,32 +58,11 @@ product c =
 loop-holds : tie.Need-loop-holds Inv-loop μ-loop
 loop-holds c = (search needs, (omega arith, search needs))
 
-mul-wide : tie.Need-mul-wide Inv-loop μ-loop
-mul-wide c = search needs
-
-shared-slice-read-wide : tie.Need-shared-slice-read-wide Inv-loop μ-loop
-shared-slice-read-wide c = search needs
-
-wide-requires : tie.Need-wide-requires Inv-loop μ-loop
-wide-requires c κs = search needs
-
-mul-wide-2 : tie.Need-mul-wide-2 Inv-loop μ-loop
-mul-wide-2 c = search needs
-
 element-copy-out-wide : tie.Need-element-copy-out-wide Inv-loop μ-loop
 element-copy-out-wide c = omega (arith, exists (c .before .before), c .before .before .before .before .before .pre .0)
 
-wide-requires-2 : tie.Need-wide-requires-2 Inv-loop μ-loop
-wide-requires-2 c κs = search needs
-
 add-tuples : tie.Need-add-tuples Inv-loop μ-loop
 add-tuples c = omega (arith, short (c .before .before .before .before .before .before .before))
-
-add-place : tie.Need-add-place Inv-loop μ-loop
-add-place c = search needs
-
-loop-less : tie.Need-loop-less Inv-loop μ-loop
-loop-less c = search needs
 
 loop-again : tie.Need-loop-again Inv-loop μ-loop
 loop-again c =
@@ -95,9 +74,6 @@ loop-again c =
         omega (arith, c .wide2 .ensures .1),
       ),
     )
-
-wide-requires-3 : tie.Need-wide-requires-3 Inv-loop μ-loop
-wide-requires-3 c κs = search needs
 
 mul-result : tie.Need-mul-result Inv-loop μ-loop
 mul-result c = omega (arith, product c)
@@ -119,16 +95,12 @@ needed-spec =
     Inv-loop
     μ-loop
     loop-holds
-    mul-wide
-    shared-slice-read-wide
-    wide-requires
-    mul-wide-2
+    (λ c. search needs) (λ c. search needs) (λ c κs. search needs) (λ c. search needs)
     element-copy-out-wide
-    wide-requires-2
+    (λ c κs. search needs)
     add-tuples
-    add-place
-    loop-less
+    (λ c. search needs) (λ c. search needs)
     loop-again
-    wide-requires-3
+    (λ c κs. search needs)
     mul-result
     returns)

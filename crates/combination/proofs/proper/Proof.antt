@@ -9,20 +9,15 @@ use borrow.Author.Needs.{needs}
 use Rattle.combination.proofs.proper.Statement.{statement}
 use Rattle.combination.proofs.proper.Tie as tie
 
-all-below-requires : tie.Need-all-below-requires
-all-below-requires c κs = search needs
-
 returns : tie.Need-returns
 returns c =
     let args = c .before .before .before .args in
     ap (λ (b : Bool). b && pairwise ltb (args .members .now)) (sym (not-true _ (c .if1 .taken)) ∙ c .before .all-below .ensures)
-
-rising-requires : tie.Need-rising-requires
-rising-requires c κs = search needs
 
 returns-2 : tie.Need-returns-2
 returns-2 c =
     ap₂ (λ (a b : Bool). a && b) (sym (not-false _ (c .before .if1 .left)) ∙ c .before .before .all-below .ensures) (c .rising .ensures)
 
 pub proper-spec : {M : Type 1} → statement M
-proper-spec = tie.close (tie.spec all-below-requires returns rising-requires returns-2)
+proper-spec =
+    tie.close (tie.spec (λ c κs. search needs) returns (λ c κs. search needs) returns-2)

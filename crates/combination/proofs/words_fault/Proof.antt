@@ -12,15 +12,6 @@ use borrow.Author.Needs.{needs}
 use Rattle.combination.proofs.words_fault.Statement.{statement}
 use Rattle.combination.proofs.words_fault.Tie as tie
 
-wide-requires : tie.Need-wide-requires
-wide-requires c κs = search needs
-
-add-if1 : tie.Need-add-if1
-add-if1 c = search needs
-
-sub-if1 : tie.Need-sub-if1
-sub-if1 c = search needs
-
 returns : tie.Need-returns
 returns c = λ N e. ap (λ (b : Bool). refusal (cond b (some 11) none)) (sym (lt-ltb (c .before .before .args .words * 64) (total N) (omega (arith, e))))
 
@@ -28,4 +19,9 @@ returns-2 : tie.Need-returns-2
 returns-2 c = λ N e. ap (λ (b : Bool). refusal (cond b (some 11) none)) (sym (le-ltb (c .before .before .args .words * 64) (total N) (omega (arith, e))))
 
 pub words-fault-spec : {M : Type 1} → statement M
-words-fault-spec = tie.close (tie.spec wide-requires add-if1 sub-if1 returns returns-2)
+words-fault-spec =
+    tie.close
+    (tie.spec
+    (λ c κs. search needs) (λ c. search needs) (λ c. search needs)
+    returns
+    returns-2)

@@ -6,7 +6,7 @@ use Rattle.model.specs.Reply.{Reply, reply}
 use Rattle.model.specs.Text.{textOf}
 use Rattle.model.specs.Listing.{allLive, fresh, replyLines}
 use Rattle.network.specs.Shape.{networkOf}
-use Rattle.calls.specs.Checks.{instanceOf}
+use Rattle.request.specs.Checks.{instanceOf}
 use Rattle.changes.specs.Change.{replied}
 use Rattle.desk.proofs.Fresh.{reply-printable}
 use borrow.Author.Needs.{needs}
@@ -24,18 +24,6 @@ answered : (c : tie.After-filter) → replied (c .filter .result) (c .filter .la
 unfolding fresh allLive
 answered c = c .filter .ensures
 
-slice-aggregate-filter : tie.Need-slice-aggregate-filter
-slice-aggregate-filter c = search needs
-
-slice-aggregate-filter-2 : tie.Need-slice-aggregate-filter-2
-slice-aggregate-filter-2 c = search needs
-
-filter-requires : tie.Need-filter-requires
-filter-requires c κs = search needs
-
-slice-aggregate-print : tie.Need-slice-aggregate-print
-slice-aggregate-print c = search needs
-
 print-requires : tie.Need-print-requires
 print-requires c κs =
     let f = c .before .before .before .before in
@@ -52,9 +40,6 @@ pub filtered-spec : {M : Type 1} → statement M
 filtered-spec =
     tie.close
     (tie.spec
-    slice-aggregate-filter
-    slice-aggregate-filter-2
-    filter-requires
-    slice-aggregate-print
+    (λ c. search needs) (λ c. search needs) (λ c κs. search needs) (λ c. search needs)
     print-requires
     returns)

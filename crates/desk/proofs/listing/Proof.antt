@@ -9,7 +9,7 @@ use lib.Seq.{length-take-le}
 use Rattle.model.specs.Request.{Instance}
 use Rattle.model.specs.Text.{textOf}
 use Rattle.model.specs.Listing.{linesFor, listing}
-use Rattle.calls.specs.Checks.{instanceOf}
+use Rattle.request.specs.Checks.{instanceOf}
 use borrow.Author.Needs.{needs}
 use Rattle.desk.proofs.listing.Statement.{statement}
 use Rattle.desk.proofs.listing.Tie as tie
@@ -30,37 +30,10 @@ told c ok e =
     ap (λ (o : Option Instance). textOf (linesFor o))
     (sym (ap (λ (k : Bool). cond k (some (instance c)) none) e) ∙ c .read .ensures .is-read)
 
-read-requires : tie.Need-read-requires
-read-requires c κs = search needs
-
-refused-requires : tie.Need-refused-requires
-refused-requires c κs = search needs
-
 returns : tie.Need-returns
 returns c =
     let h = c .refused .ensures .0 in
     ((h, sym (length-take-le _ _ h)), c .refused .ensures .1 ∙ told (c .before .before .before .before) false (not-true _ (c .before .before .if1 .taken)))
-
-array-share-prefix-variables : tie.Need-array-share-prefix-variables
-array-share-prefix-variables c = search needs
-
-slice-aggregate-filtered : tie.Need-slice-aggregate-filtered
-slice-aggregate-filtered c = search needs
-
-array-share-prefix-values : tie.Need-array-share-prefix-values
-array-share-prefix-values c = search needs
-
-slice-aggregate-filtered-2 : tie.Need-slice-aggregate-filtered-2
-slice-aggregate-filtered-2 c = search needs
-
-array-share-prefix-members : tie.Need-array-share-prefix-members
-array-share-prefix-members c = search needs
-
-slice-aggregate-filtered-3 : tie.Need-slice-aggregate-filtered-3
-slice-aggregate-filtered-3 c = search needs
-
-filtered-requires : tie.Need-filtered-requires
-filtered-requires c κs = search needs
 
 returns-2 : tie.Need-returns-2
 returns-2 c =
@@ -71,14 +44,8 @@ pub listing-spec : {M : Type 1} → statement M
 listing-spec =
     tie.close
     (tie.spec
-    read-requires
-    refused-requires
+    (λ c κs. search needs) (λ c κs. search needs)
     returns
-    array-share-prefix-variables
-    slice-aggregate-filtered
-    array-share-prefix-values
-    slice-aggregate-filtered-2
-    array-share-prefix-members
-    slice-aggregate-filtered-3
-    filtered-requires
+    (λ c. search needs) (λ c. search needs) (λ c. search needs) (λ c. search needs) (λ c. search needs)
+    (λ c. search needs) (λ c κs. search needs)
     returns-2)

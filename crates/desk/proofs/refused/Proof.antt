@@ -7,12 +7,6 @@ use borrow.Author.Needs.{needs}
 use Rattle.desk.proofs.refused.Statement.{statement}
 use Rattle.desk.proofs.refused.Tie as tie
 
-slice-aggregate-line : tie.Need-slice-aggregate-line
-slice-aggregate-line c = search needs
-
-line-requires : tie.Need-line-requires
-line-requires c κs = search needs
-
 returns : tie.Need-returns
 unfolding textOf
 returns c =
@@ -20,4 +14,5 @@ returns c =
     (l .fits, l .front ∙ sym (append-nil (lineText (2 ∷ 1 ∷ 0 ∷ 0 ∷ []))))
 
 pub refused-spec : {M : Type 1} → statement M
-refused-spec = tie.close (tie.spec slice-aggregate-line line-requires returns)
+refused-spec =
+    tie.close (tie.spec (λ c. search needs) (λ c κs. search needs) returns)

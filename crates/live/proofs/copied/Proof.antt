@@ -23,29 +23,8 @@ copied-one : (copy words : List ℕ) (i j : ℕ) → i < length copy → ((j : �
 copied-one copy words i j h f l (yes e) = rw e (getD-set-same copy i (getD words i 0) 0 h)
 copied-one copy words i j h f l (no d) = getD-set-other copy i j (getD words i 0) 0 d ∙ f j (omega arith)
 
-capped-requires : tie.Need-capped-requires Inv-loop μ-loop
-capped-requires c κs = search needs
-
 loop-holds : tie.Need-loop-holds Inv-loop μ-loop
 loop-holds c = (omega arith, (refl, (λ j l. absurd (omega arith), λ j l h. getD-replicate 64 j 0 0 h)))
-
-mul-copy : tie.Need-mul-copy Inv-loop μ-loop
-mul-copy c = search needs
-
-shared-slice-read-copy : tie.Need-shared-slice-read-copy Inv-loop μ-loop
-shared-slice-read-copy c = search needs
-
-mul-copy-2 : tie.Need-mul-copy-2 Inv-loop μ-loop
-mul-copy-2 c = search needs
-
-array-write-copy : tie.Need-array-write-copy Inv-loop μ-loop
-array-write-copy c = search needs
-
-add-i : tie.Need-add-i Inv-loop μ-loop
-add-i c = search needs
-
-loop-less : tie.Need-loop-less Inv-loop μ-loop
-loop-less c = search needs
 
 loop-again : tie.Need-loop-again Inv-loop μ-loop
 loop-again c =
@@ -80,13 +59,9 @@ copied-spec =
     (tie.spec
     Inv-loop
     μ-loop
-    capped-requires
+    (λ c κs. search needs)
     loop-holds
-    mul-copy
-    shared-slice-read-copy
-    mul-copy-2
-    array-write-copy
-    add-i
-    loop-less
+    (λ c. search needs) (λ c. search needs) (λ c. search needs) (λ c. search needs) (λ c. search needs)
+    (λ c. search needs)
     loop-again
     returns)

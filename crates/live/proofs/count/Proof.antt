@@ -34,15 +34,6 @@ one-word ws i e h fits =
     count-split (isLive ws) (64 * i) (64 * (i + 1)) e (omega arith) h
     ∙ ap (λ (x : ℕ). x + between ws (64 * (i + 1)) e) (sym (o ∙ ones-livingFrom ws i k (omega arith)))
 
-loop-holds : tie.Need-loop-holds Inv-loop μ-loop
-loop-holds c = search needs
-
-mul-n : tie.Need-mul-n Inv-loop μ-loop
-mul-n c = search needs
-
-shared-slice-read-n : tie.Need-shared-slice-read-n Inv-loop μ-loop
-shared-slice-read-n c = search needs
-
 cast-n : tie.Need-cast-n Inv-loop μ-loop
 cast-n c = omega (arith, ones-le 64 _ (c .shared-slice-known2 .given (c .before .before .loop .i) .fits))
 
@@ -55,20 +46,11 @@ add-n c =
       count-from-le (isLive (a .words .now)) (64 * (a .start / 64)) (a .end - 64 * (a .start / 64)),
     )
 
-add-i : tie.Need-add-i Inv-loop μ-loop
-add-i c = search needs
-
-loop-less : tie.Need-loop-less Inv-loop μ-loop
-loop-less c = search needs
-
 loop-again : tie.Need-loop-again Inv-loop μ-loop
 loop-again c =
     let a = c .before .before .before .before .args in
     let i = c .before .before .loop .i in
     omega (arith, one-word (a .words .now) i (a .end) (omega arith) (c .shared-slice-known2 .given i .fits))
-
-count-below-requires : tie.Need-count-below-requires Inv-loop μ-loop
-count-below-requires c κs = search needs
 
 add-result : tie.Need-add-result Inv-loop μ-loop
 add-result c =
@@ -79,9 +61,6 @@ add-result c =
       count-from-le (isLive (a .words .now)) (64 * (a .end / 64)) (a .end % 64),
       count-from-le (isLive (a .words .now)) (64 * (a .start / 64)) (a .end - 64 * (a .start / 64)),
     )
-
-count-below-requires-2 : tie.Need-count-below-requires-2 Inv-loop μ-loop
-count-below-requires-2 c κs = search needs
 
 -- what is counted is the ids of start's word below start, and those from start on
 counted : (c : tie.After-count-below2 Inv-loop μ-loop) → (let a = c .before .before .before .before .before .args in c .before .before .before .loop .n + c .before .count-below .result ≡ c .count-below2 .result + between (a .words .now) (a .start) (a .end))
@@ -118,17 +97,14 @@ count-spec =
     (tie.spec
     Inv-loop
     μ-loop
-    loop-holds
-    mul-n
-    shared-slice-read-n
+    (λ c. search needs) (λ c. search needs) (λ c. search needs)
     cast-n
     add-n
-    add-i
-    loop-less
+    (λ c. search needs) (λ c. search needs)
     loop-again
-    count-below-requires
+    (λ c κs. search needs)
     add-result
-    count-below-requires-2
+    (λ c κs. search needs)
     sub-result
     cast-result
     returns)

@@ -15,15 +15,6 @@ use Rattle.live.proofs.count_below.Tie as tie
 returns : tie.Need-returns
 returns c = let z : c .before .args .end % 64 ≡ 0 = omega arith in rw z
 
-mul-result : tie.Need-mul-result
-mul-result c = search needs
-
-shared-slice-read-result : tie.Need-shared-slice-read-result
-shared-slice-read-result c = search needs
-
-shl-result : tie.Need-shl-result
-shl-result c = search needs
-
 rem-result : tie.Need-rem-result
 rem-result c = let k = c .before .before .args .end % 64 in omega (arith, one-shl k (omega arith), pow-pos k)
 
@@ -46,9 +37,7 @@ count-below-spec =
     tie.close
     (tie.spec
     returns
-    mul-result
-    shared-slice-read-result
-    shl-result
+    (λ c. search needs) (λ c. search needs) (λ c. search needs)
     rem-result
     cast-result
     returns-2)

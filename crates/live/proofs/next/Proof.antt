@@ -61,23 +61,11 @@ module _ (ws : List ℕ) (at end : ℕ) where
 loop-holds : tie.Need-loop-holds Inv-loop μ-loop
 loop-holds c = refl
 
-mul-w : tie.Need-mul-w Inv-loop μ-loop
-mul-w c = search needs
-
-shared-slice-read-w : tie.Need-shared-slice-read-w Inv-loop μ-loop
-shared-slice-read-w c = search needs
-
-shr-w : tie.Need-shr-w Inv-loop μ-loop
-shr-w c = search needs
-
 cast-g : tie.Need-cast-g Inv-loop μ-loop
 cast-g c = omega (arith, trailing-le 64 (rest (c .before .before .before .before .args .words .now) (c .before .before .before .loop .at)))
 
 add-g : tie.Need-add-g Inv-loop μ-loop
 add-g c = omega (arith, trailing-le 64 (rest (c .before .before .before .before .args .words .now) (c .before .before .before .loop .at)))
-
-cast-result : tie.Need-cast-result Inv-loop μ-loop
-cast-result c = search needs
 
 returns : tie.Need-returns Inv-loop μ-loop
 returns c =
@@ -92,15 +80,6 @@ returns-2 c =
     let l = c .before .before .before .before .loop in
     let f = c .before .before .shared-slice-known .given (l .at / 64) .fits in
     sym (found-past (a .words .now) (l .at) (a .end) f (c .before .if1 .taken) (c .if2 .left)) ∙ l .inv
-
-add-at : tie.Need-add-at Inv-loop μ-loop
-add-at c = search needs
-
-mul-at : tie.Need-mul-at Inv-loop μ-loop
-mul-at c = search needs
-
-loop-less : tie.Need-loop-less Inv-loop μ-loop
-loop-less c = search needs
 
 loop-again : tie.Need-loop-again Inv-loop μ-loop
 loop-again c =
@@ -120,16 +99,12 @@ next-spec =
     Inv-loop
     μ-loop
     loop-holds
-    mul-w
-    shared-slice-read-w
-    shr-w
+    (λ c. search needs) (λ c. search needs) (λ c. search needs)
     cast-g
     add-g
-    cast-result
+    (λ c. search needs)
     returns
     returns-2
-    add-at
-    mul-at
-    loop-less
+    (λ c. search needs) (λ c. search needs) (λ c. search needs)
     loop-again
     returns-3)

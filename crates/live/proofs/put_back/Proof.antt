@@ -19,29 +19,8 @@ Inv-loop copy words₀ n i₀ words i = (i ≤ n) × ((length words ≡ length w
 abbrev μ-loop : tie.MeasureT-loop
 μ-loop copy words₀ n i₀ words i = n - i
 
-capped-requires : tie.Need-capped-requires Inv-loop μ-loop
-capped-requires c κs = search needs
-
 loop-holds : tie.Need-loop-holds Inv-loop μ-loop
 loop-holds c = let a = c .before .before .args in (search needs, (search needs, paste-zero (a .words .now) 0 (a .copy .now)))
-
-mul-words : tie.Need-mul-words Inv-loop μ-loop
-mul-words c = search needs
-
-element-copy-out-words : tie.Need-element-copy-out-words Inv-loop μ-loop
-element-copy-out-words c = search needs
-
-mul-words-2 : tie.Need-mul-words-2 Inv-loop μ-loop
-mul-words-2 c = search needs
-
-slice-write-words : tie.Need-slice-write-words Inv-loop μ-loop
-slice-write-words c = search needs
-
-add-i : tie.Need-add-i Inv-loop μ-loop
-add-i c = search needs
-
-loop-less : tie.Need-loop-less Inv-loop μ-loop
-loop-less c = search needs
 
 loop-again : tie.Need-loop-again Inv-loop μ-loop
 loop-again c =
@@ -95,14 +74,10 @@ put-back-spec =
     (tie.spec
     Inv-loop
     μ-loop
-    capped-requires
+    (λ c κs. search needs)
     loop-holds
-    mul-words
-    element-copy-out-words
-    mul-words-2
-    slice-write-words
-    add-i
-    loop-less
+    (λ c. search needs) (λ c. search needs) (λ c. search needs) (λ c. search needs) (λ c. search needs)
+    (λ c. search needs)
     loop-again
     same-length
     returns)

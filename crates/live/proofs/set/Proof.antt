@@ -10,30 +10,6 @@ use borrow.Author.Needs.{needs}
 use Rattle.live.proofs.set.Statement.{statement}
 use Rattle.live.proofs.set.Tie as tie
 
-cast-i : tie.Need-cast-i
-cast-i c = search needs
-
-mul-words : tie.Need-mul-words
-mul-words c = search needs
-
-slice-read-words : tie.Need-slice-read-words
-slice-read-words c = search needs
-
-cast-words : tie.Need-cast-words
-cast-words c = search needs
-
-shl-words : tie.Need-shl-words
-shl-words c = search needs
-
-mul-words-2 : tie.Need-mul-words-2
-mul-words-2 c = search needs
-
-slice-write-words : tie.Need-slice-write-words
-slice-write-words c = search needs
-
-same-length : tie.Need-same-length
-same-length c = search needs
-
 returns : tie.Need-returns
 unfolding raised
 returns c =
@@ -45,12 +21,6 @@ pub set-spec : {M : Type 1} → statement M
 set-spec =
     tie.close
     (tie.spec
-    cast-i
-    mul-words
-    slice-read-words
-    cast-words
-    shl-words
-    mul-words-2
-    slice-write-words
-    same-length
+    (λ c. search needs) (λ c. search needs) (λ c. search needs) (λ c. search needs) (λ c. search needs)
+    (λ c. search needs) (λ c. search needs) (λ c. search needs)
     returns)

@@ -14,16 +14,10 @@ returns c =
     let a = c .before .args in
     (omega arith, λ j l. below-none (a .base) (a .bound) j (c .if1 .taken))
 
-sub-k : tie.Need-sub-k
-sub-k c = search needs
-
 returns-2 : tie.Need-returns-2
 returns-2 c =
     let a = c .before .before .args in
     (omega arith, λ j l. below-all (a .base) (a .bound) j (c .if2 .taken) l)
-
-shl-result : tie.Need-shl-result
-shl-result c = search needs
 
 sub-result : tie.Need-sub-result
 sub-result c =
@@ -39,4 +33,12 @@ returns-3 c =
     )
 
 pub below-spec : {M : Type 1} → statement M
-below-spec = tie.close (tie.spec returns sub-k returns-2 shl-result sub-result returns-3)
+below-spec =
+    tie.close
+    (tie.spec
+    returns
+    (λ c. search needs)
+    returns-2
+    (λ c. search needs)
+    sub-result
+    returns-3)

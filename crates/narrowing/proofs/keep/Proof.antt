@@ -37,48 +37,12 @@ module _ (w : tie.After-wide4) where
       kept-stays (a .table .now) first begin stop (a .column) (a .value) (begin / 64) n (a .words .now) after (ap₂ (λ (x y : ℕ). (x * buckets + y % buckets) * 64) (w .before .wide3 .ensures .0) (w .wide4 .ensures .0)) l h f g
       ∙ ap₂ (λ (x y : ℕ). isLive (a .words .now) g && stays (marked (a .table .now) (a .column) (bucketOf (a .value))) x y g) (w .before .before .before .before .wide .ensures .0) (w .before .before .before .wide2 .ensures .0)
 
-wide-requires : tie.Need-wide-requires
-wide-requires c κs = search needs
-
-wide-requires-2 : tie.Need-wide-requires-2
-wide-requires-2 c κs = search needs
-
 returns : tie.Need-returns
 returns c =
     let s = c .before .before .before in
     let a = s .args in
     let h : a .end ≤ a .start = omega (arith, c .if1 .taken, c .before .wide2 .ensures .0, c .before .before .wide .ensures .0) in
     (s .pre .0, λ g. stays-none (marked (a .table .now) (a .column) (bucketOf (a .value))) (a .start) (a .end) g h (isLive (a .words .now) g))
-
-wide-requires-3 : tie.Need-wide-requires-3
-wide-requires-3 c κs = search needs
-
-mul-first : tie.Need-mul-first
-mul-first c = search needs
-
-wide-requires-4 : tie.Need-wide-requires-4
-wide-requires-4 c κs = search needs
-
-add-first : tie.Need-add-first
-add-first c = search needs
-
-mul-first-2 : tie.Need-mul-first-2
-mul-first-2 c = search needs
-
-sub-last : tie.Need-sub-last
-sub-last c = search needs
-
-keep-word-requires : tie.Need-keep-word-requires
-keep-word-requires c κs = search needs
-
-add-keep-words : tie.Need-add-keep-words
-add-keep-words c = search needs
-
-keep-words-requires : tie.Need-keep-words-requires
-keep-words-requires c κs = search needs
-
-keep-word-requires-2 : tie.Need-keep-word-requires-2
-keep-word-requires-2 c κs = search needs
 
 returns-2 : tie.Need-returns-2
 returns-2 c =
@@ -122,18 +86,10 @@ pub keep-spec : {M : Type 1} → statement M
 keep-spec =
     tie.close
     (tie.spec
-    wide-requires
-    wide-requires-2
+    (λ c κs. search needs) (λ c κs. search needs)
     returns
-    wide-requires-3
-    mul-first
-    wide-requires-4
-    add-first
-    mul-first-2
-    sub-last
-    keep-word-requires
-    add-keep-words
-    keep-words-requires
-    keep-word-requires-2
+    (λ c κs. search needs) (λ c. search needs) (λ c κs. search needs) (λ c. search needs)
+    (λ c. search needs) (λ c. search needs) (λ c κs. search needs) (λ c. search needs)
+    (λ c κs. search needs) (λ c κs. search needs)
     returns-2
     returns-3)

@@ -10,39 +10,6 @@ use Rattle.narrowing.proofs.Words.{kept-word, stays-at}
 use Rattle.narrowing.proofs.keep_word.Statement.{statement}
 use Rattle.narrowing.proofs.keep_word.Tie as tie
 
-mul-below : tie.Need-mul-below
-mul-below c = search needs
-
-below-requires : tie.Need-below-requires
-below-requires c κs = search needs
-
-mul-below-2 : tie.Need-mul-below-2
-mul-below-2 c = search needs
-
-below-requires-2 : tie.Need-below-requires-2
-below-requires-2 c κs = search needs
-
-mul-words : tie.Need-mul-words
-mul-words c = search needs
-
-element-copy-out-words : tie.Need-element-copy-out-words
-element-copy-out-words c = search needs
-
-add-words : tie.Need-add-words
-add-words c = search needs
-
-mul-words-2 : tie.Need-mul-words-2
-mul-words-2 c = search needs
-
-element-copy-out-words-2 : tie.Need-element-copy-out-words-2
-element-copy-out-words-2 c = search needs
-
-mul-words-3 : tie.Need-mul-words-3
-mul-words-3 c = search needs
-
-element-write-words : tie.Need-element-write-words
-element-write-words c = search needs
-
 returns : tie.Need-returns
 returns c =
     let low = c .before .before .before .below in
@@ -60,15 +27,7 @@ pub keep-word-spec : {M : Type 1} → statement M
 keep-word-spec =
     tie.close
     (tie.spec
-    mul-below
-    below-requires
-    mul-below-2
-    below-requires-2
-    mul-words
-    element-copy-out-words
-    add-words
-    mul-words-2
-    element-copy-out-words-2
-    mul-words-3
-    element-write-words
+    (λ c. search needs) (λ c κs. search needs) (λ c. search needs) (λ c κs. search needs)
+    (λ c. search needs) (λ c. search needs) (λ c. search needs) (λ c. search needs) (λ c. search needs)
+    (λ c. search needs) (λ c. search needs)
     returns)

@@ -23,33 +23,6 @@ loop-holds c =
     let a = s .args in
     (omega arith, (s .pre .1 .1 .0, (s .pre .0, kept-none (rowBit (a .table .now) (a .first)) (a .from) (a .words .now))))
 
-mul-words : tie.Need-mul-words Inv-loop μ-loop
-mul-words c = search needs
-
-element-copy-out-words : tie.Need-element-copy-out-words Inv-loop μ-loop
-element-copy-out-words c = search needs
-
-add-words : tie.Need-add-words Inv-loop μ-loop
-add-words c = search needs
-
-mul-words-2 : tie.Need-mul-words-2 Inv-loop μ-loop
-mul-words-2 c = search needs
-
-element-copy-out-words-2 : tie.Need-element-copy-out-words-2 Inv-loop μ-loop
-element-copy-out-words-2 c = search needs
-
-mul-words-3 : tie.Need-mul-words-3 Inv-loop μ-loop
-mul-words-3 c = search needs
-
-element-write-words : tie.Need-element-write-words Inv-loop μ-loop
-element-write-words c = search needs
-
-add-i : tie.Need-add-i Inv-loop μ-loop
-add-i c = search needs
-
-loop-less : tie.Need-loop-less Inv-loop μ-loop
-loop-less c = search needs
-
 loop-again : tie.Need-loop-again Inv-loop μ-loop
 loop-again c =
     let turn = c .before .before in
@@ -85,14 +58,7 @@ keep-words-spec =
     Inv-loop
     μ-loop
     loop-holds
-    mul-words
-    element-copy-out-words
-    add-words
-    mul-words-2
-    element-copy-out-words-2
-    mul-words-3
-    element-write-words
-    add-i
-    loop-less
+    (λ c. search needs) (λ c. search needs) (λ c. search needs) (λ c. search needs) (λ c. search needs)
+    (λ c. search needs) (λ c. search needs) (λ c. search needs) (λ c. search needs)
     loop-again
     returns)

@@ -9,21 +9,6 @@ use Rattle.narrowing.proofs.Words.{marked-one}
 use Rattle.narrowing.proofs.mark.Statement.{statement}
 use Rattle.narrowing.proofs.mark.Tie as tie
 
-mul-table : tie.Need-mul-table
-mul-table c = search needs
-
-element-copy-out-table : tie.Need-element-copy-out-table
-element-copy-out-table c = search needs
-
-shl-table : tie.Need-shl-table
-shl-table c = search needs
-
-mul-table-2 : tie.Need-mul-table-2
-mul-table-2 c = search needs
-
-element-write-table : tie.Need-element-write-table
-element-write-table c = search needs
-
 returns : tie.Need-returns
 returns c =
     let a = c .before .args in
@@ -33,4 +18,6 @@ returns c =
 pub mark-spec : {M : Type 1} → statement M
 mark-spec =
     tie.close
-    (tie.spec mul-table element-copy-out-table shl-table mul-table-2 element-write-table returns)
+    (tie.spec
+    (λ c. search needs) (λ c. search needs) (λ c. search needs) (λ c. search needs) (λ c. search needs)
+    returns)

@@ -47,53 +47,8 @@ loop-holds c =
     let s = c .before in
     (omega arith, (s .pre .0, λ r h. absurd (omega arith)))
 
-mul-wide : tie.Need-mul-wide Inv-loop μ-loop
-mul-wide c = search needs
-
-element-copy-out-wide : tie.Need-element-copy-out-wide Inv-loop μ-loop
-element-copy-out-wide c = search needs
-
-wide-requires : tie.Need-wide-requires Inv-loop μ-loop
-wide-requires c κs = search needs
-
-add-wide : tie.Need-add-wide Inv-loop μ-loop
-add-wide c = search needs
-
-mul-wide-2 : tie.Need-mul-wide-2 Inv-loop μ-loop
-mul-wide-2 c = search needs
-
-element-copy-out-wide-2 : tie.Need-element-copy-out-wide-2 Inv-loop μ-loop
-element-copy-out-wide-2 c = search needs
-
-wide-requires-2 : tie.Need-wide-requires-2 Inv-loop μ-loop
-wide-requires-2 c κs = search needs
-
-mul-wide-3 : tie.Need-mul-wide-3 Inv-loop μ-loop
-mul-wide-3 c = search needs
-
-element-copy-out-wide-3 : tie.Need-element-copy-out-wide-3 Inv-loop μ-loop
-element-copy-out-wide-3 c = search needs
-
-wide-requires-3 : tie.Need-wide-requires-3 Inv-loop μ-loop
-wide-requires-3 c κs = search needs
-
 sub-width : tie.Need-sub-width Inv-loop μ-loop
 sub-width c = omega (arith, c .before .before .wide2 .ensures .0, c .wide3 .ensures .0, rises c)
-
-mul-mark-tuples : tie.Need-mul-mark-tuples Inv-loop μ-loop
-mul-mark-tuples c = search needs
-
-element-copy-out-mark-tuples : tie.Need-element-copy-out-mark-tuples Inv-loop μ-loop
-element-copy-out-mark-tuples c = search needs
-
-add-mark-tuples : tie.Need-add-mark-tuples Inv-loop μ-loop
-add-mark-tuples c = search needs
-
-mul-mark-tuples-2 : tie.Need-mul-mark-tuples-2 Inv-loop μ-loop
-mul-mark-tuples-2 c = search needs
-
-element-copy-out-mark-tuples-2 : tie.Need-element-copy-out-mark-tuples-2 Inv-loop μ-loop
-element-copy-out-mark-tuples-2 c = search needs
 
 mark-tuples-requires : tie.Need-mark-tuples-requires Inv-loop μ-loop
 mark-tuples-requires c κs =
@@ -119,12 +74,6 @@ mark-tuples-requires c κs =
         ),
       ),
     )
-
-add-r : tie.Need-add-r Inv-loop μ-loop
-add-r c = search needs
-
-loop-less : tie.Need-loop-less Inv-loop μ-loop
-loop-less c = search needs
 
 loop-again : tie.Need-loop-again Inv-loop μ-loop
 loop-again c =
@@ -176,24 +125,12 @@ mark-all-spec =
     Inv-loop
     μ-loop
     loop-holds
-    mul-wide
-    element-copy-out-wide
-    wide-requires
-    add-wide
-    mul-wide-2
-    element-copy-out-wide-2
-    wide-requires-2
-    mul-wide-3
-    element-copy-out-wide-3
-    wide-requires-3
+    (λ c. search needs) (λ c. search needs) (λ c κs. search needs) (λ c. search needs)
+    (λ c. search needs) (λ c. search needs) (λ c κs. search needs) (λ c. search needs)
+    (λ c. search needs) (λ c κs. search needs)
     sub-width
-    mul-mark-tuples
-    element-copy-out-mark-tuples
-    add-mark-tuples
-    mul-mark-tuples-2
-    element-copy-out-mark-tuples-2
+    (λ c. search needs) (λ c. search needs) (λ c. search needs) (λ c. search needs) (λ c. search needs)
     mark-tuples-requires
-    add-r
-    loop-less
+    (λ c. search needs) (λ c. search needs)
     loop-again
     returns)

@@ -40,14 +40,8 @@ mark-tuple-requires c κs =
     let s = turn .before .before .before in
     (turn .before .loop .inv .1 .1 .1 .0, (within turn, (s .pre .1 .1 .1 .0, omega (arith, turn .loop-test .taken, s .pre .1 .1 .0))))
 
-add-g : tie.Need-add-g Inv-loop μ-loop
-add-g c = search needs
-
 add-p : tie.Need-add-p Inv-loop μ-loop
 add-p c = let w = within (c .before .before) in omega arith
-
-loop-less : tie.Need-loop-less Inv-loop μ-loop
-loop-less c = search needs
 
 loop-again : tie.Need-loop-again Inv-loop μ-loop
 loop-again c =
@@ -88,8 +82,8 @@ mark-tuples-spec =
     μ-loop
     loop-holds
     mark-tuple-requires
-    add-g
+    (λ c. search needs)
     add-p
-    loop-less
+    (λ c. search needs)
     loop-again
     returns)

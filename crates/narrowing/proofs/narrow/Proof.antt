@@ -84,9 +84,6 @@ place-of-requires-2 c κs =
       scope-rises (network start) (a .variable-starts .now) (a .tuple-starts .now) (a .value-starts .now) (start .pre .1 .0) (start .pre .1 .1 .0) (a .s) (start .pre .1 .1 .1 .1 .1),
     )
 
-wide-requires : tie.Need-wide-requires
-wide-requires c κs = search needs
-
 mul-narrow-columns : tie.Need-mul-narrow-columns
 mul-narrow-columns c = let l = first (c .before) in omega arith
 
@@ -122,21 +119,6 @@ part-narrow-columns-start-3 c = let l = second (c .before .before .before) in om
 
 part-narrow-columns-end-3 : tie.Need-part-narrow-columns-end-3
 part-narrow-columns-end-3 c = let l = second (c .before .before .before) in omega arith
-
-mul-narrow-columns-4 : tie.Need-mul-narrow-columns-4
-mul-narrow-columns-4 c = search needs
-
-element-copy-out-narrow-columns : tie.Need-element-copy-out-narrow-columns
-element-copy-out-narrow-columns c = search needs
-
-add-narrow-columns : tie.Need-add-narrow-columns
-add-narrow-columns c = search needs
-
-mul-narrow-columns-5 : tie.Need-mul-narrow-columns-5
-mul-narrow-columns-5 c = search needs
-
-element-copy-out-narrow-columns-2 : tie.Need-element-copy-out-narrow-columns-2
-element-copy-out-narrow-columns-2 c = search needs
 
 narrow-columns-requires : tie.Need-narrow-columns-requires
 narrow-columns-requires c κs =
@@ -174,7 +156,7 @@ narrow-spec =
     (tie.spec
     place-of-requires
     place-of-requires-2
-    wide-requires
+    (λ c κs. search needs)
     mul-narrow-columns
     sub-narrow-columns
     part-narrow-columns-start
@@ -187,10 +169,6 @@ narrow-spec =
     sub-narrow-columns-3
     part-narrow-columns-start-3
     part-narrow-columns-end-3
-    mul-narrow-columns-4
-    element-copy-out-narrow-columns
-    add-narrow-columns
-    mul-narrow-columns-5
-    element-copy-out-narrow-columns-2
+    (λ c. search needs) (λ c. search needs) (λ c. search needs) (λ c. search needs) (λ c. search needs)
     narrow-columns-requires
     returns)

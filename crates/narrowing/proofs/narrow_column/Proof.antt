@@ -10,24 +10,12 @@ use Rattle.narrowing.proofs.Narrowing.{narrows-none, narrows-keep, same
 use Rattle.narrowing.proofs.narrow_column.Statement.{statement}
 use Rattle.narrowing.proofs.narrow_column.Tie as tie
 
-column-of-requires : tie.Need-column-of-requires
-column-of-requires c κs = search needs
-
 returns : tie.Need-returns
 returns c =
     let a = c .before .before .before .before .args in (
       c .before .before .before .before .pre .0,
       λ scope h e. narrows-none (λ (b : List ℕ). agreeing (cells (a .scope-a .now) (a .a .now)) (cells scope b)) (length scope) (a .table .now) (a .start) (a .end) (a .words .now),
     )
-
-mul-keep : tie.Need-mul-keep
-mul-keep c = search needs
-
-shared-slice-read-keep : tie.Need-shared-slice-read-keep
-shared-slice-read-keep c = search needs
-
-keep-requires : tie.Need-keep-requires
-keep-requires c κs = search needs
 
 returns-2 : tie.Need-returns-2
 returns-2 c =
@@ -45,4 +33,8 @@ returns-2 c =
 pub narrow-column-spec : {M : Type 1} → statement M
 narrow-column-spec =
     tie.close
-    (tie.spec column-of-requires returns mul-keep shared-slice-read-keep keep-requires returns-2)
+    (tie.spec
+    (λ c κs. search needs)
+    returns
+    (λ c. search needs) (λ c. search needs) (λ c κs. search needs)
+    returns-2)

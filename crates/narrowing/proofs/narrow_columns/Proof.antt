@@ -40,15 +40,6 @@ loop-holds c =
       ),
     )
 
-wide-requires : tie.Need-wide-requires Inv-loop μ-loop
-wide-requires c κs = search needs
-
-wide-requires-2 : tie.Need-wide-requires-2 Inv-loop μ-loop
-wide-requires-2 c κs = search needs
-
-mul-narrow-column : tie.Need-mul-narrow-column Inv-loop μ-loop
-mul-narrow-column c = search needs
-
 shared-slice-read-narrow-column : tie.Need-shared-slice-read-narrow-column Inv-loop μ-loop
 shared-slice-read-narrow-column c = omega (arith, below (c .before .before), c .before .wide2 .ensures .0)
 
@@ -88,9 +79,7 @@ narrow-columns-spec =
     Inv-loop
     μ-loop
     loop-holds
-    wide-requires
-    wide-requires-2
-    mul-narrow-column
+    (λ c κs. search needs) (λ c κs. search needs) (λ c. search needs)
     shared-slice-read-narrow-column
     narrow-column-requires
     add-j

@@ -55,24 +55,6 @@ module _ (c : tie.After-wide) where
 narrow-requires : tie.Need-narrow-requires
 narrow-requires c κs = c .before .before .before .pre
 
-wide-requires : tie.Need-wide-requires
-wide-requires c κs = search needs
-
-add-end : tie.Need-add-end
-add-end c = search needs
-
-mul-end : tie.Need-mul-end
-mul-end c = search needs
-
-element-copy-out-end : tie.Need-element-copy-out-end
-element-copy-out-end c = search needs
-
-mul-next : tie.Need-mul-next
-mul-next c = search needs
-
-element-copy-out-next : tie.Need-element-copy-out-next
-element-copy-out-next c = search needs
-
 next-requires : tie.Need-next-requires
 next-requires c κs = bounds (c .before .before .before .before)
 
@@ -93,11 +75,7 @@ narrow-member-spec =
     tie.close
     (tie.spec
     narrow-requires
-    wide-requires
-    add-end
-    mul-end
-    element-copy-out-end
-    mul-next
-    element-copy-out-next
+    (λ c κs. search needs) (λ c. search needs) (λ c. search needs) (λ c. search needs)
+    (λ c. search needs) (λ c. search needs)
     next-requires
     returns)

@@ -62,12 +62,6 @@ loop-holds c =
     let s = c .before .before .before in
     (omega arith, (s .pre .0, narrowed-none (network s) (own s) (s .args .words .now)))
 
-mul-narrow-member : tie.Need-mul-narrow-member Inv-loop μ-loop
-mul-narrow-member c = search needs
-
-shared-slice-read-narrow-member : tie.Need-shared-slice-read-narrow-member Inv-loop μ-loop
-shared-slice-read-narrow-member c = search needs
-
 narrow-member-requires : tie.Need-narrow-member-requires Inv-loop μ-loop
 narrow-member-requires c κs =
     let turn = c .before .before in
@@ -98,12 +92,6 @@ returns c =
             },
       ),
     )
-
-add-j : tie.Need-add-j Inv-loop μ-loop
-add-j c = search needs
-
-loop-less : tie.Need-loop-less Inv-loop μ-loop
-loop-less c = search needs
 
 -- the words once the member is passed
 passed : (c : tie.Joined1 Inv-loop μ-loop) → let s = start (c .before .before) in (length (c .if1 .words) ≡ 64) × Narrowed (network s) (own s) (s .args .words .now) (c .if1 .words)
@@ -137,11 +125,9 @@ narrow-members-spec =
     Inv-loop
     μ-loop
     loop-holds
-    mul-narrow-member
-    shared-slice-read-narrow-member
+    (λ c. search needs) (λ c. search needs)
     narrow-member-requires
     returns
-    add-j
-    loop-less
+    (λ c. search needs) (λ c. search needs)
     loop-again
     returns-2)

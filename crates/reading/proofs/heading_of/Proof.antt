@@ -31,38 +31,11 @@ line-some c =
     let after = c .before .before in
     sym (line-read after) ∙ found-at (after .before .before .before .args .text .now) (after .line .result) (numbers after) (c .if1 .left)
 
-slice-aggregate-line : tie.Need-slice-aggregate-line
-slice-aggregate-line c = search needs
-
-line-requires : tie.Need-line-requires
-line-requires c κs = search needs
-
 returns : tie.Need-returns
 returns c =
     let after = c .before .before in
     let t = after .before .before .before .args .text .now in
     (sym (heading-none t (sym (line-read after) ∙ found-none t (after .line .result) (numbers after) (c .if1 .taken))), (search needs, (search needs, search needs)))
-
-array-read-wide : tie.Need-array-read-wide
-array-read-wide c = search needs
-
-wide-requires : tie.Need-wide-requires
-wide-requires c κs = search needs
-
-array-read-wide-2 : tie.Need-array-read-wide-2
-array-read-wide-2 c = search needs
-
-wide-requires-2 : tie.Need-wide-requires-2
-wide-requires-2 c κs = search needs
-
-array-read-wide-3 : tie.Need-array-read-wide-3
-array-read-wide-3 c = search needs
-
-wide-requires-3 : tie.Need-wide-requires-3
-wide-requires-3 c κs = search needs
-
-within-requires : tie.Need-within-requires
-within-requires c κs = search needs
 
 returns-2 : tie.Need-returns-2
 returns-2 c =
@@ -72,9 +45,6 @@ returns-2 c =
     let t = after .before .before .before .args .text .now in
     let wrong = sym (c .before .within .ensures) ∙ not-true _ (c .if2 .taken) in
     (sym (heading-relations t (numbers after) (drop (after .line .result) t) (line-some read) (sized .before .before .wide .result) (sized .before .wide2 .result) (sized .wide3 .result) (sized .before .before .wide .ensures .0) (sized .before .wide2 .ensures .0) (sized .wide3 .ensures .0) wrong), (search needs, (search needs, search needs)))
-
-within-requires-2 : tie.Need-within-requires-2
-within-requires-2 c κs = search needs
 
 returns-3 : tie.Need-returns-3
 returns-3 c =
@@ -113,18 +83,12 @@ pub heading-of-spec : {M : Type 1} → statement M
 heading-of-spec =
     tie.close
     (tie.spec
-    slice-aggregate-line
-    line-requires
+    (λ c. search needs) (λ c κs. search needs)
     returns
-    array-read-wide
-    wide-requires
-    array-read-wide-2
-    wide-requires-2
-    array-read-wide-3
-    wide-requires-3
-    within-requires
+    (λ c. search needs) (λ c κs. search needs) (λ c. search needs) (λ c κs. search needs)
+    (λ c. search needs) (λ c κs. search needs) (λ c κs. search needs)
     returns-2
-    within-requires-2
+    (λ c κs. search needs)
     returns-3
     returns-4
     returns-5)

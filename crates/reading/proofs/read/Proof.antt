@@ -74,19 +74,10 @@ module _ (c : tie.After-lines) where
       let relations = sym (listed .relations-at .ensures .0) ∙ found-at t next (network listed) (c .before .before .if3 .left) in
       instance-found t (numbersOf h) (drop (h .next) t) (heading-some (headed listed)) (network listed) (drop next t) t members (c .lines .result) relations (c .lines .ensures)
 
-nothing-requires : tie.Need-nothing-requires
-nothing-requires c κs = search needs
-
 returns : tie.Need-returns
 returns c =
     let t = c .before .before .before .args .text .now in
     stands-none t (c .nothing .result) _ _ _ (read-long t (c .before .if1 .taken)) (c .nothing .ensures)
-
-heading-of-requires : tie.Need-heading-of-requires
-heading-of-requires c κs = search needs
-
-nothing-requires-2 : tie.Need-nothing-requires-2
-nothing-requires-2 c κs = search needs
 
 returns-2 : tie.Need-returns-2
 returns-2 c =
@@ -95,12 +86,6 @@ returns-2 c =
     let h = after .heading-of .result in
     let absent = sym (after .heading-of .ensures .0) ∙ found-none t (h .next) (numbersOf h) (c .before .if2 .taken) in
     stands-none t (c .nothing2 .result) _ _ _ (read-none t (after .before .if1 .left) (instance-none t absent)) (c .nothing2 .ensures)
-
-relations-at-requires : tie.Need-relations-at-requires
-relations-at-requires c κs = search needs
-
-nothing-requires-3 : tie.Need-nothing-requires-3
-nothing-requires-3 c κs = search needs
 
 returns-3 : tie.Need-returns-3
 returns-3 c =
@@ -115,18 +100,12 @@ lines-requires c κs =
     let after = c .before .before in
     (positive (after .relations-at .result .next) (c .before .if3 .left), (has-members (headed after), omega (arith, few (headed after))))
 
-nothing-requires-4 : tie.Need-nothing-requires-4
-nothing-requires-4 c κs = search needs
-
 returns-4 : tie.Need-returns-4
 returns-4 c =
     let after = c .before .before in
     let headed = headed (listed after) in
     let absent = instance-read after ∙ found-none (text headed) (after .lines .result) (whole-instance after) (c .before .if4 .taken) in
     stands-none (text headed) (c .nothing4 .result) _ _ _ (read-none (text headed) (headed .before .before .if1 .left) absent) (c .nothing4 .ensures)
-
-nothing-requires-5 : tie.Need-nothing-requires-5
-nothing-requires-5 c κs = search needs
 
 returns-5 : tie.Need-returns-5
 returns-5 c =
@@ -159,18 +138,16 @@ pub read-spec : {M : Type 1} → statement M
 read-spec =
     tie.close
     (tie.spec
-    nothing-requires
+    (λ c κs. search needs)
     returns
-    heading-of-requires
-    nothing-requires-2
+    (λ c κs. search needs) (λ c κs. search needs)
     returns-2
-    relations-at-requires
-    nothing-requires-3
+    (λ c κs. search needs) (λ c κs. search needs)
     returns-3
     lines-requires
-    nothing-requires-4
+    (λ c κs. search needs)
     returns-4
-    nothing-requires-5
+    (λ c κs. search needs)
     returns-5
     cast-each
     mul-filled

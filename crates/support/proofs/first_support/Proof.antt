@@ -88,18 +88,6 @@ stage c =
 
 -- ---- The needs
 
-mul-r : tie.Need-mul-r
-mul-r c = search needs
-
-shared-slice-read-r : tie.Need-shared-slice-read-r
-shared-slice-read-r c = search needs
-
-wide-requires : tie.Need-wide-requires
-wide-requires c κs = search needs
-
-mul-is-live : tie.Need-mul-is-live
-mul-is-live c = search needs
-
 element-copy-out-is-live : tie.Need-element-copy-out-is-live
 element-copy-out-is-live c =
     let a = c .before .before .before .before .before .before in
@@ -164,10 +152,7 @@ pub first-support-spec : {M : Type 1} → statement M
 first-support-spec =
     tie.close
     (tie.spec
-    mul-r
-    shared-slice-read-r
-    wide-requires
-    mul-is-live
+    (λ c. search needs) (λ c. search needs) (λ c κs. search needs) (λ c. search needs)
     element-copy-out-is-live
     add-is-live
     is-live-requires

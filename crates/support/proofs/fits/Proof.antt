@@ -105,9 +105,6 @@ returns-2 c =
 add-j : tie.Need-add-j Inv-loop μ-loop
 add-j c = let T = entry (c .before .before .before .before) .pre .1 in omega (arith, T .inside, T .few, c .before .loop-test .taken)
 
-loop-less : tie.Need-loop-less Inv-loop μ-loop
-loop-less c = search needs
-
 -- the tuple agrees with the seeking tuple
 agrees : (c : tie.Else1 Inv-loop μ-loop) → agreeing (seeking (entry (c .before))) (cellsOf (net (entry (c .before))) (tried (entry (c .before)))) ≡ true
 agrees c = compared (c .before) ∙ not-false _ (c .if1 .left)
@@ -161,6 +158,6 @@ fits-spec =
     tuples-agree-requires-2
     returns-2
     add-j
-    loop-less
+    (λ c. search needs)
     loop-again
     returns-3)

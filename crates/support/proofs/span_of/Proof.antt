@@ -5,24 +5,6 @@ use borrow.Author.Needs.{needs}
 use Rattle.support.proofs.span_of.Statement.{statement}
 use Rattle.support.proofs.span_of.Tie as tie
 
-wide-requires : tie.Need-wide-requires
-wide-requires c κs = search needs
-
-mul-first : tie.Need-mul-first
-mul-first c = search needs
-
-element-copy-out-first : tie.Need-element-copy-out-first
-element-copy-out-first c = search needs
-
-add-end : tie.Need-add-end
-add-end c = search needs
-
-mul-end : tie.Need-mul-end
-mul-end c = search needs
-
-element-copy-out-end : tie.Need-element-copy-out-end
-element-copy-out-end c = search needs
-
 add-start : tie.Need-add-start
 add-start c = rw (c .before .before .before .wide .ensures .0) (omega arith)
 
@@ -36,12 +18,8 @@ pub span-of-spec : {M : Type 1} → statement M
 span-of-spec =
     tie.close
     (tie.spec
-    wide-requires
-    mul-first
-    element-copy-out-first
-    add-end
-    mul-end
-    element-copy-out-end
+    (λ c κs. search needs) (λ c. search needs) (λ c. search needs) (λ c. search needs)
+    (λ c. search needs) (λ c. search needs)
     add-start
     returns
     returns-2)

@@ -10,26 +10,8 @@ use borrow.Author.Needs.{needs}
 use Rattle.wire.proofs.put_u16.Statement.{statement}
 use Rattle.wire.proofs.put_u16.Tie as tie
 
-mul-a0 : tie.Need-mul-a0
-mul-a0 c = search needs
-
-add-a1 : tie.Need-add-a1
-add-a1 c = search needs
-
-cast-d : tie.Need-cast-d
-cast-d c = search needs
-
-slice-write-d : tie.Need-slice-write-d
-slice-write-d c = search needs
-
-cast-d-2 : tie.Need-cast-d-2
-cast-d-2 c = search needs
-
 slice-write-d-2 : tie.Need-slice-write-d-2
 slice-write-d-2 c = simp length-set (omega arith)
-
-same-length : tie.Need-same-length
-same-length c = search needs
 
 returns : tie.Need-returns
 returns c = simp add-one (sets-eq (bytesOf 2 (c .args .x)) (c .args .d .now) (2 * c .args .i) (c .pre))
@@ -37,4 +19,8 @@ returns c = simp add-one (sets-eq (bytesOf 2 (c .args .x)) (c .args .d .now) (2 
 pub put-u16-spec : {M : Type 1} → statement M
 put-u16-spec =
     tie.close
-    (tie.spec mul-a0 add-a1 cast-d slice-write-d cast-d-2 slice-write-d-2 same-length returns)
+    (tie.spec
+    (λ c. search needs) (λ c. search needs) (λ c. search needs) (λ c. search needs) (λ c. search needs)
+    slice-write-d-2
+    (λ c. search needs)
+    returns)

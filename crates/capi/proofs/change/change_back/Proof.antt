@@ -1,30 +1,15 @@
 -- `change_back` makes the call and writes back.
 -- From what both ensure, and that the subject of a reply fits its byte.
 use mathlib.Core.Path.{ap, _∙_}
-use Rattle.capi_parts.proofs.Packed.{replied-subject}
+use Rattle.encoding.proofs.Packed.{replied-subject}
 use Rattle.model.specs.Reply.{Reply}
-use Rattle.capi_parts.specs.Packed.{writtenBack}
+use Rattle.encoding.specs.Packed.{writtenBack}
 use borrow.Author.Needs.{needs}
 use Rattle.capi.proofs.change.change_back.Statement.{statement}
 use Rattle.capi.proofs.change.change_back.Tie as tie
 
-change-entries-requires : tie.Need-change-entries-requires
-change-entries-requires c κs = search needs
-
 write-back-requires : tie.Need-write-back-requires
 write-back-requires c κs = (replied-subject _ _ (c .before .before .before .before .before .before .before .before .change-entries .ensures), search needs)
-
-same-length : tie.Need-same-length
-same-length c = search needs
-
-same-length-2 : tie.Need-same-length-2
-same-length-2 c = search needs
-
-same-length-3 : tie.Need-same-length-3
-same-length-3 c = search needs
-
-same-length-4 : tie.Need-same-length-4
-same-length-4 c = search needs
 
 returns : tie.Need-returns
 returns c =
@@ -35,10 +20,7 @@ pub change-back-spec : {M : Type 1} → statement M
 change-back-spec =
     tie.close
     (tie.spec
-    change-entries-requires
+    (λ c κs. search needs)
     write-back-requires
-    same-length
-    same-length-2
-    same-length-3
-    same-length-4
+    (λ c. search needs) (λ c. search needs) (λ c. search needs) (λ c. search needs)
     returns)

@@ -5,7 +5,7 @@ use Rattle.capi.proofs.Calls.{whole-written, cond-whole, cond-not}
 use mathlib.Core.Bool.{Bool, true, _&&_}
 use borrow.Author.Tests.{not-true, not-false, eq-eqb, ne-eqb}
 use lib.ListN.{length}
-use Rattle.capi_parts.specs.Whole.{whole}
+use Rattle.encoding.specs.Whole.{whole}
 use Rattle.capi.specs.Call.{Lent, lent, wholeLent, answered}
 use borrow.Author.Needs.{needs}
 use Rattle.capi.proofs.change.change_call.Statement.{statement}
@@ -21,9 +21,6 @@ ids-whole c = whole 2 (length (c .args .ids .now))
 
 all-whole : (c : tie.Else1) → wholeLent (given (c .before .before .before .before .before .before .before .before .before)) ≡ true
 all-whole c = sym (c .before .change-whole .ensures) ∙ not-false _ (c .if1 .left)
-
-change-whole-requires : tie.Need-change-whole-requires
-change-whole-requires c κs = search needs
 
 returns : tie.Need-returns
 unfolding answered
@@ -41,12 +38,6 @@ returns-2 c =
 change-bytes-requires : tie.Need-change-bytes-requires
 change-bytes-requires c κs = whole-written (given (c .before .before .before .before .before .before .before .before .before .before .before .before)) (all-whole (c .before .before .before))
 
-same-length : tie.Need-same-length
-same-length c = search needs
-
-same-length-2 : tie.Need-same-length-2
-same-length-2 c = search needs
-
 returns-3 : tie.Need-returns-3
 unfolding answered
 returns-3 c =
@@ -59,10 +50,9 @@ pub change-call-spec : {M : Type 1} → statement M
 change-call-spec =
     tie.close
     (tie.spec
-    change-whole-requires
+    (λ c κs. search needs)
     returns
     returns-2
     change-bytes-requires
-    same-length
-    same-length-2
+    (λ c. search needs) (λ c. search needs)
     returns-3)

@@ -35,38 +35,14 @@ loop-holds c =
     let a = c .before .before .before .args in
     (search needs, λ N t. blanked-none N (a .m) (a .members .now) (a .words .now) (a .numbers .now))
 
-mul-wide : tie.Need-mul-wide Inv-loop μ-loop
-mul-wide c = search needs
-
-shared-slice-read-wide : tie.Need-shared-slice-read-wide Inv-loop μ-loop
-shared-slice-read-wide c = search needs
-
-wide-requires : tie.Need-wide-requires Inv-loop μ-loop
-wide-requires c κs = search needs
-
-mul-first : tie.Need-mul-first Inv-loop μ-loop
-mul-first c = search needs
-
 element-copy-out-first : tie.Need-element-copy-out-first Inv-loop μ-loop
 element-copy-out-first c = omega (arith, relation c)
-
-add-end : tie.Need-add-end Inv-loop μ-loop
-add-end c = search needs
-
-mul-end : tie.Need-mul-end Inv-loop μ-loop
-mul-end c = search needs
 
 element-copy-out-end : tie.Need-element-copy-out-end Inv-loop μ-loop
 element-copy-out-end c = omega (arith, relation (c .before))
 
-mul-wide-2 : tie.Need-mul-wide-2 Inv-loop μ-loop
-mul-wide-2 c = search needs
-
 element-copy-out-wide : tie.Need-element-copy-out-wide Inv-loop μ-loop
 element-copy-out-wide c = let start = c .before .before .before .before .before .before .before .before .before in omega (arith, start .pre .0 .1 .pairs .few)
-
-wide-requires-2 : tie.Need-wide-requires-2 Inv-loop μ-loop
-wide-requires-2 c κs = search needs
 
 blank-dead-requires : tie.Need-blank-dead-requires Inv-loop μ-loop
 blank-dead-requires c κs =
@@ -89,12 +65,6 @@ blank-dead-requires c κs =
       omega arith,
       (omega arith, (omega (arith, ap (λ (n : ℕ). n * a .m) size, (l .inv .1 N t) .long), start .pre .1 .1)),
     )
-
-add-p : tie.Need-add-p Inv-loop μ-loop
-add-p c = search needs
-
-loop-less : tie.Need-loop-less Inv-loop μ-loop
-loop-less c = search needs
 
 loop-again : tie.Need-loop-again Inv-loop μ-loop
 loop-again c =
@@ -137,20 +107,15 @@ blank-all-spec =
     Inv-loop
     μ-loop
     loop-holds
-    mul-wide
-    shared-slice-read-wide
-    wide-requires
-    mul-first
+    (λ c. search needs) (λ c. search needs) (λ c κs. search needs) (λ c. search needs)
     element-copy-out-first
-    add-end
-    mul-end
+    (λ c. search needs) (λ c. search needs)
     element-copy-out-end
-    mul-wide-2
+    (λ c. search needs)
     element-copy-out-wide
-    wide-requires-2
+    (λ c κs. search needs)
     blank-dead-requires
-    add-p
-    loop-less
+    (λ c. search needs) (λ c. search needs)
     loop-again
     same-length
     returns)

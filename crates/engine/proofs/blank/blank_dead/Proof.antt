@@ -60,9 +60,6 @@ turned c =
     (blank-live (a .m) (a .start) (a .first) (a .words .now) (a .numbers .now) n (l .g + 1 - a .first) (l .numbers) next (l .inv .0) fits (sym lives ∙ not-false (c .before .is-live .result) (w .0 .left))))
     (c .if1 .came)
 
-wide-requires : tie.Need-wide-requires Inv-loop μ-loop
-wide-requires c κs = search needs
-
 loop-holds : tie.Need-loop-holds Inv-loop μ-loop
 loop-holds c =
     let a = c .before .before .before .args in
@@ -72,20 +69,11 @@ loop-holds c =
       (search needs, (search needs, omega (arith, zero-mul (a .m), ap (λ (n : ℕ). n * a .m) e))),
     )
 
-is-live-requires : tie.Need-is-live-requires Inv-loop μ-loop
-is-live-requires c κs = search needs
-
 blank-requires : tie.Need-blank-requires Inv-loop μ-loop
 blank-requires c κs = let i = inside (c .before .before .before) in (omega arith, omega arith)
 
 add-at : tie.Need-add-at Inv-loop μ-loop
 add-at c = let i = inside (c .before .before) in omega arith
-
-add-g : tie.Need-add-g Inv-loop μ-loop
-add-g c = search needs
-
-loop-less : tie.Need-loop-less Inv-loop μ-loop
-loop-less c = search needs
 
 loop-again : tie.Need-loop-again Inv-loop μ-loop
 loop-again c = let i = inside (c .before .before) in (turned c, (omega arith, (omega arith, omega arith)))
@@ -106,13 +94,12 @@ blank-dead-spec =
     (tie.spec
     Inv-loop
     μ-loop
-    wide-requires
+    (λ c κs. search needs)
     loop-holds
-    is-live-requires
+    (λ c κs. search needs)
     blank-requires
     add-at
-    add-g
-    loop-less
+    (λ c. search needs) (λ c. search needs)
     loop-again
     same-length
     returns)

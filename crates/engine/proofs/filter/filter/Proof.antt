@@ -52,9 +52,6 @@ copying c = c .before .before .before
 
 -- ---- The needs
 
-copied-requires : tie.Need-copied-requires
-copied-requires c κs = search needs
-
 settle-requires : tie.Need-settle-requires
 settle-requires c κs =
     let k = c .before .before in
@@ -69,12 +66,6 @@ put-back-requires c κs =
     ap length (s .settle .ensures .0)
     ∙ written-length (total (network G)) (filtered (network G) (listed G) (liveIn G (k .copied .result))) (k .copied .result)
     ∙ k .copied .ensures .0
-
-same-length : tie.Need-same-length
-same-length c = search needs
-
-same-length-2 : tie.Need-same-length-2
-same-length-2 c = search needs
 
 returns : tie.Need-returns
 returns c =
@@ -95,4 +86,9 @@ returns c =
 pub filter-spec : {M : Type 1} → statement M
 filter-spec =
     tie.close
-    (tie.spec copied-requires settle-requires put-back-requires same-length same-length-2 returns)
+    (tie.spec
+    (λ c κs. search needs)
+    settle-requires
+    put-back-requires
+    (λ c. search needs) (λ c. search needs)
+    returns)

@@ -99,12 +99,6 @@ loop-holds c =
       rest = full-rest G (start .pre .1 .0) (c .full .result .words) (a .words .now) (fill .last .0) (length (a .members .now)) refl (c .full .ensures);
     }
 
-take-requires : tie.Need-take-requires Inv-loop μ-loop
-take-requires c κs = search needs
-
-wide-requires : tie.Need-wide-requires Inv-loop μ-loop
-wide-requires c κs = search needs
-
 -- the queue that a visit gives back has sixteen words
 visit-words : (c : tie.After-visit Inv-loop μ-loop) → Words (c .visit .result .words)
 visit-words c =
@@ -197,8 +191,7 @@ settle-spec =
     cast-full
     full-requires
     loop-holds
-    take-requires
-    wide-requires
+    (λ c κs. search needs) (λ c κs. search needs)
     visit-requires
     loop-less
     loop-again

@@ -155,23 +155,11 @@ id-is c =
 
 -- ---- The needs
 
-wide-requires : tie.Need-wide-requires
-wide-requires c κs = search needs
-
-wide-requires-2 : tie.Need-wide-requires-2
-wide-requires-2 c κs = search needs
-
-div-base : tie.Need-div-base
-div-base c = search needs
-
 mul-base : tie.Need-mul-base
 mul-base c = omega (arith, div-mul-le-self (c .wide2 .result) (c .before .wide .result))
 
 add-end : tie.Need-add-end
 add-end c = omega (arith, div-mul-le-self (c .wide2 .result) (c .before .wide .result))
-
-rem-place : tie.Need-rem-place
-rem-place c = search needs
 
 mul-if1 : tie.Need-mul-if1
 mul-if1 c = let i = inside (entry c) in search needs
@@ -200,9 +188,6 @@ all-live-requires c κs =
     (subst (Chosen ws ts ms (baseOf a) (a .args .m)) (sym (loaded-is w (l .load .ensures)))
     (chosen (seeker a) (is-index (l .before .before)))))
 
-same-length : tie.Need-same-length
-same-length c = search needs
-
 returns : tie.Need-returns
 returns c =
     let l = c .before .before .before .before in
@@ -228,12 +213,6 @@ mul-first-support c =
     let w = c .before .before .before in
     omega (arith, div-mul-le-self (w .wide2 .result) (w .before .wide .result))
 
-sub-first-support : tie.Need-sub-first-support
-sub-first-support c = search needs
-
-part-first-support-start : tie.Need-part-first-support-start
-part-first-support-start c = search needs
-
 part-first-support-end : tie.Need-part-first-support-end
 part-first-support-end c = end-is (c .before .before .before)
 
@@ -250,9 +229,6 @@ store-requires c κs =
     let a = entry w in
     (omega (arith, each-is w, inside a), omega (arith, each-is w, sound a .few))
 
-same-length-2 : tie.Need-same-length-2
-same-length-2 c = search needs
-
 returns-2 : tie.Need-returns-2
 returns-2 c =
     let f = c .before .before .before .before .before .before in
@@ -265,19 +241,10 @@ returns-2 c =
     (renewed-found (seeker a)
     (f .first-support .result .ok) (f .first-support .result .tuples) (answer-is f) (c .before .before .before .before .before .if3 .taken))
 
-mul-wide : tie.Need-mul-wide
-mul-wide c = search needs
-
 shared-slice-read-wide : tie.Need-shared-slice-read-wide
 shared-slice-read-wide c =
     let w = c .before .before .before .before .before .before .before in
     omega (arith, pair-is w, in-members (entry w))
-
-wide-requires-3 : tie.Need-wide-requires-3
-wide-requires-3 c κs = search needs
-
-mul-clear : tie.Need-mul-clear
-mul-clear c = search needs
 
 element-copy-out-clear : tie.Need-element-copy-out-clear
 element-copy-out-clear c = let a = entry (looked (c .before)) in omega (arith, relation-is (c .before), member-below (G a) (sound a) (a .args .p) (in-members a))
@@ -307,32 +274,28 @@ pub renew-spec : {M : Type 1} → statement M
 renew-spec =
     tie.close
     (tie.spec
-    wide-requires
-    wide-requires-2
-    div-base
+    (λ c κs. search needs) (λ c κs. search needs) (λ c. search needs)
     mul-base
     add-end
-    rem-place
+    (λ c. search needs)
     mul-if1
     slice-read-if1
     load-requires
     all-live-requires
-    same-length
+    (λ c. search needs)
     returns
     mul-low
     array-write-low
     mul-first-support
-    sub-first-support
-    part-first-support-start
+    (λ c. search needs) (λ c. search needs)
     part-first-support-end
     first-support-requires
     store-requires
-    same-length-2
+    (λ c. search needs)
     returns-2
-    mul-wide
+    (λ c. search needs)
     shared-slice-read-wide
-    wide-requires-3
-    mul-clear
+    (λ c κs. search needs) (λ c. search needs)
     element-copy-out-clear
     add-clear
     clear-requires

@@ -164,17 +164,11 @@ turned c =
 
 -- ---- The needs
 
-wide-requires : tie.Need-wide-requires Inv-loop μ-loop
-wide-requires c κs = search needs
-
 mul-wide : tie.Need-mul-wide Inv-loop μ-loop
 mul-wide c = omega (arith, c .wide .ensures .1)
 
 shared-slice-read-wide : tie.Need-shared-slice-read-wide Inv-loop μ-loop
 shared-slice-read-wide c = omega (arith, c .before .wide .ensures .0, in-members (c .before .before .before .before .before .before))
-
-wide-requires-2 : tie.Need-wide-requires-2 Inv-loop μ-loop
-wide-requires-2 c κs = search needs
 
 mul-first : tie.Need-mul-first Inv-loop μ-loop
 mul-first c = omega (arith, relation-below c)
@@ -191,17 +185,11 @@ mul-end c = omega (arith, relation-below (c .before))
 element-copy-out-end : tie.Need-element-copy-out-end Inv-loop μ-loop
 element-copy-out-end c = omega (arith, relation-below (c .before))
 
-wide-requires-3 : tie.Need-wide-requires-3 Inv-loop μ-loop
-wide-requires-3 c κs = search needs
-
 mul-wide-2 : tie.Need-mul-wide-2 Inv-loop μ-loop
 mul-wide-2 c = omega (arith, c .wide3 .ensures .1)
 
 element-copy-out-wide : tie.Need-element-copy-out-wide Inv-loop μ-loop
 element-copy-out-wide c = let a = found (c .before .before .before) in omega (arith, c .wide3 .ensures .0, in-members a, sound a .tables .pairs .few)
-
-wide-requires-4 : tie.Need-wide-requires-4 Inv-loop μ-loop
-wide-requires-4 c κs = search needs
 
 next-requires : tie.Need-next-requires Inv-loop μ-loop
 next-requires c κs =
@@ -218,12 +206,6 @@ loop-holds c =
 
 sub-x : tie.Need-sub-x Inv-loop μ-loop
 sub-x c = c .before .loop .inv .from-first
-
-wide-requires-5 : tie.Need-wide-requires-5 Inv-loop μ-loop
-wide-requires-5 c κs = search needs
-
-wide-requires-6 : tie.Need-wide-requires-6 Inv-loop μ-loop
-wide-requires-6 c κs = search needs
 
 mul-at : tie.Need-mul-at Inv-loop μ-loop
 mul-at c = omega (arith, place-small c)
@@ -300,24 +282,23 @@ visit-spec =
     (tie.spec
     Inv-loop
     μ-loop
-    wide-requires
+    (λ c κs. search needs)
     mul-wide
     shared-slice-read-wide
-    wide-requires-2
+    (λ c κs. search needs)
     mul-first
     element-copy-out-first
     add-end
     mul-end
     element-copy-out-end
-    wide-requires-3
+    (λ c κs. search needs)
     mul-wide-2
     element-copy-out-wide
-    wide-requires-4
+    (λ c κs. search needs)
     next-requires
     loop-holds
     sub-x
-    wide-requires-5
-    wide-requires-6
+    (λ c κs. search needs) (λ c κs. search needs)
     mul-at
     add-at
     renew-requires

@@ -33,36 +33,6 @@ columns-holds c = (omega arith, refl, λ k h. absurd (omega arith))
 loop-holds : tie.Need-loop-holds Inv-loop μ-loop Inv-columns μ-columns
 loop-holds c = (omega arith, c .before .columns .inv .1, λ l h. absurd (omega arith))
 
-mul-if1 : tie.Need-mul-if1 Inv-loop μ-loop Inv-columns μ-columns
-mul-if1 c = search needs
-
-shared-slice-read-if1 : tie.Need-shared-slice-read-if1 Inv-loop μ-loop Inv-columns μ-columns
-shared-slice-read-if1 c = search needs
-
-mul-if1-2 : tie.Need-mul-if1-2 Inv-loop μ-loop Inv-columns μ-columns
-mul-if1-2 c = search needs
-
-shared-slice-read-if1-2 : tie.Need-shared-slice-read-if1-2 Inv-loop μ-loop Inv-columns μ-columns
-shared-slice-read-if1-2 c = search needs
-
-mul-if2 : tie.Need-mul-if2 Inv-loop μ-loop Inv-columns μ-columns
-mul-if2 c = search needs
-
-shared-slice-read-if2 : tie.Need-shared-slice-read-if2 Inv-loop μ-loop Inv-columns μ-columns
-shared-slice-read-if2 c = search needs
-
-mul-if2-2 : tie.Need-mul-if2-2 Inv-loop μ-loop Inv-columns μ-columns
-mul-if2-2 c = search needs
-
-shared-slice-read-if2-2 : tie.Need-shared-slice-read-if2-2 Inv-loop μ-loop Inv-columns μ-columns
-shared-slice-read-if2-2 c = search needs
-
-add-j : tie.Need-add-j Inv-loop μ-loop Inv-columns μ-columns
-add-j c = search needs
-
-loop-less : tie.Need-loop-less Inv-loop μ-loop Inv-columns μ-columns
-loop-less c = search needs
-
 loop-again : tie.Need-loop-again Inv-loop μ-loop Inv-columns μ-columns
 loop-again c = (
   omega arith,
@@ -70,12 +40,6 @@ loop-again c = (
   below-more _ _ (c .before .before .before .before .loop .inv .2)
       (⊎-elim (λ w. clash-same-value _ _ (w .3 .left)) (λ w. clash-other-variable _ _ (w .left)) (c .if1 .came)),
 )
-
-add-i : tie.Need-add-i Inv-loop μ-loop Inv-columns μ-columns
-add-i c = search needs
-
-columns-less : tie.Need-columns-less Inv-loop μ-loop Inv-columns μ-columns
-columns-less c = search needs
 
 columns-again : tie.Need-columns-again Inv-loop μ-loop Inv-columns μ-columns
 columns-again c = (
@@ -110,19 +74,10 @@ agree-spec =
     μ-columns
     columns-holds
     loop-holds
-    mul-if1
-    shared-slice-read-if1
-    mul-if1-2
-    shared-slice-read-if1-2
-    mul-if2
-    shared-slice-read-if2
-    mul-if2-2
-    shared-slice-read-if2-2
-    add-j
-    loop-less
+    (λ c. search needs) (λ c. search needs) (λ c. search needs) (λ c. search needs) (λ c. search needs)
+    (λ c. search needs) (λ c. search needs) (λ c. search needs) (λ c. search needs) (λ c. search needs)
     loop-again
-    add-i
-    columns-less
+    (λ c. search needs) (λ c. search needs)
     columns-again
     returns
     returns-2)

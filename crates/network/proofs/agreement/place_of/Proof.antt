@@ -21,48 +21,12 @@ value-read c = simp (c .before .before .before .before .before .before .wide .en
 product : (c : tie.After-wide5) → c .wide5 .result * (c .before .before .before .wide3 .result - c .before .before .before .before .before .wide2 .result) ≤ 65535 * 65535
 product c = mul-le-mul {n₂ = 65535} {m₂ = 65535} (omega arith) (omega arith)
 
-wide-requires : tie.Need-wide-requires
-wide-requires c κs = search needs
-
-mul-wide : tie.Need-mul-wide
-mul-wide c = search needs
-
-element-copy-out-wide : tie.Need-element-copy-out-wide
-element-copy-out-wide c = search needs
-
-wide-requires-2 : tie.Need-wide-requires-2
-wide-requires-2 c κs = search needs
-
-add-wide : tie.Need-add-wide
-add-wide c = search needs
-
-mul-wide-2 : tie.Need-mul-wide-2
-mul-wide-2 c = search needs
-
-element-copy-out-wide-2 : tie.Need-element-copy-out-wide-2
-element-copy-out-wide-2 c = search needs
-
-wide-requires-3 : tie.Need-wide-requires-3
-wide-requires-3 c κs = search needs
-
 sub-width : tie.Need-sub-width
 sub-width c =
     let relation = c .before .before .before .before .wide .ensures .0 in
     let a = scope-read (c .before .before) in
     let e = scope-end-read c in
     omega (arith, c .before .before .before .before .before .pre .1)
-
-mul-wide-3 : tie.Need-mul-wide-3
-mul-wide-3 c = search needs
-
-element-copy-out-wide-3 : tie.Need-element-copy-out-wide-3
-element-copy-out-wide-3 c = search needs
-
-wide-requires-4 : tie.Need-wide-requires-4
-wide-requires-4 c κs = search needs
-
-wide-requires-5 : tie.Need-wide-requires-5
-wide-requires-5 c κs = search needs
 
 mul-tuple : tie.Need-mul-tuple
 mul-tuple c = omega (arith, product c)
@@ -86,19 +50,10 @@ pub place-of-spec : {M : Type 1} → statement M
 place-of-spec =
     tie.close
     (tie.spec
-    wide-requires
-    mul-wide
-    element-copy-out-wide
-    wide-requires-2
-    add-wide
-    mul-wide-2
-    element-copy-out-wide-2
-    wide-requires-3
+    (λ c κs. search needs) (λ c. search needs) (λ c. search needs) (λ c κs. search needs)
+    (λ c. search needs) (λ c. search needs) (λ c. search needs) (λ c κs. search needs)
     sub-width
-    mul-wide-3
-    element-copy-out-wide-3
-    wide-requires-4
-    wide-requires-5
+    (λ c. search needs) (λ c. search needs) (λ c κs. search needs) (λ c κs. search needs)
     mul-tuple
     add-tuple
     add-t10

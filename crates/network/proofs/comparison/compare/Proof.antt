@@ -92,9 +92,6 @@ agreed c =
     let start = entry (accepted tables) in
     sym (c .ids-agree .ensures ∙ ap (λ (N : Network). agree N (start .args .g) (start .args .h)) (described (tables .before .before .before)))
 
-fault-requires : tie.Need-fault-requires
-fault-requires c κs = search needs
-
 returns : tie.Need-returns
 returns c =
     let start = c .before .before .before .before in
@@ -102,9 +99,6 @@ returns c =
 
 offsets-requires : tie.Need-offsets-requires
 offsets-requires c κs = faultless-bounded (network (entry c)) (faultless (network (entry c)) (sound c))
-
-array-read-total : tie.Need-array-read-total
-array-read-total c = search needs
 
 returns-2 : tie.Need-returns-2
 returns-2 c =
@@ -145,10 +139,10 @@ pub compare-spec : {M : Type 1} → statement M
 compare-spec =
     tie.close
     (tie.spec
-    fault-requires
+    (λ c κs. search needs)
     returns
     offsets-requires
-    array-read-total
+    (λ c. search needs)
     returns-2
     returns-3
     ids-agree-requires

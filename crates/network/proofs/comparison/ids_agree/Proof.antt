@@ -41,12 +41,6 @@ relation-of-requires-2 c κs =
     let start = c .before .before .before in
     rw (last-start (network start) (sound start) (table start) (start .pre .1 .0)) (start .pre .1 .1 .1)
 
-wide-requires : tie.Need-wide-requires
-wide-requires c κs = search needs
-
-mul-x : tie.Need-mul-x
-mul-x c = search needs
-
 element-copy-out-x : tie.Need-element-copy-out-x
 element-copy-out-x c =
     let start = c .before .before .before .before .before in
@@ -58,12 +52,6 @@ sub-x : tie.Need-sub-x
 sub-x c =
     let start = c .before .before .before .before .before .before in
     rw (first (c .before)) (id-begun (network start) (sound start) (table start) (start .pre .1 .0) (start .args .g) (start .pre .1 .1 .0))
-
-wide-requires-2 : tie.Need-wide-requires-2
-wide-requires-2 c κs = search needs
-
-mul-y : tie.Need-mul-y
-mul-y c = search needs
 
 element-copy-out-y : tie.Need-element-copy-out-y
 element-copy-out-y c =
@@ -104,12 +92,10 @@ ids-agree-spec =
     (tie.spec
     relation-of-requires
     relation-of-requires-2
-    wide-requires
-    mul-x
+    (λ c κs. search needs) (λ c. search needs)
     element-copy-out-x
     sub-x
-    wide-requires-2
-    mul-y
+    (λ c κs. search needs) (λ c. search needs)
     element-copy-out-y
     sub-y
     tuples-agree-requires

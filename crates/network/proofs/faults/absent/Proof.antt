@@ -22,24 +22,12 @@ abbrev μ-loop : tie.MeasureT-loop
 loop-holds : tie.Need-loop-holds Inv-loop μ-loop
 loop-holds c = (search needs, refl)
 
-mul-if1 : tie.Need-mul-if1 Inv-loop μ-loop
-mul-if1 c = search needs
-
-shared-slice-read-if1 : tie.Need-shared-slice-read-if1 Inv-loop μ-loop
-shared-slice-read-if1 c = search needs
-
 returns : tie.Need-returns Inv-loop μ-loop
 returns c =
     let turn = c .before .before in
     let args = turn .before .before .args in
     sym (all-fails (different (args .x)) (args .scope .now) (turn .before .loop .j) 0 (turn .loop-test .taken) (ap not (eq-eqb (args .x) (getD (args .scope .now) (turn .before .loop .j) 0) (sym (c .if1 .taken)))))
     ∙ turn .before .loop .inv .1
-
-add-j : tie.Need-add-j Inv-loop μ-loop
-add-j c = search needs
-
-loop-less : tie.Need-loop-less Inv-loop μ-loop
-loop-less c = search needs
 
 loop-again : tie.Need-loop-again Inv-loop μ-loop
 loop-again c =
@@ -62,10 +50,8 @@ absent-spec =
     Inv-loop
     μ-loop
     loop-holds
-    mul-if1
-    shared-slice-read-if1
+    (λ c. search needs) (λ c. search needs)
     returns
-    add-j
-    loop-less
+    (λ c. search needs) (λ c. search needs)
     loop-again
     returns-2)

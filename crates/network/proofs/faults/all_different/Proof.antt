@@ -21,29 +21,11 @@ abbrev μ-loop : tie.MeasureT-loop
 loop-holds : tie.Need-loop-holds Inv-loop μ-loop
 loop-holds c = (search needs, refl)
 
-mul-absent : tie.Need-mul-absent Inv-loop μ-loop
-mul-absent c = search needs
-
-shared-slice-read-absent : tie.Need-shared-slice-read-absent Inv-loop μ-loop
-shared-slice-read-absent c = search needs
-
-add-absent : tie.Need-add-absent Inv-loop μ-loop
-add-absent c = search needs
-
-absent-requires : tie.Need-absent-requires Inv-loop μ-loop
-absent-requires c κs = search needs
-
 returns : tie.Need-returns Inv-loop μ-loop
 returns c =
     let turn = c .before .before .before in
     sym (pairwise-fails different (turn .before .before .before .args .scope .now) (turn .before .loop .i) 0 (turn .loop-test .taken) (sym (c .before .absent .ensures) ∙ not-true _ (c .if1 .taken)))
     ∙ turn .before .loop .inv .1
-
-add-i : tie.Need-add-i Inv-loop μ-loop
-add-i c = search needs
-
-loop-less : tie.Need-loop-less Inv-loop μ-loop
-loop-less c = search needs
 
 loop-again : tie.Need-loop-again Inv-loop μ-loop
 loop-again c =
@@ -63,12 +45,8 @@ all-different-spec =
     Inv-loop
     μ-loop
     loop-holds
-    mul-absent
-    shared-slice-read-absent
-    add-absent
-    absent-requires
+    (λ c. search needs) (λ c. search needs) (λ c. search needs) (λ c κs. search needs)
     returns
-    add-i
-    loop-less
+    (λ c. search needs) (λ c. search needs)
     loop-again
     returns-2)

@@ -79,9 +79,6 @@ scoped : (c : tie.After-proper-scopes) → c .proper-scopes .result ≡ all (λ 
 unfolding scopeOf
 scoped c = c .proper-scopes .ensures
 
-within-requires : tie.Need-within-requires
-within-requires c κs = search needs
-
 returns : tie.Need-returns
 returns c = rw (ap not (sym (counted (c .before)) ∙ not-true _ (c .if1 .taken))) refl
 
@@ -142,7 +139,7 @@ pub fault-spec : {M : Type 1} → statement M
 fault-spec =
     tie.close
     (tie.spec
-    within-requires
+    (λ c κs. search needs)
     returns
     proper-widths-requires
     totals-of-requires

@@ -9,16 +9,10 @@ use Rattle.model.specs.Fault.{different}
 use Rattle.network.proofs.faults.proper_scope.Statement.{statement}
 use Rattle.network.proofs.faults.proper_scope.Tie as tie
 
-all-variables-requires : tie.Need-all-variables-requires
-all-variables-requires c κs = search needs
-
 returns : tie.Need-returns
 returns c =
     let scope = c .before .before .before .args .scope .now in
     sym (ap (λ (b : Bool). b && pairwise different scope) (sym (c .before .all-variables .ensures) ∙ not-true _ (c .if1 .taken)))
-
-all-different-requires : tie.Need-all-different-requires
-all-different-requires c κs = search needs
 
 returns-2 : tie.Need-returns-2
 returns-2 c =
@@ -28,4 +22,4 @@ returns-2 c =
 
 pub proper-scope-spec : {M : Type 1} → statement M
 proper-scope-spec =
-    tie.close (tie.spec all-variables-requires returns all-different-requires returns-2)
+    tie.close (tie.spec (λ c κs. search needs) returns (λ c κs. search needs) returns-2)

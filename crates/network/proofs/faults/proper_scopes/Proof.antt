@@ -66,32 +66,14 @@ tested c =
 loop-holds : tie.Need-loop-holds Inv-loop μ-loop
 loop-holds c = (search needs, (refl, refl))
 
-mul-wide : tie.Need-mul-wide Inv-loop μ-loop
-mul-wide c = search needs
-
-element-copy-out-wide : tie.Need-element-copy-out-wide Inv-loop μ-loop
-element-copy-out-wide c = search needs
-
-wide-requires : tie.Need-wide-requires Inv-loop μ-loop
-wide-requires c κs = search needs
-
 add-end : tie.Need-add-end Inv-loop μ-loop
 add-end c = omega (arith, fits c)
 
 mul-proper-scope : tie.Need-mul-proper-scope Inv-loop μ-loop
 mul-proper-scope c = omega (arith, fits c)
 
-sub-proper-scope : tie.Need-sub-proper-scope Inv-loop μ-loop
-sub-proper-scope c = search needs
-
-part-proper-scope-start : tie.Need-part-proper-scope-start Inv-loop μ-loop
-part-proper-scope-start c = search needs
-
 part-proper-scope-end : tie.Need-part-proper-scope-end Inv-loop μ-loop
 part-proper-scope-end c = fits c
-
-proper-scope-requires : tie.Need-proper-scope-requires Inv-loop μ-loop
-proper-scope-requires c κs = search needs
 
 returns : tie.Need-returns Inv-loop μ-loop
 returns c =
@@ -102,12 +84,6 @@ returns c =
     let below : r < length (numbers shape) = rw (number-count shape) (turn .loop-test .taken) in
     sym (all-fails (proper shape variables) (numbers shape) r 0 below (sym (tested (c .before)) ∙ not-true _ (c .if1 .taken)))
     ∙ turn .before .loop .inv .1 .1
-
-add-r : tie.Need-add-r Inv-loop μ-loop
-add-r c = search needs
-
-loop-less : tie.Need-loop-less Inv-loop μ-loop
-loop-less c = search needs
 
 loop-again : tie.Need-loop-again Inv-loop μ-loop
 loop-again c =
@@ -137,17 +113,13 @@ proper-scopes-spec =
     Inv-loop
     μ-loop
     loop-holds
-    mul-wide
-    element-copy-out-wide
-    wide-requires
+    (λ c. search needs) (λ c. search needs) (λ c κs. search needs)
     add-end
     mul-proper-scope
-    sub-proper-scope
-    part-proper-scope-start
+    (λ c. search needs) (λ c. search needs)
     part-proper-scope-end
-    proper-scope-requires
+    (λ c κs. search needs)
     returns
-    add-r
-    loop-less
+    (λ c. search needs) (λ c. search needs)
     loop-again
     returns-2)

@@ -29,41 +29,11 @@ few c = mul-le-mul {n₂ = 65535} {m₂ = 65535} (omega arith) (omega arith)
 loop-holds : tie.Need-loop-holds Inv-loop μ-loop
 loop-holds c = (search needs, (refl, (refl, (refl, (search needs, (search needs, search needs))))))
 
-mul-wide : tie.Need-mul-wide Inv-loop μ-loop
-mul-wide c = search needs
-
-element-copy-out-wide : tie.Need-element-copy-out-wide Inv-loop μ-loop
-element-copy-out-wide c = search needs
-
-wide-requires : tie.Need-wide-requires Inv-loop μ-loop
-wide-requires c κs = search needs
-
-mul-wide-2 : tie.Need-mul-wide-2 Inv-loop μ-loop
-mul-wide-2 c = search needs
-
-element-copy-out-wide-2 : tie.Need-element-copy-out-wide-2 Inv-loop μ-loop
-element-copy-out-wide-2 c = search needs
-
-wide-requires-2 : tie.Need-wide-requires-2 Inv-loop μ-loop
-wide-requires-2 c κs = search needs
-
-add-variables : tie.Need-add-variables Inv-loop μ-loop
-add-variables c = search needs
-
-add-tuples : tie.Need-add-tuples Inv-loop μ-loop
-add-tuples c = search needs
-
 mul-values : tie.Need-mul-values Inv-loop μ-loop
 mul-values c = omega (arith, few c)
 
 add-values : tie.Need-add-values Inv-loop μ-loop
 add-values c = omega (arith, few c)
-
-add-r : tie.Need-add-r Inv-loop μ-loop
-add-r c = search needs
-
-loop-less : tie.Need-loop-less Inv-loop μ-loop
-loop-less c = search needs
 
 loop-again : tie.Need-loop-again Inv-loop μ-loop
 loop-again c =
@@ -105,17 +75,10 @@ totals-of-spec =
     Inv-loop
     μ-loop
     loop-holds
-    mul-wide
-    element-copy-out-wide
-    wide-requires
-    mul-wide-2
-    element-copy-out-wide-2
-    wide-requires-2
-    add-variables
-    add-tuples
+    (λ c. search needs) (λ c. search needs) (λ c κs. search needs) (λ c. search needs)
+    (λ c. search needs) (λ c κs. search needs) (λ c. search needs) (λ c. search needs)
     mul-values
     add-values
-    add-r
-    loop-less
+    (λ c. search needs) (λ c. search needs)
     loop-again
     returns)

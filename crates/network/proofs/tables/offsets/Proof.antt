@@ -72,32 +72,8 @@ loop-holds : tie.Need-loop-holds Inv-loop μ-loop
 loop-holds c =
     (search needs, (refl, (refl, (refl, ((refl, λ k h. absurd (omega arith)), ((refl, λ k h. absurd (omega arith)), (refl, λ k h. absurd (omega arith))))))))
 
-mul-variables : tie.Need-mul-variables Inv-loop μ-loop
-mul-variables c = search needs
-
-array-write-variables : tie.Need-array-write-variables Inv-loop μ-loop
-array-write-variables c = search needs
-
-mul-tuples : tie.Need-mul-tuples Inv-loop μ-loop
-mul-tuples c = search needs
-
-array-write-tuples : tie.Need-array-write-tuples Inv-loop μ-loop
-array-write-tuples c = search needs
-
-mul-values : tie.Need-mul-values Inv-loop μ-loop
-mul-values c = search needs
-
-array-write-values : tie.Need-array-write-values Inv-loop μ-loop
-array-write-values c = search needs
-
-mul-width : tie.Need-mul-width Inv-loop μ-loop
-mul-width c = search needs
-
 element-copy-out-width : tie.Need-element-copy-out-width Inv-loop μ-loop
 element-copy-out-width c = below-limit c
-
-mul-size : tie.Need-mul-size Inv-loop μ-loop
-mul-size c = search needs
 
 element-copy-out-size : tie.Need-element-copy-out-size Inv-loop μ-loop
 element-copy-out-size c = below-limit (c .before)
@@ -125,12 +101,6 @@ add-value c =
     let turn = c .before .before in
     let e = next-value turn in
     omega (arith, values-fit (relationsOf (turn .before .before .before .args .t1)) (turn .before .before .before .pre) (turn .before .before .loop .r + 1))
-
-add-r : tie.Need-add-r Inv-loop μ-loop
-add-r c = search needs
-
-loop-less : tie.Need-loop-less Inv-loop μ-loop
-loop-less c = search needs
 
 loop-again : tie.Need-loop-again Inv-loop μ-loop
 loop-again c =
@@ -176,21 +146,15 @@ offsets-spec =
     Inv-loop
     μ-loop
     loop-holds
-    mul-variables
-    array-write-variables
-    mul-tuples
-    array-write-tuples
-    mul-values
-    array-write-values
-    mul-width
+    (λ c. search needs) (λ c. search needs) (λ c. search needs) (λ c. search needs) (λ c. search needs)
+    (λ c. search needs) (λ c. search needs)
     element-copy-out-width
-    mul-size
+    (λ c. search needs)
     element-copy-out-size
     add-variable
     add-tuple
     mul-value
     add-value
-    add-r
-    loop-less
+    (λ c. search needs) (λ c. search needs)
     loop-again
     returns)

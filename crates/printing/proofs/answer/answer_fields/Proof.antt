@@ -8,18 +8,6 @@ use borrow.Author.Needs.{needs}
 use Rattle.printing.proofs.answer.answer_fields.Statement.{statement}
 use Rattle.printing.proofs.answer.answer_fields.Tie as tie
 
-enum-known-answer : tie.Need-enum-known-answer
-enum-known-answer c = search needs
-
-enum-known-answer-2 : tie.Need-enum-known-answer-2
-enum-known-answer-2 c = search needs
-
-enum-known-answer-3 : tie.Need-enum-known-answer-3
-enum-known-answer-3 c = search needs
-
-cast-t7 : tie.Need-cast-t7
-cast-t7 c = search needs
-
 returns : tie.Need-returns
 returns c = sym (ap (λ (a : Answer). answerLine (answerNumbers a)) (c .before .answer .given .1))
 
@@ -33,10 +21,7 @@ pub answer-fields-spec : {M : Type 1} → statement M
 answer-fields-spec =
     tie.close
     (tie.spec
-    enum-known-answer
-    enum-known-answer-2
-    enum-known-answer-3
-    cast-t7
+    (λ c. search needs) (λ c. search needs) (λ c. search needs) (λ c. search needs)
     returns
     returns-2
     returns-3)

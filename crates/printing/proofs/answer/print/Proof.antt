@@ -44,18 +44,6 @@ long c = search needs
 accepted : (c : tie.Else1) → eqb (answerNumbers (start (c .before) .args .answer) .kind) 2 ≡ false
 accepted c = ne-eqb _ _ (λ e. c .if1 .left (kind (c .before) ∙ e))
 
-answer-fields-requires : tie.Need-answer-fields-requires
-answer-fields-requires c κs = search needs
-
-slice-aggregate-line : tie.Need-slice-aggregate-line
-slice-aggregate-line c = search needs
-
-line-requires : tie.Need-line-requires
-line-requires c κs = search needs
-
-array-read-if1 : tie.Need-array-read-if1
-array-read-if1 c = search needs
-
 returns : tie.Need-returns
 returns c =
     let e = start (c .before) in
@@ -80,10 +68,7 @@ pub print-spec : {M : Type 1} → statement M
 print-spec =
     tie.close
     (tie.spec
-    answer-fields-requires
-    slice-aggregate-line
-    line-requires
-    array-read-if1
+    (λ c κs. search needs) (λ c. search needs) (λ c κs. search needs) (λ c. search needs)
     returns
     tuple-lines-requires
     returns-2)

@@ -22,14 +22,14 @@ digits-requires c κs = omega (arith, c .before .before .pre, decimal-length (c 
 slice-write-out : tie.Need-slice-write-out
 slice-write-out c = behind (c .before .before)
 
-add-result : tie.Need-add-result
-add-result c = search needs
-
-same-length : tie.Need-same-length
-same-length c = search needs
-
 returns : tie.Need-returns
 returns c = let d = c .before .before .digits in appended-then (d .ensures) (appended-byte (d .last .0) (d .result) _ (behind (c .before .before)))
 
 pub field-spec : {M : Type 1} → statement M
-field-spec = tie.close (tie.spec digits-requires slice-write-out add-result same-length returns)
+field-spec =
+    tie.close
+    (tie.spec
+    digits-requires
+    slice-write-out
+    (λ c. search needs) (λ c. search needs)
+    returns)

@@ -26,21 +26,6 @@ loop-holds c =
     let entry = c .before .before in
     (omega arith, omega (arith, entry .pre), remains-all (omega (arith, entry .pre)))
 
-mul-field : tie.Need-mul-field Inv-loop μ-loop
-mul-field c = search needs
-
-shared-slice-read-field : tie.Need-shared-slice-read-field Inv-loop μ-loop
-shared-slice-read-field c = search needs
-
-field-requires : tie.Need-field-requires Inv-loop μ-loop
-field-requires c κs = search needs
-
-add-i : tie.Need-add-i Inv-loop μ-loop
-add-i c = search needs
-
-loop-less : tie.Need-loop-less Inv-loop μ-loop
-loop-less c = search needs
-
 loop-again : tie.Need-loop-again Inv-loop μ-loop
 loop-again c =
     let l = c .before .before .before .before .before .before .loop in
@@ -51,18 +36,6 @@ loop-again c =
       omega (arith, l .inv .1, f .ensures .long),
       remains-then (remains-same (lineText-drop fields (l .i) (omega arith)) (l .inv .2)) (f .ensures),
     )
-
-mul-field-2 : tie.Need-mul-field-2 Inv-loop μ-loop
-mul-field-2 c = search needs
-
-shared-slice-read-field-2 : tie.Need-shared-slice-read-field-2 Inv-loop μ-loop
-shared-slice-read-field-2 c = search needs
-
-field-requires-2 : tie.Need-field-requires-2 Inv-loop μ-loop
-field-requires-2 c κs = search needs
-
-same-length : tie.Need-same-length Inv-loop μ-loop
-same-length c = search needs
 
 returns : tie.Need-returns Inv-loop μ-loop
 returns c =
@@ -79,14 +52,8 @@ line-spec =
     μ-loop
     sub-last
     loop-holds
-    mul-field
-    shared-slice-read-field
-    field-requires
-    add-i
-    loop-less
+    (λ c. search needs) (λ c. search needs) (λ c κs. search needs) (λ c. search needs)
+    (λ c. search needs)
     loop-again
-    mul-field-2
-    shared-slice-read-field-2
-    field-requires-2
-    same-length
+    (λ c. search needs) (λ c. search needs) (λ c κs. search needs) (λ c. search needs)
     returns)

@@ -8,9 +8,6 @@ use borrow.Author.Needs.{needs}
 use Rattle.printing.proofs.text.tuple_line.Statement.{statement}
 use Rattle.printing.proofs.text.tuple_line.Tie as tie
 
-field-requires : tie.Need-field-requires
-field-requires c κs = search needs
-
 field-requires-2 : tie.Need-field-requires-2
 field-requires-2 c κs =
     let entry = c .before .before .before .before .before .before .before in
@@ -25,9 +22,6 @@ line-requires c κs =
     let e = field-end (entry .args .relation) 44 (omega (arith, entry .pre)) (f .ensures) in
     (entry .pre .0, omega (arith, entry .pre, f .ensures .long, k .ensures .long, field-end (entry .args .index) 44 (f .ensures .fits) (k .ensures)))
 
-same-length : tie.Need-same-length
-same-length c = search needs
-
 returns : tie.Need-returns
 returns c =
     let entry = c .before .before .before .before .before .before .before .before .before .before .before .before .before .before in
@@ -36,4 +30,10 @@ returns c =
 
 pub tuple-line-spec : {M : Type 1} → statement M
 tuple-line-spec =
-    tie.close (tie.spec field-requires field-requires-2 line-requires same-length returns)
+    tie.close
+    (tie.spec
+    (λ c κs. search needs)
+    field-requires-2
+    line-requires
+    (λ c. search needs)
+    returns)

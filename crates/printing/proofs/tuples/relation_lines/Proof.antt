@@ -53,9 +53,6 @@ part-length c =
     let e : place c + a .width - place c ≡ a .width = omega arith in
     length-part (place c) (place c + a .width) (a .values .now) (omega arith) (room c) ∙ e
 
-next-requires : tie.Need-next-requires Inv-loop μ-loop
-next-requires c κs = search needs
-
 loop-holds : tie.Need-loop-holds Inv-loop μ-loop
 loop-holds c =
     let entry = c .before .before .before .before in
@@ -67,12 +64,6 @@ loop-holds c =
       omega (arith, f .from-i, f .to-end),
       remains-same (sym (over-first (lineIn (a .values .now) (part (a .relation) (a .start) (a .first) (a .width))) (isLive (a .words .now)) (a .start) (a .end) (c .next .result) f)) (remains-all (omega (arith, entry .pre .1 .1))),
     )
-
-sub-index : tie.Need-sub-index Inv-loop μ-loop
-sub-index c = search needs
-
-wide-requires : tie.Need-wide-requires Inv-loop μ-loop
-wide-requires c κs = search needs
 
 mul-place : tie.Need-mul-place Inv-loop μ-loop
 mul-place c = omega (arith, room c)
@@ -86,12 +77,6 @@ add-place-end c = omega (arith, room c)
 mul-tuple-line : tie.Need-mul-tuple-line Inv-loop μ-loop
 mul-tuple-line c = omega (arith, room (c .before))
 
-sub-tuple-line : tie.Need-sub-tuple-line Inv-loop μ-loop
-sub-tuple-line c = search needs
-
-part-tuple-line-start : tie.Need-part-tuple-line-start Inv-loop μ-loop
-part-tuple-line-start c = search needs
-
 part-tuple-line-end : tie.Need-part-tuple-line-end Inv-loop μ-loop
 part-tuple-line-end c = room (c .before)
 
@@ -101,9 +86,6 @@ tuple-line-requires c κs =
     let entry = start turn in
     let e = part-length (c .before .before) in
     (omega (arith, entry .pre), omega (arith, entry .pre, turn .before .loop .inv, turn .before .loop .inv .4 .long))
-
-add-next : tie.Need-add-next Inv-loop μ-loop
-add-next c = search needs
 
 next-requires-2 : tie.Need-next-requires-2 Inv-loop μ-loop
 next-requires-2 c κs =
@@ -141,9 +123,6 @@ loop-again c =
           (remains-then (remains-same (over-cons (lineIn (a .values .now) p) live (l .g) (a .end) (turn .loop-test .taken) (l .inv .2 (turn .loop-test .taken))) (l .inv .4)) line),
     )
 
-same-length : tie.Need-same-length Inv-loop μ-loop
-same-length c = search needs
-
 returns : tie.Need-returns Inv-loop μ-loop
 returns c =
     let a = c .before .before .before .before .before .before .args in
@@ -160,21 +139,19 @@ relation-lines-spec =
     (tie.spec
     Inv-loop
     μ-loop
-    next-requires
+    (λ c κs. search needs)
     loop-holds
-    sub-index
-    wide-requires
+    (λ c. search needs) (λ c κs. search needs)
     mul-place
     add-place
     add-place-end
     mul-tuple-line
-    sub-tuple-line
-    part-tuple-line-start
+    (λ c. search needs) (λ c. search needs)
     part-tuple-line-end
     tuple-line-requires
-    add-next
+    (λ c. search needs)
     next-requires-2
     loop-less
     loop-again
-    same-length
+    (λ c. search needs)
     returns)

@@ -11,10 +11,10 @@ use Rattle.model.specs.Text.{textOf}
 use Rattle.network.specs.declared.Offsets.{Offsets}
 use Rattle.network.specs.Shape.{networkOf}
 use Rattle.network.proofs.Relations.{relation-count, relation-at}
-use Rattle.calls.specs.Tables.{Tables}
-use Rattle.calls.proofs.Instance.{network-few, network-bounded}
-use Rattle.calls.proofs.Change.{tables-given}
-use Rattle.calls.proofs.Tables.{total-few, next-id, next-within}
+use Rattle.request.specs.Tables.{Tables}
+use Rattle.request.proofs.Instance.{network-few, network-bounded}
+use Rattle.request.proofs.Change.{tables-given}
+use Rattle.request.proofs.Tables.{total-few, next-id, next-within}
 use Rattle.printing.specs.Lines.{lineIn, textOver, Printable}
 use Rattle.printing.proofs.Appended.{appended-same, Remains, remains-all, remains-then, remains-same, remains-none}
 use Rattle.printing.proofs.Relations.{linesFrom, linesFrom-all, linesFrom-none, linesFrom-next, tupleLines-scopes, partOf, ReadPart, part-read}
@@ -84,17 +84,11 @@ mul-wide c = omega (arith, few (start (tables c)))
 array-read-wide : tie.Need-array-read-wide Inv-loop μ-loop
 array-read-wide c = omega (arith, few (start (tables c)))
 
-wide-requires : tie.Need-wide-requires Inv-loop μ-loop
-wide-requires c κs = search needs
-
 mul-wide-2 : tie.Need-mul-wide-2 Inv-loop μ-loop
 mul-wide-2 c = omega (arith, few (start (tables (c .before))))
 
 array-read-wide-2 : tie.Need-array-read-wide-2 Inv-loop μ-loop
 array-read-wide-2 c = omega (arith, few (start (tables (c .before))))
-
-wide-requires-2 : tie.Need-wide-requires-2 Inv-loop μ-loop
-wide-requires-2 c κs = search needs
 
 -- ---- One relation, by what the tables give for it
 
@@ -143,12 +137,6 @@ relation-lines-requires c κs =
       (R .values, omega (arith, e .pre .1, m .0, m .1 .long, next-first w P, R .starts, R .ends)),
     )
 
-add-r : tie.Need-add-r Inv-loop μ-loop
-add-r c = search needs
-
-loop-less : tie.Need-loop-less Inv-loop μ-loop
-loop-less c = search needs
-
 loop-again : tie.Need-loop-again Inv-loop μ-loop
 loop-again c =
     let w = c .before .before .before .before in
@@ -196,13 +184,12 @@ tuple-lines-spec =
     array-read-relation-lines-2
     mul-wide
     array-read-wide
-    wide-requires
+    (λ c κs. search needs)
     mul-wide-2
     array-read-wide-2
-    wide-requires-2
+    (λ c κs. search needs)
     relation-lines-requires
-    add-r
-    loop-less
+    (λ c. search needs) (λ c. search needs)
     loop-again
     same-length
     returns)

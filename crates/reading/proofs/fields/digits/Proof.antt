@@ -21,38 +21,17 @@ abbrev μ-loop : tie.MeasureT-loop
 loop-holds : tie.Need-loop-holds Inv-loop μ-loop
 loop-holds c = (search needs, refl)
 
-shared-slice-read-b : tie.Need-shared-slice-read-b Inv-loop μ-loop
-shared-slice-read-b c = search needs
-
-add-next : tie.Need-add-next Inv-loop μ-loop
-add-next c = search needs
-
 returns : tie.Need-returns Inv-loop μ-loop
 returns c =
     let a = c .before .before .before .before .args in
     let l = c .before .before .before .loop in
     found-past (a .text .now) (l .i) (l .v) ∙ sym (digits-end (a .text .now) (a .end) (l .i) (l .v) (c .before .before .loop-test .taken) (c .if1 .taken)) ∙ l .inv .1
 
-cast-w : tie.Need-cast-w Inv-loop μ-loop
-cast-w c = search needs
-
-mul-w : tie.Need-mul-w Inv-loop μ-loop
-mul-w c = search needs
-
 cast-w-2 : tie.Need-cast-w-2 Inv-loop μ-loop
 cast-w-2 c = omega arith
 
 add-w : tie.Need-add-w Inv-loop μ-loop
 add-w c = omega arith
-
-cast-v : tie.Need-cast-v Inv-loop μ-loop
-cast-v c = search needs
-
-add-i : tie.Need-add-i Inv-loop μ-loop
-add-i c = search needs
-
-loop-less : tie.Need-loop-less Inv-loop μ-loop
-loop-less c = search needs
 
 loop-again : tie.Need-loop-again Inv-loop μ-loop
 loop-again c =
@@ -104,16 +83,12 @@ digits-spec =
     Inv-loop
     μ-loop
     loop-holds
-    shared-slice-read-b
-    add-next
+    (λ c. search needs) (λ c. search needs)
     returns
-    cast-w
-    mul-w
+    (λ c. search needs) (λ c. search needs)
     cast-w-2
     add-w
-    cast-v
-    add-i
-    loop-less
+    (λ c. search needs) (λ c. search needs) (λ c. search needs)
     loop-again
     returns-2
     returns-3

@@ -9,9 +9,6 @@ use Rattle.reading.proofs.fields.field.Tie as tie
 returns : tie.Need-returns
 returns c = let a = c .before .before .args in sym (field-past (a .text .now) (a .end) (a .at) (c .if1 .taken))
 
-shared-slice-read-b : tie.Need-shared-slice-read-b
-shared-slice-read-b c = search needs
-
 returns-2 : tie.Need-returns-2
 returns-2 c =
     let a = c .before .before .before .before .args in
@@ -21,15 +18,6 @@ returns-3 : tie.Need-returns-3
 returns-3 c =
     let a = c .before .before .before .before .before .args in
     sym (field-stop (a .text .now) (a .end) (a .at) (c .before .before .before .if1 .left) (digit-high _ (c .if3 .taken)))
-
-add-digits : tie.Need-add-digits
-add-digits c = search needs
-
-cast-digits : tie.Need-cast-digits
-cast-digits c = search needs
-
-digits-requires : tie.Need-digits-requires
-digits-requires c κs = search needs
 
 returns-4 : tie.Need-returns-4
 returns-4 c =
@@ -42,10 +30,8 @@ field-spec =
     tie.close
     (tie.spec
     returns
-    shared-slice-read-b
+    (λ c. search needs)
     returns-2
     returns-3
-    add-digits
-    cast-digits
-    digits-requires
+    (λ c. search needs) (λ c. search needs) (λ c κs. search needs)
     returns-4)

@@ -24,23 +24,11 @@ Inv-loop text at n into₀ start last from₀ to₀ into from to =
 abbrev μ-loop : tie.MeasureT-loop
 μ-loop text at n into₀ start last from₀ to₀ into from to = last - to
 
-add-last : tie.Need-add-last Inv-loop μ-loop
-add-last c = search needs
-
-sub-last : tie.Need-sub-last Inv-loop μ-loop
-sub-last c = search needs
-
 loop-holds : tie.Need-loop-holds Inv-loop μ-loop
 loop-holds c =
     let a = c .before .before .args in
     let e : a .start + a .n - a .start ≡ a .n = omega arith in
     (search needs, (search needs, (search needs, ap (λ (k : ℕ). behind (take (a .start) (a .into .now)) (readLine k (drop (a .at) (a .text .now)))) e)))
-
-field-requires : tie.Need-field-requires Inv-loop μ-loop
-field-requires c κs = search needs
-
-same-length : tie.Need-same-length Inv-loop μ-loop
-same-length c = search needs
 
 returns : tie.Need-returns Inv-loop μ-loop
 returns c =
@@ -51,18 +39,6 @@ returns c =
     let stops = sym (f .ensures) ∙ found-none (a .text .now) (f .result .next) (f .result .value) (c .if1 .taken) in
     sym (line-stop (a .start + a .n - (l .to + 1)) (a .start + a .n - l .to) (drop (l .from) (a .text .now)) (take (l .to) (l .into)) (omega arith) (omega arith) stops)
     ∙ l .inv .1 .1 .1
-
-mul-into : tie.Need-mul-into Inv-loop μ-loop
-mul-into c = search needs
-
-slice-write-into : tie.Need-slice-write-into Inv-loop μ-loop
-slice-write-into c = search needs
-
-add-to : tie.Need-add-to Inv-loop μ-loop
-add-to c = search needs
-
-loop-less : tie.Need-loop-less Inv-loop μ-loop
-loop-less c = search needs
 
 loop-again : tie.Need-loop-again Inv-loop μ-loop
 loop-again c =
@@ -83,18 +59,6 @@ loop-again c =
         ),
       ),
     )
-
-field-requires-2 : tie.Need-field-requires-2 Inv-loop μ-loop
-field-requires-2 c κs = search needs
-
-mul-into-2 : tie.Need-mul-into-2 Inv-loop μ-loop
-mul-into-2 c = search needs
-
-slice-write-into-2 : tie.Need-slice-write-into-2 Inv-loop μ-loop
-slice-write-into-2 c = search needs
-
-same-length-2 : tie.Need-same-length-2 Inv-loop μ-loop
-same-length-2 c = search needs
 
 returns-2 : tie.Need-returns-2 Inv-loop μ-loop
 returns-2 c =
@@ -118,19 +82,11 @@ line-spec =
     (tie.spec
     Inv-loop
     μ-loop
-    add-last
-    sub-last
+    (λ c. search needs) (λ c. search needs)
     loop-holds
-    field-requires
-    same-length
+    (λ c κs. search needs) (λ c. search needs)
     returns
-    mul-into
-    slice-write-into
-    add-to
-    loop-less
+    (λ c. search needs) (λ c. search needs) (λ c. search needs) (λ c. search needs)
     loop-again
-    field-requires-2
-    mul-into-2
-    slice-write-into-2
-    same-length-2
+    (λ c κs. search needs) (λ c. search needs) (λ c. search needs) (λ c. search needs)
     returns-2)

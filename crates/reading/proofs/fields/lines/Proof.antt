@@ -51,9 +51,6 @@ loop-holds c =
 line-requires : tie.Need-line-requires Inv-loop μ-loop
 line-requires c κs = (search needs, inside (c .before))
 
-same-length : tie.Need-same-length Inv-loop μ-loop
-same-length c = search needs
-
 returns : tie.Need-returns Inv-loop μ-loop
 returns c =
     let after = c .before .before .before in
@@ -65,12 +62,6 @@ returns c =
 
 add-to : tie.Need-add-to Inv-loop μ-loop
 add-to c = omega (arith, inside (c .before .before .before .before .before))
-
-add-i : tie.Need-add-i Inv-loop μ-loop
-add-i c = search needs
-
-loop-less : tie.Need-loop-less Inv-loop μ-loop
-loop-less c = search needs
 
 loop-again : tie.Need-loop-again Inv-loop μ-loop
 loop-again c =
@@ -91,9 +82,6 @@ loop-again c =
         ),
       ),
     )
-
-same-length-2 : tie.Need-same-length-2 Inv-loop μ-loop
-same-length-2 c = search needs
 
 returns-2 : tie.Need-returns-2 Inv-loop μ-loop
 returns-2 c =
@@ -116,11 +104,10 @@ lines-spec =
     μ-loop
     loop-holds
     line-requires
-    same-length
+    (λ c. search needs)
     returns
     add-to
-    add-i
-    loop-less
+    (λ c. search needs) (λ c. search needs)
     loop-again
-    same-length-2
+    (λ c. search needs)
     returns-2)

@@ -30,33 +30,12 @@ line-some c =
     let after = c .before .before in
     sym (line-read after) ∙ found-at (after .before .before .before .args .text .now) (after .line .result) (numbers after) (c .if1 .left)
 
-slice-aggregate-line : tie.Need-slice-aggregate-line
-slice-aggregate-line c = search needs
-
-line-requires : tie.Need-line-requires
-line-requires c κs = search needs
-
 returns : tie.Need-returns
 returns c =
     let after = c .before .before in
     let a = after .before .before .before .args in
     let t = a .text .now in
     (sym (record-none (a .room) (drop (a .at) t) (sym (line-read after) ∙ found-none t (after .line .result) (numbers after) (c .if1 .taken))), (search needs, search needs))
-
-array-read-wide : tie.Need-array-read-wide
-array-read-wide c = search needs
-
-wide-requires : tie.Need-wide-requires
-wide-requires c κs = search needs
-
-array-read-wide-2 : tie.Need-array-read-wide-2
-array-read-wide-2 c = search needs
-
-wide-requires-2 : tie.Need-wide-requires-2
-wide-requires-2 c κs = search needs
-
-within-requires : tie.Need-within-requires
-within-requires c κs = search needs
 
 returns-2 : tie.Need-returns-2
 returns-2 c =
@@ -95,14 +74,10 @@ pub record-at-spec : {M : Type 1} → statement M
 record-at-spec =
     tie.close
     (tie.spec
-    slice-aggregate-line
-    line-requires
+    (λ c. search needs) (λ c κs. search needs)
     returns
-    array-read-wide
-    wide-requires
-    array-read-wide-2
-    wide-requires-2
-    within-requires
+    (λ c. search needs) (λ c κs. search needs) (λ c. search needs) (λ c κs. search needs)
+    (λ c κs. search needs)
     returns-2
     returns-3
     returns-4)

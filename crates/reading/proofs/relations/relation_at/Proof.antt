@@ -36,9 +36,6 @@ has-width c =
     let r = c .before .record-at .result in
     record-width (a .room) (drop (a .at) (a .text .now)) (recordOf r) (drop (r .next) (a .text .now)) (record-some c)
 
-record-at-requires : tie.Need-record-at-requires
-record-at-requires c κs = search needs
-
 returns : tie.Need-returns
 returns c =
     let a = c .before .before .before .before .before .args in
@@ -51,9 +48,6 @@ line-requires : tie.Need-line-requires
 line-requires c κs =
     let read = c .before in
     (has-width read, omega (arith, read .before .record-at .ensures .1 .0, (start read) .pre .0))
-
-same-length : tie.Need-same-length
-same-length c = search needs
 
 returns-2 : tie.Need-returns-2
 returns-2 c =
@@ -75,12 +69,6 @@ lines-requires c κs =
     let few : r .result .tuples * r .result .width ≤ a .room * 8 = mul-le-mul (r .ensures .1 .1) (r .ensures .1 .0) in
     (positive (line-read .line .result) (c .before .if2 .left), (has-width read, omega (arith, (start read) .pre .1)))
 
-same-length-2 : tie.Need-same-length-2
-same-length-2 c = search needs
-
-same-length-3 : tie.Need-same-length-3
-same-length-3 c = search needs
-
 returns-3 : tie.Need-returns-3
 returns-3 c =
     let after = c .before .before in
@@ -100,12 +88,11 @@ pub relation-at-spec : {M : Type 1} → statement M
 relation-at-spec =
     tie.close
     (tie.spec
-    record-at-requires
+    (λ c κs. search needs)
     returns
     line-requires
-    same-length
+    (λ c. search needs)
     returns-2
     lines-requires
-    same-length-2
-    same-length-3
+    (λ c. search needs) (λ c. search needs)
     returns-3)

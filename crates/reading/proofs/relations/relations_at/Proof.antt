@@ -130,12 +130,6 @@ mul-value c = omega (arith, few (c .before .before .before .before .before .befo
 add-value : tie.Need-add-value Inv-loop μ-loop
 add-value c = omega (arith, few (c .before .before .before .before .before .before .before .before .before .before), c .before .before .before .before .before .before .before .before .before .before .relation-at .ensures .1 .1)
 
-add-r : tie.Need-add-r Inv-loop μ-loop
-add-r c = search needs
-
-loop-less : tie.Need-loop-less Inv-loop μ-loop
-loop-less c = search needs
-
 loop-again : tie.Need-loop-again Inv-loop μ-loop
 loop-again c =
     let read = c .before .before .before .before .before .before .before .before .before .before in
@@ -177,12 +171,6 @@ returns c =
       (omega (arith, c .before .before .before .before .before .pre .0 .1), search needs),
     )
 
-same-length-3 : tie.Need-same-length-3 Inv-loop μ-loop
-same-length-3 c = search needs
-
-same-length-4 : tie.Need-same-length-4 Inv-loop μ-loop
-same-length-4 c = search needs
-
 returns-2 : tie.Need-returns-2 Inv-loop μ-loop
 returns-2 c =
     let read = c .before .before .before .before .before in
@@ -206,12 +194,10 @@ relations-at-spec =
     add-variable
     mul-value
     add-value
-    add-r
-    loop-less
+    (λ c. search needs) (λ c. search needs)
     loop-again
     same-length
     same-length-2
     returns
-    same-length-3
-    same-length-4
+    (λ c. search needs) (λ c. search needs)
     returns-2)

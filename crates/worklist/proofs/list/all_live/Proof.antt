@@ -51,32 +51,11 @@ loop-holds c =
     let a = c .before .before .args in
     (ap (λ (n : ℕ). all (lives (a .words .now) (a .tuple-starts .now) (a .members .now) (a .base) (a .t6)) (from 0 n)) (sub-zero (a .m)), search needs)
 
-add-wide : tie.Need-add-wide Inv-loop μ-loop
-add-wide c = search needs
-
-mul-wide : tie.Need-mul-wide Inv-loop μ-loop
-mul-wide c = search needs
-
-shared-slice-read-wide : tie.Need-shared-slice-read-wide Inv-loop μ-loop
-shared-slice-read-wide c = search needs
-
-wide-requires : tie.Need-wide-requires Inv-loop μ-loop
-wide-requires c κs = search needs
-
-mul-is-live : tie.Need-mul-is-live Inv-loop μ-loop
-mul-is-live c = search needs
-
 element-copy-out-is-live : tie.Need-element-copy-out-is-live Inv-loop μ-loop
 element-copy-out-is-live c =
     let start = c .before .before .before .before .before .before in
     let k = c .before .before .before .loop .k in
     omega (arith, start .pre .relations k (c .before .before .loop-test .taken))
-
-mul-is-live-2 : tie.Need-mul-is-live-2 Inv-loop μ-loop
-mul-is-live-2 c = search needs
-
-array-read-is-live : tie.Need-array-read-is-live Inv-loop μ-loop
-array-read-is-live c = search needs
 
 add-is-live : tie.Need-add-is-live Inv-loop μ-loop
 add-is-live c =
@@ -96,12 +75,6 @@ returns c =
     let l = c .before .before .before .before .before .before .loop in
     ap (λ (b : Bool). b && all (lives (a .words .now) (a .tuple-starts .now) (a .members .now) (a .base) (a .t6)) (from (l .k + 1) (a .m - (l .k + 1)))) (sym (not-true (c .before .is-live .result) (c .if1 .taken)))
     ∙ answered (c .before)
-
-add-k : tie.Need-add-k Inv-loop μ-loop
-add-k c = search needs
-
-loop-less : tie.Need-loop-less Inv-loop μ-loop
-loop-less c = search needs
 
 loop-again : tie.Need-loop-again Inv-loop μ-loop
 loop-again c =
@@ -126,18 +99,13 @@ all-live-spec =
     Inv-loop
     μ-loop
     loop-holds
-    add-wide
-    mul-wide
-    shared-slice-read-wide
-    wide-requires
-    mul-is-live
+    (λ c. search needs) (λ c. search needs) (λ c. search needs) (λ c κs. search needs)
+    (λ c. search needs)
     element-copy-out-is-live
-    mul-is-live-2
-    array-read-is-live
+    (λ c. search needs) (λ c. search needs)
     add-is-live
     is-live-requires
     returns
-    add-k
-    loop-less
+    (λ c. search needs) (λ c. search needs)
     loop-again
     returns-2)

@@ -22,27 +22,6 @@ abbrev μ-loop : tie.MeasureT-loop
 loop-holds : tie.Need-loop-holds Inv-loop μ-loop
 loop-holds c = (search needs, (refl, paste-zero (replicate 4 0) 0 (drop (c .args .at) (c .args .numbers .now))))
 
-add-tuples : tie.Need-add-tuples Inv-loop μ-loop
-add-tuples c = search needs
-
-mul-tuples : tie.Need-mul-tuples Inv-loop μ-loop
-mul-tuples c = search needs
-
-shared-slice-read-tuples : tie.Need-shared-slice-read-tuples Inv-loop μ-loop
-shared-slice-read-tuples c = search needs
-
-mul-tuples-2 : tie.Need-mul-tuples-2 Inv-loop μ-loop
-mul-tuples-2 c = search needs
-
-array-write-tuples : tie.Need-array-write-tuples Inv-loop μ-loop
-array-write-tuples c = search needs
-
-add-j : tie.Need-add-j Inv-loop μ-loop
-add-j c = search needs
-
-loop-less : tie.Need-loop-less Inv-loop μ-loop
-loop-less c = search needs
-
 loop-again : tie.Need-loop-again Inv-loop μ-loop
 loop-again c =
     let a = c .before .before .before .args in
@@ -79,12 +58,7 @@ load-spec =
     Inv-loop
     μ-loop
     loop-holds
-    add-tuples
-    mul-tuples
-    shared-slice-read-tuples
-    mul-tuples-2
-    array-write-tuples
-    add-j
-    loop-less
+    (λ c. search needs) (λ c. search needs) (λ c. search needs) (λ c. search needs) (λ c. search needs)
+    (λ c. search needs) (λ c. search needs)
     loop-again
     returns)

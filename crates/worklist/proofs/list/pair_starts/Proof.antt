@@ -59,32 +59,11 @@ fits c =
 loop-holds : tie.Need-loop-holds Inv-loop μ-loop
 loop-holds c = (search needs, (refl, λ N t. (starts-none N (c .before .args .m) (c .before .args .members .now), λ k h. absurd (omega arith))))
 
-mul-wide : tie.Need-mul-wide Inv-loop μ-loop
-mul-wide c = search needs
-
-shared-slice-read-wide : tie.Need-shared-slice-read-wide Inv-loop μ-loop
-shared-slice-read-wide c = search needs
-
-wide-requires : tie.Need-wide-requires Inv-loop μ-loop
-wide-requires c κs = search needs
-
-mul-starts : tie.Need-mul-starts Inv-loop μ-loop
-mul-starts c = search needs
-
 array-write-starts : tie.Need-array-write-starts Inv-loop μ-loop
 array-write-starts c = let pairs = c .before .before .before .before .before .pre .1 .pairs in omega (arith, pairs .few)
 
-add-at : tie.Need-add-at Inv-loop μ-loop
-add-at c = search needs
-
-mul-at : tie.Need-mul-at Inv-loop μ-loop
-mul-at c = search needs
-
 element-copy-out-at : tie.Need-element-copy-out-at Inv-loop μ-loop
 element-copy-out-at c = omega (arith, relation c)
-
-mul-at-2 : tie.Need-mul-at-2 Inv-loop μ-loop
-mul-at-2 c = search needs
 
 element-copy-out-at-2 : tie.Need-element-copy-out-at-2 Inv-loop μ-loop
 element-copy-out-at-2 c = omega (arith, relation (c .before))
@@ -97,12 +76,6 @@ mul-at-3 c = omega (arith, fits (c .before .before))
 
 add-at-2 : tie.Need-add-at-2 Inv-loop μ-loop
 add-at-2 c = omega (arith, fits (c .before .before))
-
-add-p : tie.Need-add-p Inv-loop μ-loop
-add-p c = search needs
-
-loop-less : tie.Need-loop-less Inv-loop μ-loop
-loop-less c = search needs
 
 loop-again : tie.Need-loop-again Inv-loop μ-loop
 loop-again c =
@@ -136,20 +109,15 @@ pair-starts-spec =
     Inv-loop
     μ-loop
     loop-holds
-    mul-wide
-    shared-slice-read-wide
-    wide-requires
-    mul-starts
+    (λ c. search needs) (λ c. search needs) (λ c κs. search needs) (λ c. search needs)
     array-write-starts
-    add-at
-    mul-at
+    (λ c. search needs) (λ c. search needs)
     element-copy-out-at
-    mul-at-2
+    (λ c. search needs)
     element-copy-out-at-2
     sub-at
     mul-at-3
     add-at-2
-    add-p
-    loop-less
+    (λ c. search needs) (λ c. search needs)
     loop-again
     returns)

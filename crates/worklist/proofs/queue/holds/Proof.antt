@@ -19,17 +19,8 @@ Inv-loop members base m r end q₀ q = (q ≤ end) × (elem r (take (end - q) (d
 abbrev μ-loop : tie.MeasureT-loop
 μ-loop members base m r end q₀ q = end - q
 
-add-end : tie.Need-add-end Inv-loop μ-loop
-add-end c = search needs
-
 loop-holds : tie.Need-loop-holds Inv-loop μ-loop
 loop-holds c = (search needs, rw add-sub-cancel-left)
-
-mul-if1 : tie.Need-mul-if1 Inv-loop μ-loop
-mul-if1 c = search needs
-
-shared-slice-read-if1 : tie.Need-shared-slice-read-if1 Inv-loop μ-loop
-shared-slice-read-if1 c = search needs
 
 returns : tie.Need-returns Inv-loop μ-loop
 returns c =
@@ -39,12 +30,6 @@ returns c =
     ap (λ (b : Bool). b || elem (a .r) (take (a .base + a .m - (l .q + 1)) (drop (l .q + 1) (a .members .now)))) (sym (eq-eqb (a .r) (getD (a .members .now) (l .q) 0) (sym e)))
     ∙ sym (ap (elem (a .r)) (part-cons (a .members .now) (l .q) (a .base + a .m) (omega arith) (omega arith)))
     ∙ l .inv .1
-
-add-q : tie.Need-add-q Inv-loop μ-loop
-add-q c = search needs
-
-loop-less : tie.Need-loop-less Inv-loop μ-loop
-loop-less c = search needs
 
 loop-again : tie.Need-loop-again Inv-loop μ-loop
 loop-again c =
@@ -70,12 +55,10 @@ holds-spec =
     (tie.spec
     Inv-loop
     μ-loop
-    add-end
+    (λ c. search needs)
     loop-holds
-    mul-if1
-    shared-slice-read-if1
+    (λ c. search needs) (λ c. search needs)
     returns
-    add-q
-    loop-less
+    (λ c. search needs) (λ c. search needs)
     loop-again
     returns-2)

@@ -59,33 +59,12 @@ turned c =
     ))
     (c .if1 .came)
 
-add-end : tie.Need-add-end Inv-loop μ-loop
-add-end c = search needs
-
 loop-holds : tie.Need-loop-holds Inv-loop μ-loop
 loop-holds c =
     let ws = c .before .args .queue .words in
     let f : (i : ℕ) → Fits w64 (getD ws i 0) = λ i. search needs in
     let a = c .before .args in
     (search needs, (search needs, (words-of ws (search needs) f, λ h l. sym (ap (λ (b : Bool). isLive ws h || b) (others-none (a .base) (a .members .now) (a .r) h) ∙ or-false (isLive ws h)))))
-
-mul-if1 : tie.Need-mul-if1 Inv-loop μ-loop
-mul-if1 c = search needs
-
-shared-slice-read-if1 : tie.Need-shared-slice-read-if1 Inv-loop μ-loop
-shared-slice-read-if1 c = search needs
-
-cast-put : tie.Need-cast-put Inv-loop μ-loop
-cast-put c = search needs
-
-put-requires : tie.Need-put-requires Inv-loop μ-loop
-put-requires c κs = search needs
-
-add-q : tie.Need-add-q Inv-loop μ-loop
-add-q c = search needs
-
-loop-less : tie.Need-loop-less Inv-loop μ-loop
-loop-less c = search needs
 
 loop-again : tie.Need-loop-again Inv-loop μ-loop
 loop-again c =
@@ -105,13 +84,9 @@ put-others-spec =
     (tie.spec
     Inv-loop
     μ-loop
-    add-end
+    (λ c. search needs)
     loop-holds
-    mul-if1
-    shared-slice-read-if1
-    cast-put
-    put-requires
-    add-q
-    loop-less
+    (λ c. search needs) (λ c. search needs) (λ c. search needs) (λ c κs. search needs)
+    (λ c. search needs) (λ c. search needs)
     loop-again
     returns)

@@ -89,12 +89,6 @@ turned c =
     w)
     (c .if1 .came)
 
-mul-r : tie.Need-mul-r Inv-loop μ-loop
-mul-r c = search needs
-
-shared-slice-read-r : tie.Need-shared-slice-read-r Inv-loop μ-loop
-shared-slice-read-r c = search needs
-
 div-own : tie.Need-div-own Inv-loop μ-loop
 div-own c = c .before .before .pre .0 .positive
 
@@ -151,8 +145,7 @@ requeue-spec =
     (tie.spec
     Inv-loop
     μ-loop
-    mul-r
-    shared-slice-read-r
+    (λ c. search needs) (λ c. search needs)
     div-own
     mul-own
     loop-holds

@@ -30,12 +30,6 @@ slice-aggregate-set c = sym (c .before .before .loop .inv .1 .0 .sixteen)
 set-requires : tie.Need-set-requires Inv-loop μ-loop
 set-requires c κs = let w = c .before .before .loop .inv .1 .0 in omega (arith, w .sixteen)
 
-add-next : tie.Need-add-next Inv-loop μ-loop
-add-next c = search needs
-
-loop-less : tie.Need-loop-less Inv-loop μ-loop
-loop-less c = search needs
-
 loop-again : tie.Need-loop-again Inv-loop μ-loop
 loop-again c =
     let l = c .before .before .before .before .loop in
@@ -63,7 +57,6 @@ full-spec =
     loop-holds
     slice-aggregate-set
     set-requires
-    add-next
-    loop-less
+    (λ c. search needs) (λ c. search needs)
     loop-again
     returns)

@@ -11,16 +11,10 @@ use Rattle.model.specs.LiveWords.{cleared}
 use Rattle.worklist.proofs.queue.Queue.take.Statement.{statement}
 use Rattle.worklist.proofs.queue.Queue.take.Tie as tie
 
-slice-aggregate-next : tie.Need-slice-aggregate-next
-slice-aggregate-next c = search needs
-
 next-requires : tie.Need-next-requires
 next-requires c κs =
     let l : length (c .before .before .args .self .words) ≡ 16 = search needs in
     omega arith
-
-slice-aggregate-clear : tie.Need-slice-aggregate-clear
-slice-aggregate-clear c = search needs
 
 clear-requires : tie.Need-clear-requires
 clear-requires c κs =
@@ -44,9 +38,9 @@ pub take-spec : {M : Type 1} → statement M
 take-spec =
     tie.close
     (tie.spec
-    slice-aggregate-next
+    (λ c. search needs)
     next-requires
-    slice-aggregate-clear
+    (λ c. search needs)
     clear-requires
     returns
     returns-2)

@@ -1,0 +1,118 @@
+-- Answers packed: every reply's numbers fit their bits, so that they can be read back from the packed answer.
+-- From the laws of replies.
+use mathlib.Core.Logic.{⊎-elim}
+use mathlib.Core.Path.{_≡_, refl, ap, _∙_}
+use mathlib.Core.Bool.{Bool, true, false, cond}
+use mathlib.Core.Option.{Option, none, some}
+use mathlib.Core.List.{List, [], _∷_}
+use Prim.Native.Nat.{ℕ, _+_, _*_, _/_, _%_, _≤_, _<_}
+use native.Mathlib.Nat.{add-comm, mul-comm}
+use native.Mathlib.Decide.{decLt}
+use native.Mathlib.Omega.{arith}
+use borrow.Author.Tests.{ltb-true}
+use lib.Arith.{digits-mod}
+use lib.Dec.{ltb}
+use lib.ListN.{length}
+use Rattle.model.specs.declared.Counts.{Counts}
+use Rattle.model.specs.Limits.{maxRelations}
+use Rattle.model.specs.Lists.{all}
+use Rattle.model.specs.TupleSet.{TupleSet}
+use Rattle.model.specs.Network.{Network, total}
+use Rattle.model.specs.LiveWords.{living}
+use Rattle.model.specs.Request.{Change, filter, withdraw, choose, Request}
+use Rattle.model.specs.Fault.{Fault, firstFault, refusal, changeFaults, faultsOn, faults, isNone, accepts}
+use Rattle.model.specs.Reply.{Numbers, Reply, answerNumbers, lowestEmpty, answerFor, remainder, countsFor, leaving, accepted, replyTo, reply}
+use Rattle.model.proofs.Bools.{and-left, and-right}
+use Rattle.model.proofs.TupleSet.{count-length}
+use Rattle.model.proofs.LiveWords.{living-length}
+use Rattle.model.proofs.Fault.{faultless, accepts-network}
+use Rattle.model.proofs.Reply.{answer-emptied, answer-settled, answerFor-kind, leaving-sum}
+use Rattle.encoding.specs.Packed.{packedCounts, packed, unpacked}
+
+-- The numbers fit their bits.
+pub record Fits (a : Numbers) : Type 0 where
+  pub kind : a .kind < 256
+  pub subject : a .subject < 256
+  pub left : a .left < 65536
+  pub withdrawn : a .withdrawn < 65536
+  pub deleted : a .deleted < 65536
+
+-- the lowest bits of a number
+low-bits : (b n x y : ℕ) → n ≡ x + b * y → x < b → n % b ≡ x
+low-bits b n x y e h = ap (λ (k : ℕ). k % b) (e ∙ add-comm x (b * y) ∙ ap (λ (k : ℕ). k + x) (mul-comm b y)) ∙ digits-mod y h
+
+-- numbers that fit are read back
+pub unpacked-packed : (a : Numbers) → Fits a → unpacked (packed a) ≡ a
+unfolding unpacked
+unpacked-packed a f =
+    let p = packed a in
+    let from-subject : p / 256 ≡ a .subject + 256 * packedCounts (a .left) (a .withdrawn) (a .deleted) = omega (arith, f .kind) in
+    let from-left : p / 65536 ≡ packedCounts (a .left) (a .withdrawn) (a .deleted) = omega (arith, f .kind, f .subject) in
+    let from-withdrawn : p / 4294967296 ≡ a .withdrawn + 65536 * a .deleted = omega (arith, f .kind, f .subject, f .left) in
+    let from-deleted : p / 281474976710656 ≡ a .deleted = omega (arith, f .kind, f .subject, f .left, f .withdrawn) in
+    let k : p % 256 ≡ a .kind = omega (arith, f .kind) in
+    let s : p / 256 % 256 ≡ a .subject = low-bits 256 (p / 256) (a .subject) (packedCounts (a .left) (a .withdrawn) (a .deleted)) from-subject (f .subject) in
+    let l : p / 65536 % 65536 ≡ a .left = low-bits 65536 (p / 65536) (a .left) (a .withdrawn + 65536 * a .deleted) from-left (f .left) in
+    let w : p / 4294967296 % 65536 ≡ a .withdrawn = low-bits 65536 (p / 4294967296) (a .withdrawn) (a .deleted) from-withdrawn (f .withdrawn) in
+    let d : p / 281474976710656 % 65536 ≡ a .deleted = low-bits 65536 (p / 281474976710656) (a .deleted) 0 (omega (arith, from-deleted)) (f .deleted) in
+    λ i. record { kind = k i; subject = s i; left = l i; withdrawn = w i; deleted = d i }
+
+-- ---- The numbers of a reply
+
+refusal-below : (b : ℕ) → 0 < b → (fs : List Fault) → all (λ (f : Fault). ltb (f .0) b) fs ≡ true → refusal (firstFault fs) < b
+refusal-below b pos [] h = pos
+refusal-below b pos (f ∷ fs) h =
+    either (f .1) (firstFault fs) (ltb-true (f .0) b (and-left (ltb (f .0) b) (all (λ (g : Fault). ltb (g .0) b) fs) h))
+    (refusal-below b pos fs (and-right (ltb (f .0) b) (all (λ (g : Fault). ltb (g .0) b) fs) h))
+  where
+    either : (x : Bool) (o : Option ℕ) {k : ℕ} → k < b → refusal o < b → refusal (cond x (some k) o) < b
+    either true o here later = here
+    either false o here later = later
+
+change-numbers : (N : Network) (change : Change) → all (λ (f : Fault). ltb (f .0) 15) (changeFaults N change) ≡ true
+change-numbers N filter = refl
+change-numbers N (withdraw ids) = refl
+change-numbers N (choose x v) = refl
+
+-- an answer's subject is 64 or a relation's number
+answer-subject : (N : Network) (L : TupleSet) (k : Counts) → length (N .relations) ≤ maxRelations → Dec (lowestEmpty N L < length (N .relations)) → answerNumbers (answerFor N L k) .subject < 256
+answer-subject N L k few (yes h) = omega (arith, h, few, ap (λ a. answerNumbers a .subject) (answer-emptied N L k h))
+answer-subject N L k few (no d) = omega (arith, ap (λ a. answerNumbers a .subject) (answer-settled N L k (omega arith)))
+
+module _ (q : Request) where
+  fault-numbers : refusal (firstFault (faults q)) < 15
+  unfolding faults faultsOn
+  fault-numbers = refusal-below 15 (omega arith) (faults q) (change-numbers (q .given .network) (q .change))
+
+  fits-of : (o : Option ℕ) → firstFault (faults q) ≡ o → Fits (replyTo o q .answer)
+  unfolding accepted leaving accepts
+  fits-of (some f) e =
+      record { kind = omega arith; subject = omega (arith, ap refusal e, fault-numbers); left = omega arith; withdrawn = omega arith; deleted = omega arith }
+  fits-of none e =
+      let I = q .given in
+      let S = living (total (I .network)) (q .words) in
+      let L = remainder I (q .change) S in
+      let k = countsFor I (q .change) S in
+      let ok = faultless (I .network) (accepts-network q (ap isNone e)) in
+      let low = decLt (lowestEmpty (I .network) L) (length (I .network .relations)) in
+      let sum = leaving-sum I (q .change) S L (q .words) (q .supports) in
+      let few = count-length S in
+      let all = living-length (total (I .network)) (q .words) in
+      record {
+        kind = ⊎-elim (λ h. omega (arith, h)) (λ h. omega (arith, h)) (answerFor-kind (I .network) L k low);
+        subject = answer-subject (I .network) L k (ok .relations) low;
+        left = omega (arith, sum, few, all, ok .tuples);
+        withdrawn = omega (arith, sum, few, all, ok .tuples);
+        deleted = omega (arith, sum, few, all, ok .tuples);
+      }
+
+  pub reply-fits : Fits (reply q .answer)
+  unfolding reply
+  reply-fits = fits-of (firstFault (faults q)) refl
+
+  -- what the packed answer says is what the reply says
+  pub reply-unpacked : unpacked (packed (reply q .answer)) ≡ reply q .answer
+  reply-unpacked = unpacked-packed (reply q .answer) reply-fits
+
+  pub replied-subject : (r : Reply) → r ≡ reply q → r .answer .subject < 256
+  replied-subject r e = omega (arith, ap (λ (s : Reply). s .answer .subject) e, reply-fits .subject)

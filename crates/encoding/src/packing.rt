@@ -1,0 +1,80 @@
+// Answers as one number.
+ghost use mathlib.Core.Path.{_≡_};
+ghost use Prim.Native.Nat.{_^_, _<_};
+ghost use Rattle.model.specs.Reply.{withCounts, answerNumbers, verdictNumbers, comparisonNumbers};
+ghost use Rattle.encoding.specs.Packed.{packedCounts, packed, packedPair};
+use model::Answer;
+use model::Comparison;
+use model::Counts;
+use model::Verdict;
+
+// The counts, 16 bits each.
+fn pack_counts(k: Counts) -> u64
+    ensures { λ n. ⌜ (n ≡ packedCounts (k .left) (k .withdrawn) (k .deleted)) × (n < 2 ^ 48) ⌝ }
+{
+    let left = k.left as u64;
+    let withdrawn = k.withdrawn as u64;
+    let deleted = k.deleted as u64;
+    left + 65536 * (withdrawn + 65536 * deleted)
+}
+
+// Kind, subject and counts.
+fn pack_numbers(kind: u64, subject: u64, k: Counts) -> u64
+    requires { ⌜ (kind < 256) × (subject < 256) ⌝ }
+    ensures { λ n. ⌜ n ≡ packed (withCounts kind subject k) ⌝ }
+{
+    kind + 256 * (subject + 256 * pack_counts(k))
+}
+
+// The kind of an answer: 0 settled, 1 emptied, 2 refused.
+pub fn kind_of(a: Answer) -> u64
+    ensures { λ n. ⌜ n ≡ answerNumbers a .kind ⌝ }
+{
+    match a {
+        Answer::Settled(_) => 0,
+        Answer::Emptied(_, _) => 1,
+        Answer::Refused(_) => 2,
+    }
+}
+
+// The answer of a change call.
+pub fn pack(a: Answer) -> u64
+    requires { ⌜ answerNumbers a .subject < 256 ⌝ }
+    ensures { λ n. ⌜ n ≡ packed (answerNumbers a) ⌝ }
+{
+    match a {
+        Answer::Settled(k) => pack_numbers(0, 64, k),
+        Answer::Emptied(r, k) => pack_numbers(1, r as u64, k),
+        Answer::Refused(f) => pack_numbers(
+            2,
+            f as u64,
+            Counts {
+                left: 0,
+                withdrawn: 0,
+                deleted: 0,
+            },
+        ),
+    }
+}
+
+// The answer of test.
+pub fn pack_verdict(v: Verdict) -> u64
+    ensures { λ n. ⌜ n ≡ packedPair (verdictNumbers v) ⌝ }
+{
+    match v {
+        Verdict::No => 0,
+        Verdict::Yes => 1,
+        Verdict::Refused(f) => 2 + 256 * (f as u64),
+    }
+}
+
+// The answer of compare.
+pub fn pack_comparison(a: Comparison) -> u64
+    ensures { λ n. ⌜ n ≡ packedPair (comparisonNumbers a) ⌝ }
+{
+    match a {
+        Comparison::Differ => 0,
+        Comparison::Agree => 1,
+        Comparison::Refused(f) => 2 + 256 * (f as u64),
+    }
+}

@@ -1,0 +1,29 @@
+// Relation records as bytes.
+ghost use mathlib.Core.Path.{_≡_};
+ghost use Rattle.network.specs.Shape.{shapeOf};
+ghost use Rattle.encoding.specs.Records.{records};
+use model::MAX_RELATIONS;
+use network::Shape;
+use wire::least;
+use wire::u16_at;
+
+// The relation records taken apart.
+pub fn shape_at(sheets: &[u8]) -> Shape
+    ensures { λ s. ⌜ s ≡ shapeOf (records (now (sheets .entry))) ⌝ }
+{
+    let count = sheets.len() / 4;
+    let first = least(count, MAX_RELATIONS);
+    let mut widths = [0u16; 64];
+    let mut tuples = [0u16; 64];
+    let mut r = 0;
+    while r < first {
+        widths[r] = u16_at(sheets, 2 * r);
+        tuples[r] = u16_at(sheets, 2 * r + 1);
+        r += 1;
+    }
+    Shape {
+        count,
+        widths,
+        tuples,
+    }
+}

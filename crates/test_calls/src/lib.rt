@@ -1,0 +1,150 @@
+// The calls on plain lists, exported for the test driver of tests/c.
+use changes::choose;
+use changes::filter;
+use changes::withdraw;
+use model::Answer;
+use model::Comparison;
+use model::Verdict;
+use network::Shape;
+
+// The records of a list that holds each relation's width and tuple count.
+fn shape_of(records: &[u16]) -> Shape {
+    let mut shape = Shape {
+        count: records.len() / 2,
+        widths: [0; 64],
+        tuples: [0; 64],
+    };
+    let mut r = 0;
+    while r < 64 {
+        if r < records.len() / 2 {
+            shape.widths[r] = records[2 * r];
+            shape.tuples[r] = records[2 * r + 1];
+        }
+        r += 1;
+    }
+    shape
+}
+
+// The numbers of an answer: kind, subject, left, withdrawn, deleted.
+fn put(answer: Answer, out: &mut [u16; 5]) {
+    let numbers = match answer {
+        Answer::Settled(k) => [0, 64, k.left, k.withdrawn, k.deleted],
+        Answer::Emptied(r, k) => [1, r, k.left, k.withdrawn, k.deleted],
+        Answer::Refused(f) => [2, f as u16, 0, 0, 0],
+    };
+    out[0] = numbers[0];
+    out[1] = numbers[1];
+    out[2] = numbers[2];
+    out[3] = numbers[3];
+    out[4] = numbers[4];
+}
+
+#[no_mangle]
+pub extern "C" fn plain_filter(
+    records: &[u16],
+    variables: &[u16],
+    values: &[u16],
+    m: u16,
+    members: &[u16],
+    words: &mut [u64],
+    supports: &mut [u16],
+    out: &mut [u16; 5],
+) {
+    let answer = filter(
+        shape_of(records),
+        variables,
+        values,
+        m,
+        members,
+        words,
+        supports,
+    );
+    put(answer, out);
+}
+
+#[no_mangle]
+pub extern "C" fn plain_withdraw(
+    records: &[u16],
+    variables: &[u16],
+    values: &[u16],
+    m: u16,
+    members: &[u16],
+    words: &mut [u64],
+    supports: &mut [u16],
+    ids: &[u16],
+    out: &mut [u16; 5],
+) {
+    let answer = withdraw(
+        shape_of(records),
+        variables,
+        values,
+        m,
+        members,
+        words,
+        supports,
+        ids,
+    );
+    put(answer, out);
+}
+
+#[no_mangle]
+pub extern "C" fn plain_choose(
+    records: &[u16],
+    variables: &[u16],
+    values: &[u16],
+    m: u16,
+    members: &[u16],
+    words: &mut [u64],
+    supports: &mut [u16],
+    x: u16,
+    v: u16,
+    out: &mut [u16; 5],
+) {
+    let answer = choose(
+        shape_of(records),
+        variables,
+        values,
+        m,
+        members,
+        words,
+        supports,
+        x,
+        v,
+    );
+    put(answer, out);
+}
+
+// 0 or 1, or 256 times the refusal number and 2.
+#[no_mangle]
+pub extern "C" fn plain_test(
+    records: &[u16],
+    variables: &[u16],
+    values: &[u16],
+    m: u16,
+    members: &[u16],
+    words: &[u64],
+) -> u32 {
+    let answer = consistency::test(shape_of(records), variables, values, m, members, words);
+    match answer {
+        Verdict::No => 0,
+        Verdict::Yes => 1,
+        Verdict::Refused(f) => f as u32 * 256 + 2,
+    }
+}
+
+// 0 or 1, or 256 times the refusal number and 2.
+#[no_mangle]
+pub extern "C" fn plain_compare(
+    records: &[u16],
+    variables: &[u16],
+    values: &[u16],
+    g: u16,
+    h: u16,
+) -> u32 {
+    let answer = network::comparison::compare(shape_of(records), variables, values, g, h);
+    match answer {
+        Comparison::Differ => 0,
+        Comparison::Agree => 1,
+        Comparison::Refused(f) => f as u32 * 256 + 2,
+    }
+}

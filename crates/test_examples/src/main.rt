@@ -1,0 +1,203 @@
+// Document 01's examples P1 to P9, and test and compare beside them, through the calls on plain lists.
+use changes::choose;
+use changes::filter;
+use changes::withdraw;
+use consistency::test;
+use model::Answer;
+use model::Comparison;
+use model::Counts;
+use model::Verdict;
+use network::Shape;
+use network::comparison::compare;
+
+// Three relations of two variables, with these tuple counts.
+fn triangle(first: u16, second: u16, third: u16) -> Shape {
+    let mut tuples = [0u16; 64];
+    tuples[0] = first;
+    tuples[1] = second;
+    tuples[2] = third;
+    Shape {
+        count: 3,
+        widths: [2; 64],
+        tuples,
+    }
+}
+
+fn put(number: u64, end: &[u8]) {
+    io::print_decimal(1, number);
+    io::write_all(1, end);
+}
+
+fn put_counts(kind: u64, subject: u64, k: Counts) {
+    put(kind, b",");
+    put(subject, b",");
+    put(k.left as u64, b",");
+    put(k.withdrawn as u64, b",");
+    put(k.deleted as u64, b"; marks ");
+}
+
+// A line with the answer's numbers and the first word of the marks.
+fn say(what: &[u8], answer: Answer, word: u64) {
+    io::write_all(1, what);
+    match answer {
+        Answer::Settled(k) => put_counts(0, 64, k),
+        Answer::Emptied(r, k) => put_counts(1, r as u64, k),
+        Answer::Refused(f) => put(f as u64, b" refused; marks "),
+    }
+    put(word, b"\n");
+}
+
+fn say_verdict(what: &[u8], verdict: Verdict) {
+    io::write_all(1, what);
+    match verdict {
+        Verdict::No => put(0, b"\n"),
+        Verdict::Yes => put(1, b"\n"),
+        Verdict::Refused(f) => put(f as u64, b" refused\n"),
+    }
+}
+
+fn say_comparison(what: &[u8], comparison: Comparison) {
+    io::write_all(1, what);
+    match comparison {
+        Comparison::Differ => put(0, b"\n"),
+        Comparison::Agree => put(1, b"\n"),
+        Comparison::Refused(f) => put(f as u64, b" refused\n"),
+    }
+}
+
+fn say_numbers(what: &[u8], first: u16, second: u16) {
+    io::write_all(1, what);
+    put(first as u64, b",");
+    put(second as u64, b"\n");
+}
+
+// P1 and P2: book A filtered, and tested before and after.
+fn filtered(variables: &[u16], values: &[u16], words: &mut [u64; 1], supports: &mut [u16; 40]) {
+    let shape = triangle(3, 2, 2);
+    let pairs = [0u16, 1, 0, 2, 1, 2];
+    say_verdict(
+        b"fresh A settled: ",
+        test(shape, variables, values, 2, &pairs, words),
+    );
+    let p1 = filter(shape, variables, values, 2, &pairs, words, supports);
+    say(b"P1: ", p1, words[0]);
+    say_numbers(b"P2: ", supports[8], supports[9]);
+    say_verdict(
+        b"filtered A settled: ",
+        test(shape, variables, values, 2, &pairs, words),
+    );
+}
+
+// Book A with one tuple withdrawn.
+fn withdrawn(
+    what: &[u8],
+    variables: &[u16],
+    values: &[u16],
+    words: &mut [u64; 1],
+    supports: &mut [u16; 40],
+    id: u16,
+) {
+    let pairs = [0u16, 1, 0, 2, 1, 2];
+    let ids = [id; 1];
+    let answer = withdraw(
+        triangle(3, 2, 2),
+        variables,
+        values,
+        2,
+        &pairs,
+        words,
+        supports,
+        &ids,
+    );
+    say(what, answer, words[0]);
+}
+
+// P9: fresh A with value 6 chosen under variable 2; and two comparisons.
+fn chosen(variables: &[u16], values: &[u16], words: &mut [u64; 1], supports: &mut [u16; 40]) {
+    let shape = triangle(3, 2, 2);
+    let pairs = [0u16, 1, 0, 2, 1, 2];
+    let p9 = choose(shape, variables, values, 2, &pairs, words, supports, 2, 6);
+    say(b"P9: ", p9, words[0]);
+    say_comparison(
+        b"rows 0 and 3 agree: ",
+        compare(shape, variables, values, 0, 3),
+    );
+    say_comparison(
+        b"rows 2 and 3 agree: ",
+        compare(shape, variables, values, 2, 3),
+    );
+}
+
+// P1 to P5 and P9, on book A.
+fn book_a() {
+    let variables = [0u16, 1, 1, 2, 2, 0];
+    let values = [1u16, 1, 1, 2, 2, 2, 1, 5, 2, 6, 5, 1, 6, 1];
+    let mut words = [127u64; 1];
+    let mut supports = [7u16; 40];
+    filtered(&variables, &values, &mut words, &mut supports);
+    withdrawn(b"P3: ", &variables, &values, &mut words, &mut supports, 5);
+    withdrawn(b"P4: ", &variables, &values, &mut words, &mut supports, 6);
+    words[0] = 127;
+    withdrawn(b"P5: ", &variables, &values, &mut words, &mut supports, 5);
+    words[0] = 127;
+    chosen(&variables, &values, &mut words, &mut supports);
+}
+
+// P6 and P7.
+fn triples() {
+    let shape = triangle(2, 2, 2);
+    let variables = [0u16, 1, 1, 2, 2, 0];
+    let values = [0u16, 1, 1, 0, 0, 1, 1, 0, 0, 1, 1, 0];
+    let mut words = [63u64; 1];
+    let mut supports = [7u16; 40];
+    let p6 = filter(
+        shape,
+        &variables,
+        &values,
+        2,
+        &[0u16, 1, 0, 2, 1, 2],
+        &mut words,
+        &mut supports,
+    );
+    say(b"P6: ", p6, words[0]);
+    let p7 = filter(
+        shape,
+        &variables,
+        &values,
+        3,
+        &[0u16, 1, 2],
+        &mut words,
+        &mut supports,
+    );
+    say(b"P7: ", p7, words[0]);
+}
+
+// P8.
+fn empty_sheet() {
+    let mut tuples = [0u16; 64];
+    tuples[0] = 1;
+    let shape = Shape {
+        count: 2,
+        widths: [1; 64],
+        tuples,
+    };
+    let none = [0u16; 0];
+    let mut words = [1u64; 1];
+    let mut supports = [7u16; 1];
+    let p8 = filter(
+        shape,
+        &[0u16, 0],
+        &[4u16],
+        2,
+        &none,
+        &mut words,
+        &mut supports,
+    );
+    say(b"P8: ", p8, words[0]);
+}
+
+fn main() {
+    book_a();
+    triples();
+    empty_sheet();
+}
