@@ -8,15 +8,13 @@ use native.Mathlib.Omega.{arith}
 use borrow.Author.Tests.{eqb-true}
 use lib.ListN.{length, take}
 use Rattle.model.specs.Request.{Change}
-use Rattle.model.specs.Reply.{reply, testReply, compareReply}
+use Rattle.model.specs.Reply.{reply, testReply, compareReply, request}
 use Rattle.model.specs.Edges.{cutInstance}
 use Rattle.model.proofs.Bools.{and-left, and-right}
 use Rattle.model.proofs.Edges.{testReply-cut, compareReply-cut}
-use Rattle.network.specs.declared.Shape.{Shape}
-use Rattle.network.specs.Shape.{shapeOf, networkOf}
-use Rattle.network.proofs.Records.{reply-shapeOf, testReply-shapeOf, compareReply-shapeOf}
-use Rattle.request.specs.Checks.{instanceOf}
-use Rattle.changes.specs.Change.{request}
+use Rattle.layout.specs.declared.Shape.{Shape}
+use Rattle.layout.specs.Shape.{shapeOf, networkOf, instanceOf}
+use Rattle.layout.proofs.Records.{reply-shapeOf, testReply-shapeOf, compareReply-shapeOf}
 use Rattle.wire.specs.Entries.{entries, entries16, entries64}
 use Rattle.wire.proofs.Entries.{Bytes, bytes-entries, entries-below}
 use Rattle.encoding.specs.Records.{records}

@@ -9,14 +9,14 @@ use Rattle.model.specs.Lists.{elem}
 use Rattle.model.specs.Network.{Network, total}
 use Rattle.model.specs.Request.{withdraw, Instance, Request, removes}
 use Rattle.model.specs.Fault.{firstFault, refusal, changeFaults}
-use Rattle.model.specs.Reply.{refused, reply}
+use Rattle.model.specs.Reply.{refused, reply, request}
 use Rattle.model.proofs.Reply.{reply-shared, reply-own}
 use Rattle.combination.specs.Proper.{below}
 use Rattle.combination.proofs.Members.{below-more-relations}
 use Rattle.request.specs.Struck.{struck}
 use Rattle.request.proofs.Change.{ids-below, withdraw-struck}
 use Rattle.changes.specs.declared.Opening.{Opening}
-use Rattle.changes.specs.Change.{request, Checked, Opened}
+use Rattle.changes.specs.Change.{Checked, Opened}
 use Rattle.changes.proofs.Ready.{checked-words, Changed}
 
 -- ---- Any change

@@ -21,7 +21,7 @@ use Rattle.model.specs.Consistency.{filtered, needed, supportList}
 use Rattle.model.specs.LiveWords.{livingFrom, living, written}
 use Rattle.model.specs.Request.{filter, Instance, combinationsOf, Request, removes}
 use Rattle.model.specs.Fault.{Fault, firstFault, refusal, networkFaults, combinationFaults, wordsFault, supportsFault, changeFaults, properMembers, faultsOn}
-use Rattle.model.specs.Reply.{answerNumbers, answerFor, remainder, leaving, accepted, reply}
+use Rattle.model.specs.Reply.{answerNumbers, answerFor, remainder, leaving, accepted, reply, replied}
 use Rattle.model.proofs.Bools.{or-false-left}
 use Rattle.model.proofs.Lists.{here}
 use Rattle.model.proofs.TupleSet.{without-count}
@@ -29,24 +29,23 @@ use Rattle.model.proofs.Consistency.{filtered-length, filtered-count}
 use Rattle.model.proofs.LiveWords.{living-length, written-length, living-written}
 use Rattle.model.proofs.Fault.{refusal-none, firstFault-front, firstFault-back, no-fault-at, faultless}
 use Rattle.model.proofs.Reply.{accepts-neither, reply-accepted, countsFor-differences, leaving-written}
-use Rattle.network.specs.declared.Shape.{Shape}
-use Rattle.network.specs.Shape.{relationsOf, networkOf}
+use Rattle.layout.specs.declared.Shape.{Shape}
+use Rattle.layout.specs.Shape.{relationsOf, networkOf, instanceOf}
 use Rattle.network.specs.Layout.{starts, Laid, Bounded}
-use Rattle.network.proofs.Relations.{relation-count}
+use Rattle.layout.proofs.Relations.{relation-count}
 use Rattle.network.proofs.Tabled.{laid-tabled}
 use Rattle.combination.specs.Proper.{proper, Proper}
 use Rattle.combination.proofs.Members.{some-members, few-members, whole-combinations, short-list, all-exist}
 use Rattle.worklist.specs.Tables.{Tabled}
 use Rattle.worklist.specs.Pairs.{Pairs}
 use Rattle.engine.specs.Setting.{Setting, setting, network, listed, Sound}
-use Rattle.request.specs.Checks.{instanceOf}
 use Rattle.request.specs.Tables.{TupleTable, Tables}
 use Rattle.request.specs.Struck.{struck}
 use Rattle.request.proofs.Instance.{network-few, network-bounded, combinations-proper}
 use Rattle.request.proofs.Tables.{total-at}
 use Rattle.request.proofs.Change.{tables-given}
 use Rattle.request.proofs.Struck.{struck-length, struck-living}
-use Rattle.changes.specs.Change.{replied, Checked, finished}
+use Rattle.changes.specs.Change.{Checked, finished}
 
 -- the words and the support list at the end of the filter
 abbrev pub Filtered : Network → List Combination → List ℕ → List ℕ → List ℕ → List ℕ → Type 0

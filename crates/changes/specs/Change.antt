@@ -3,23 +3,14 @@ use mathlib.Core.Path.{_≡_}
 use mathlib.Core.List.{List}
 use Prim.Native.Nat.{ℕ, _-_}
 use lib.ListN.{length}
-use Rattle.model.specs.declared.Answer.{Answer}
 use Rattle.changes.specs.declared.Opening.{Opening}
 use Rattle.model.specs.TupleSet.{count}
 use Rattle.model.specs.Network.{total}
 use Rattle.model.specs.Consistency.{filtered}
 use Rattle.model.specs.LiveWords.{living}
-use Rattle.model.specs.Request.{Change, filter, Instance, combinationsOf, Request}
+use Rattle.model.specs.Request.{filter, Instance, combinationsOf}
 use Rattle.model.specs.Fault.{firstFault, refusal, faultsOn}
-use Rattle.model.specs.Reply.{Reply, answerNumbers, leaving}
-
--- the request: an instance, the live words and the support list lent, and the change
-abbrev pub request : Instance → List ℕ → List ℕ → Change → Request
-request I words supports change = record { given = I; words = words; supports = supports; change = change }
-
--- the reply: the answer, and the live words and the support list at the end
-abbrev pub replied : Answer → List ℕ → List ℕ → Reply
-replied a words supports = record { answer = answerNumbers a; words = words; supports = supports }
+use Rattle.model.specs.Reply.{Reply, leaving}
 
 -- none of the faults 2 to 12, with these live words and this support list
 abbrev pub Checked : Instance → List ℕ → List ℕ → Type 0

@@ -18,9 +18,9 @@ use Rattle.model.specs.Fault.{properMembers}
 use Rattle.model.proofs.Bools.{and-left, and-right, and-intro, iff-eq}
 use Rattle.model.proofs.Lists.{here, all-more, all-getD}
 use Rattle.model.proofs.Combination.{combination-count, members-all}
-use Rattle.network.specs.declared.Shape.{Shape}
-use Rattle.network.specs.Shape.{networkOf}
-use Rattle.network.proofs.Relations.{relation-count}
+use Rattle.layout.specs.declared.Shape.{Shape}
+use Rattle.layout.specs.Shape.{networkOf}
+use Rattle.layout.proofs.Relations.{relation-count}
 use Rattle.combination.specs.Masks.{grown, absorbed}
 use Rattle.combination.specs.Proper.{below, proper, Proper}
 

@@ -16,9 +16,9 @@ use Rattle.model.specs.Fault.{properScope, different}
 use Rattle.model.proofs.Bools.{and-left}
 use Rattle.model.proofs.Lists.{all-at, mem-from}
 use Rattle.model.proofs.Fault.{Faultless, faultless}
-use Rattle.network.specs.declared.Shape.{Shape}
-use Rattle.network.specs.Shape.{relationsOf, networkOf}
-use Rattle.network.proofs.Relations.{relation-count, relation-at, below-count}
+use Rattle.layout.specs.declared.Shape.{Shape}
+use Rattle.layout.specs.Shape.{relationsOf, networkOf}
+use Rattle.layout.proofs.Relations.{relation-count, relation-at, below-count}
 use Rattle.combination.specs.Masks.{WithoutFault}
 
 module _ (S : Shape) (variables : List ℕ) where

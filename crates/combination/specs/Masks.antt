@@ -11,8 +11,8 @@ use Rattle.model.specs.Lists.{elem}
 use Rattle.model.specs.Network.{Network, scopeOf}
 use Rattle.model.specs.LiveWords.{isSet}
 use Rattle.model.specs.Fault.{networkFaults, firstFault}
-use Rattle.network.specs.declared.Shape.{Shape}
-use Rattle.network.specs.Shape.{networkOf}
+use Rattle.layout.specs.declared.Shape.{Shape}
+use Rattle.layout.specs.Shape.{networkOf}
 
 -- these records and variables, with some values, are a network without fault
 abbrev pub WithoutFault : Shape → List ℕ → Type 0

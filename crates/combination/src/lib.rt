@@ -14,16 +14,16 @@ ghost use Rattle.model.specs.Combination.{combinations, connected};
 ghost use Rattle.model.specs.Consistency.{needed};
 ghost use Rattle.model.specs.Request.{Instance, combinationsOf};
 ghost use Rattle.model.specs.Fault.{networkFaults, combinationFaults, wordsFault, supportsFault, firstFault, refusal};
-ghost use Rattle.network.specs.Shape.{networkOf};
+ghost use Rattle.layout.specs.Shape.{networkOf};
 ghost use Rattle.combination.specs.Masks.{WithoutFault, Masks, meets, absorbed};
 ghost use Rattle.combination.specs.Proper.{below, proper, Proper};
+use layout::Shape;
+use layout::wide;
 use model::MAX_COMBINATIONS;
 use model::MAX_MEMBERS;
 use model::MAX_SUPPORT_NUMBERS;
 use model::MIN_MEMBERS;
 use model::WORD_BITS;
-use network::Shape;
-use network::wide;
 
 // The set of a scope's variables: variable x is bit x.
 fn mask_of(scope: &[u16]) -> u64

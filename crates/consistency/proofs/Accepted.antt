@@ -18,11 +18,11 @@ use Rattle.model.specs.Fault.{Fault, firstFault, within, properMembers, instanc
 use Rattle.model.proofs.Bools.{and-left, and-right}
 use Rattle.model.proofs.Lists.{here}
 use Rattle.model.proofs.Fault.{no-fault-here, no-fault-at, firstFault-front, firstFault-back}
-use Rattle.network.specs.declared.Shape.{Shape}
-use Rattle.network.specs.Shape.{relationsOf, networkOf}
+use Rattle.layout.specs.declared.Shape.{Shape}
+use Rattle.layout.specs.Shape.{relationsOf, networkOf, instanceOf}
 use Rattle.network.specs.Layout.{starts, tabled, Laid}
 use Rattle.network.proofs.Tabled.{laid-tabled, tabled-laid}
-use Rattle.request.specs.Checks.{instanceOf, testFaultsOn}
+use Rattle.request.specs.Checks.{testFaultsOn}
 use Rattle.consistency.specs.Setting.{setting, Sound}
 
 module _ (I : Instance) (words : ℕ) (e : firstFault (testFaultsOn I words) ≡ none) where

@@ -9,15 +9,15 @@ ghost use Rattle.model.specs.Reply.{verdictNumbers, testReply};
 ghost use Rattle.narrowing.specs.Marks.{Marks};
 ghost use Rattle.support.specs.Search.{seeker, Ready};
 ghost use Rattle.support.specs.Search as search;
-ghost use Rattle.request.specs.Checks.{instanceOf};
+ghost use Rattle.layout.specs.Shape.{instanceOf};
 ghost use Rattle.consistency.specs.Setting.{setting, network, live, listed, Sound, pairConsistent, searchIn};
+use layout::Shape;
+use layout::wide;
 use live::copied;
 use live::next;
 use model::Verdict;
 use narrowing::mark_all;
-use network::Shape;
 use network::tables::offsets;
-use network::wide;
 use request::checks::test_checked;
 use support::first_support;
 

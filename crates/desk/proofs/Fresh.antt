@@ -13,14 +13,13 @@ use Rattle.model.specs.Network.{total}
 use Rattle.model.specs.LiveWords.{living}
 use Rattle.model.specs.Request.{filter, Request}
 use Rattle.model.specs.Fault.{accepts}
-use Rattle.model.specs.Reply.{Reply, answerNumbers, remainder, accepted, leaving, reply}
+use Rattle.model.specs.Reply.{Reply, answerNumbers, remainder, accepted, leaving, reply, request, replied}
 use Rattle.model.proofs.Bools.{not-both}
 use Rattle.model.proofs.LiveWords.{written-length}
 use Rattle.model.proofs.Fault.{accepts-network, accepts-words}
 use Rattle.model.proofs.Reply.{reply-accepted, reply-refused}
-use Rattle.network.specs.declared.Shape.{Shape}
-use Rattle.request.specs.Checks.{instanceOf}
-use Rattle.changes.specs.Change.{request, replied}
+use Rattle.layout.specs.declared.Shape.{Shape}
+use Rattle.layout.specs.Shape.{instanceOf}
 use Rattle.printing.specs.Lines.{Printable}
 
 -- a reply that is not of kind 2 is to a request without fault

@@ -13,7 +13,7 @@ use Rattle.model.specs.Limits.{maxRelations}
 use Rattle.model.specs.Lists.{from}
 use Rattle.model.specs.Network.{noRelation, variablesIn, tuplesIn}
 use Rattle.model.proofs.Lists.{length-from, getD-map-from}
-use Rattle.network.specs.Shape.{padded, shapeOf}
+use Rattle.layout.specs.Shape.{padded, shapeOf}
 use Rattle.wire.specs.Entries.{entryAt}
 use Rattle.encoding.specs.Records.{recordIn, records}
 

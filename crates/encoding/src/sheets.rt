@@ -1,9 +1,9 @@
 // Relation records as bytes.
 ghost use mathlib.Core.Path.{_≡_};
-ghost use Rattle.network.specs.Shape.{shapeOf};
+ghost use Rattle.layout.specs.Shape.{shapeOf};
 ghost use Rattle.encoding.specs.Records.{records};
+use layout::Shape;
 use model::MAX_RELATIONS;
-use network::Shape;
 use wire::least;
 use wire::u16_at;
 

@@ -7,17 +7,16 @@ ghost use Rattle.model.specs.Lists.{elem};
 ghost use Rattle.model.specs.Network.{Network, total};
 ghost use Rattle.model.specs.Request.{withdraw};
 ghost use Rattle.model.specs.Fault.{firstFault, refusal, changeFaults};
-ghost use Rattle.model.specs.Reply.{reply};
+ghost use Rattle.model.specs.Reply.{reply, request, replied};
 ghost use Rattle.combination.specs.Proper.{below};
-ghost use Rattle.request.specs.Checks.{instanceOf};
+ghost use Rattle.layout.specs.Shape.{instanceOf};
 ghost use Rattle.request.specs.Struck.{struck};
-ghost use Rattle.changes.specs.Change.{request, replied};
 ghost use Rattle.wire.specs.Entries.{entries16};
 use changes::examine;
 use changes::finish;
+use layout::Shape;
 use live::clear;
 use model::Answer;
-use network::Shape;
 use wire::u16_at;
 
 // 13 if an id listed is not below the number of tuples, or 0.

@@ -2,8 +2,7 @@
 ghost use mathlib.Core.Path.{_≡_};
 ghost use Prim.Native.Nat.{_*_, _≤_, _<_};
 ghost use lib.ListN.{length};
-ghost use Rattle.model.specs.Reply.{answerNumbers};
-ghost use Rattle.changes.specs.Change.{replied};
+ghost use Rattle.model.specs.Reply.{answerNumbers, replied};
 ghost use Rattle.encoding.specs.Packed.{outcome, writtenBack};
 use super::packing::kind_of;
 use super::packing::pack;

@@ -8,7 +8,7 @@ ghost use Rattle.model.specs.Combination.{combinations};
 ghost use Rattle.model.specs.Consistency.{needed, supportStart};
 ghost use Rattle.worklist.specs.Tables.{Tabled};
 ghost use Rattle.engine.specs.Blank.{Blank, Blanked};
-use network::wide;
+use layout::wide;
 use worklist::list::blank;
 
 // Of the tuples with ids from first on and below end, whose numbers lie from the given place on, m each: every dead one's

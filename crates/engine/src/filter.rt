@@ -11,10 +11,10 @@ ghost use Rattle.engine.specs.Setting.{setting, network, listed, liveIn,
 ghost use Rattle.engine.specs.Work.{WordArray};
 use super::blank::blank_all;
 use super::visit::visit;
+use layout::wide;
 use live::copied;
 use live::put_back;
 use narrowing::mark_all;
-use network::wide;
 use worklist::list::fill;
 use worklist::list::pair_starts;
 use worklist::queue::Queue;

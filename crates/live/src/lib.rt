@@ -6,6 +6,11 @@ ghost use lib.ListN.{length, getD, take, drop};
 ghost use Rattle.model.specs.TupleSet.{count};
 ghost use Rattle.model.specs.LiveWords.{isLive, livingFrom, nextLive, cleared, raised};
 
+// The words of 4,096 ids.
+pub const WORDS: usize = 64;
+
+pub type Words = [u64; WORDS];
+
 // Is id g live.
 pub fn is_live(words: &[u64], g: u16) -> bool
     requires { ⌜ g < 64 * length (now words) ⌝ }
@@ -90,11 +95,11 @@ fn capped(n: usize) -> usize
 }
 
 // The first 64 words, and noughts where there are fewer.
-pub fn copied(words: &[u64]) -> [u64; 64]
+pub fn copied(words: &[u64]) -> Words
     ensures { λ r. ⌜ (length r ≡ 64) × ((i : ℕ) → i < 64 → getD r i 0 ≡ getD (now (words .entry)) i 0) ⌝ }
 {
     let n = capped(words.len());
-    let mut copy = [0u64; 64];
+    let mut copy = [0u64; WORDS];
     let mut i = 0;
     while i < n {
         copy[i] = words[i];
@@ -104,7 +109,7 @@ pub fn copied(words: &[u64]) -> [u64; 64]
 }
 
 // The first 64 words are those of the copy, as many as there are, and all others stay.
-pub fn put_back(copy: &[u64; 64], words: &mut [u64])
+pub fn put_back(copy: &Words, words: &mut [u64])
     requires { ⌜ length (now copy) ≡ 64 ⌝ }
     ensures { λ _. ⌜ now (words .exit) ≡ take (length (now (words .entry))) (now (copy .entry)) ++ drop 64 (now (words .entry)) ⌝ }
 {

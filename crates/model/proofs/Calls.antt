@@ -18,7 +18,7 @@ use Rattle.model.specs.LiveWords.{living, written}
 use Rattle.model.specs.Request.{Change, Instance, combinationsOf, removes}
 use Rattle.model.specs.Fault.{firstFault, faultsOn, faults, isNone, accepts}
 use Rattle.model.specs.Reply.{Reply, remainder, countsFor, leaving, accepted, reply}
-use Rattle.model.specs.Calls.{Call, lentWords, request, sharedAfter, Proper, State, start, make, makeAll, anyAccepted, removedBy, starting}
+use Rattle.model.specs.Calls.{Call, lentWords, callRequest, sharedAfter, Proper, State, start, make, makeAll, anyAccepted, removedBy, starting}
 use Rattle.model.proofs.Bools.{not-both}
 use Rattle.model.proofs.Lists.{here}
 use Rattle.model.proofs.TupleSet.{without-without, without-length}
@@ -33,10 +33,10 @@ shared-lent : (o : Option (List ℕ)) (ws : List ℕ) → sharedAfter o ws (lent
 shared-lent none ws = refl
 shared-lent (some own) ws = refl
 
-make-refused : (st : State) (c : Call) → accepts (request (st .words) c) ≡ false → make st c ≡ st
+make-refused : (st : State) (c : Call) → accepts (callRequest (st .words) c) ≡ false → make st c ≡ st
 unfolding make
 make-refused st c e =
-    let q = request (st .words) c in
+    let q = callRequest (st .words) c in
     let r = reply-refused q e .1 in
     let words : sharedAfter (c .own) (st .words) ((reply q) .words) ≡ st .words = ap (λ (p : Reply). sharedAfter (c .own) (st .words) (p .words)) r ∙ shared-lent (c .own) (st .words) in
     let gone : st .gone + (((reply q) .answer) .withdrawn + ((reply q) .answer) .deleted) ≡ st .gone = omega (arith, ap (λ (p : Reply). (p .answer) .withdrawn) r, ap (λ (p : Reply). (p .answer) .deleted) r) in
@@ -48,7 +48,7 @@ lent-length : (o : Option (List ℕ)) (vs ws : List ℕ) → length vs ≡ lengt
 lent-length none vs ws e = e
 lent-length (some own) vs ws e = refl
 
-accepts-length : (vs ws : List ℕ) (c : Call) → length vs ≡ length ws → accepts (request vs c) ≡ accepts (request ws c)
+accepts-length : (vs ws : List ℕ) (c : Call) → length vs ≡ length ws → accepts (callRequest vs c) ≡ accepts (callRequest ws c)
 unfolding accepts faults
 accepts-length vs ws c e =
     ap (λ (n : ℕ). isNone (firstFault (faultsOn (c .given) n (length (c .supports)) (c .change)))) (lent-length (c .own) vs ws e)
@@ -92,42 +92,42 @@ module _ (I : Instance) (ws : List ℕ) where
     pub enough : total N ≤ wordBits * length ws
 
   -- an accepted call that finds S live and leaves what is left without t
-  after-call : (t : ℕ → Bool) (st : State) (supports : List ℕ) (change : Change) (S : TupleSet) → accepts (request ws (shared supports change)) ≡ true → accepts (request (st .words) (shared supports change)) ≡ true → reply (request (st .words) (shared supports change)) ≡ leaving I (rest t) (countsFor I change S) ws supports → remainder I change S ≡ rest t → st .gone + count S ≡ count (starting I ws) → After t (make st (shared supports change))
+  after-call : (t : ℕ → Bool) (st : State) (supports : List ℕ) (change : Change) (S : TupleSet) → accepts (callRequest ws (shared supports change)) ≡ true → accepts (callRequest (st .words) (shared supports change)) ≡ true → reply (callRequest (st .words) (shared supports change)) ≡ leaving I (rest t) (countsFor I change S) ws supports → remainder I change S ≡ rest t → st .gone + count S ≡ count (starting I ws) → After t (make st (shared supports change))
   unfolding make leaving countsFor
   after-call t st supports change S a b r l g =
       record {
         words = ap (λ (p : Reply). p .words) r;
         call = shared supports change;
         counts = countsFor I change S;
-        last = ap {B = Option (Call × Reply)} (λ x. cond x (some (shared supports change, reply (request (st .words) (shared supports change)))) (st .last)) b
+        last = ap {B = Option (Call × Reply)} (λ x. cond x (some (shared supports change, reply (callRequest (st .words) (shared supports change)))) (st .last)) b
             ∙ ap {B = Option (Call × Reply)} (λ p. some (shared supports change, p)) r;
         left = ap count l;
         sum = omega (arith, ap (λ (p : Reply). (p .answer) .left) r, ap (λ (p : Reply). (p .answer) .withdrawn) r, ap (λ (p : Reply). (p .answer) .deleted) r, leaving-sum I change S (rest t) ws supports, leaving-left I (rest t) (countsFor I change S) ws supports, ap count l);
-        enough = accepts-words (request ws (shared supports change)) a;
+        enough = accepts-words (callRequest ws (shared supports change)) a;
       }
 
-  after-first : (st : State) (supports : List ℕ) (change : Change) → st .words ≡ ws → st .gone ≡ 0 → accepts (request ws (shared supports change)) ≡ true → After (removes N change) (make st (shared supports change))
+  after-first : (st : State) (supports : List ℕ) (change : Change) → st .words ≡ ws → st .gone ≡ 0 → accepts (callRequest ws (shared supports change)) ≡ true → After (removes N change) (make st (shared supports change))
   unfolding remainder accepted
   after-first st supports change e z a =
       let c = shared supports change in
-      after-call (removes N change) st supports change (starting I ws) a (ap (λ (v : List ℕ). accepts (request v c)) e ∙ a)
-      (ap (λ (v : List ℕ). reply (request v c)) e ∙ reply-accepted (request ws c) a)
+      after-call (removes N change) st supports change (starting I ws) a (ap (λ (v : List ℕ). accepts (callRequest v c)) e ∙ a)
+      (ap (λ (v : List ℕ). reply (callRequest v c)) e ∙ reply-accepted (callRequest ws c) a)
       refl
       (omega arith)
 
   words-length : (t : ℕ → Bool) (st : State) → After t st → length (st .words) ≡ length ws
   words-length t st after = ap length (after .words) ∙ written-length (total N) (rest t) ws
 
-  after-next : (t : ℕ → Bool) (st : State) (supports : List ℕ) (change : Change) → After t st → accepts (request ws (shared supports change)) ≡ true → After (λ (g : ℕ). t g || removes N change g) (make st (shared supports change))
+  after-next : (t : ℕ → Bool) (st : State) (supports : List ℕ) (change : Change) → After t st → accepts (callRequest ws (shared supports change)) ≡ true → After (λ (g : ℕ). t g || removes N change g) (make st (shared supports change))
   unfolding accepted
   after-next t st supports change after a =
       let c = shared supports change in
       let both : ℕ → Bool = λ g. t g || removes N change g in
       let a′ = accepts-length (st .words) ws c (words-length t st after) ∙ a in
       after-call both st supports change (rest t) a a′
-      (reply-accepted (request (st .words) c) a′
+      (reply-accepted (callRequest (st .words) c) a′
       ∙ ap (λ (v : List ℕ). leaving I (remainder I change (living (total N) v)) (countsFor I change (living (total N) v)) v supports) (after .words)
-      ∙ ap (λ (X : TupleSet). leaving I (remainder I change X) (countsFor I change X) (written (total N) (rest t) ws) supports) (living-written (total N) (rest t) ws (rest-length t) (accepts-words (request ws c) a))
+      ∙ ap (λ (X : TupleSet). leaving I (remainder I change X) (countsFor I change X) (written (total N) (rest t) ws) supports) (living-written (total N) (rest t) ws (rest-length t) (accepts-words (callRequest ws c) a))
       ∙ ap (λ (L : TupleSet). leaving I L (countsFor I change (rest t)) (written (total N) (rest t) ws) supports) (remainder-rest t change)
       ∙ leaving-written I (rest both) (rest t) (countsFor I change (rest t)) ws supports)
       (remainder-rest t change)
@@ -136,19 +136,19 @@ module _ (I : Instance) (ws : List ℕ) where
   -- ---- The induction over the list
 
   -- an accepted call of a proper list is on the shared lists
-  on-shared : (c : Call) → accepts (request ws c) ≡ true → ((c .given ≡ I) × (c .own ≡ none)) ⊎ (accepts (request ws c) ≡ false) → shared (c .supports) (c .change) ≡ c
+  on-shared : (c : Call) → accepts (callRequest ws c) ≡ true → ((c .given ≡ I) × (c .own ≡ none)) ⊎ (accepts (callRequest ws c) ≡ false) → shared (c .supports) (c .change) ≡ c
   on-shared c a (inl e) = shared-call c (e .0) (e .1)
   on-shared c a (inr r) = absurd (not-both a r)
 
-  next-call : (t : ℕ → Bool) (st : State) (c : Call) → shared (c .supports) (c .change) ≡ c → After t st → accepts (request ws c) ≡ true → After (λ (g : ℕ). t g || removes N (c .change) g) (make st c)
+  next-call : (t : ℕ → Bool) (st : State) (c : Call) → shared (c .supports) (c .change) ≡ c → After t st → accepts (callRequest ws c) ≡ true → After (λ (g : ℕ). t g || removes N (c .change) g) (make st c)
   next-call t st c e after a =
       subst (λ (d : Call). After (λ (g : ℕ). t g || removes N (c .change) g) (make st d)) e
-      (after-next t st (c .supports) (c .change) after (ap (λ (d : Call). accepts (request ws d)) e ∙ a))
+      (after-next t st (c .supports) (c .change) after (ap (λ (d : Call). accepts (callRequest ws d)) e ∙ a))
 
-  first-call : (st : State) (c : Call) → shared (c .supports) (c .change) ≡ c → st .words ≡ ws → st .gone ≡ 0 → accepts (request ws c) ≡ true → After (removes N (c .change)) (make st c)
+  first-call : (st : State) (c : Call) → shared (c .supports) (c .change) ≡ c → st .words ≡ ws → st .gone ≡ 0 → accepts (callRequest ws c) ≡ true → After (removes N (c .change)) (make st c)
   first-call st c e w z a =
       subst (λ (d : Call). After (removes N (c .change)) (make st d)) e
-      (after-first st (c .supports) (c .change) w z (ap (λ (d : Call). accepts (request ws d)) e ∙ a))
+      (after-first st (c .supports) (c .change) w z (ap (λ (d : Call). accepts (callRequest ws d)) e ∙ a))
 
   removed-cons : (x s r : Bool) → x ≡ true → (s || r) ≡ (x && s || r)
   removed-cons true s r e = refl
@@ -162,57 +162,57 @@ module _ (I : Instance) (ws : List ℕ) where
   Later : List Call → Type 0
   Later calls = Proper I ws calls → (t : ℕ → Bool) (st : State) → After t st → After (λ (g : ℕ). t g || removedBy I ws calls g) (makeAll st calls)
 
-  later-cons : (c : Call) (calls : List Call) → Later calls → (x : Bool) → accepts (request ws c) ≡ x → Later (c ∷ calls)
+  later-cons : (c : Call) (calls : List Call) → Later calls → (x : Bool) → accepts (callRequest ws c) ≡ x → Later (c ∷ calls)
   unfolding Later removedBy
   later-cons c calls f true e proper t st after =
       subst (λ (v : ℕ → Bool). After v (makeAll (make st c) calls))
-      (fun-ext (λ g. or-assoc (t g) (removes N (c .change) g) (removedBy I ws calls g) ∙ ap (λ (x : Bool). t g || x) (removed-cons (accepts (request ws c)) (removes N (c .change) g) (removedBy I ws calls g) e)))
+      (fun-ext (λ g. or-assoc (t g) (removes N (c .change) g) (removedBy I ws calls g) ∙ ap (λ (x : Bool). t g || x) (removed-cons (accepts (callRequest ws c)) (removes N (c .change) g) (removedBy I ws calls g) e)))
       (f (λ d m. proper d (List·Memᴰ·tail m)) (λ (g : ℕ). t g || removes N (c .change) g) (make st c) (next-call t st c (on-shared c e (proper c here)) after e))
   later-cons c calls f false e proper t st after =
       let a = accepts-length (st .words) ws c (words-length t st after) ∙ e in
       subst (λ (v : ℕ → Bool). After v (makeAll (make st c) calls))
-      (fun-ext (λ g. ap (λ (x : Bool). t g || x) (removed-skip (accepts (request ws c)) (removes N (c .change) g) (removedBy I ws calls g) e)))
+      (fun-ext (λ g. ap (λ (x : Bool). t g || x) (removed-skip (accepts (callRequest ws c)) (removes N (c .change) g) (removedBy I ws calls g) e)))
       (f (λ d m. proper d (List·Memᴰ·tail m)) t (make st c) (subst (After t) (sym (make-refused st c a)) after))
 
   later-all : (calls : List Call) → Later calls
   unfolding Later removedBy
   later-all [] = λ _ t st after. subst (λ (v : ℕ → Bool). After v st) (fun-ext (λ g. sym (or-false (t g)))) after
-  later-all (c ∷ calls) = later-cons c calls (later-all calls) (accepts (request ws c)) refl
+  later-all (c ∷ calls) = later-cons c calls (later-all calls) (accepts (callRequest ws c)) refl
 
   -- calls of which the first accepted one is still to come
   Sooner : List Call → Type 0
   Sooner calls = Proper I ws calls → (st : State) → st .words ≡ ws → st .gone ≡ 0 → anyAccepted ws calls ≡ true → After (removedBy I ws calls) (makeAll st calls)
 
-  sooner-cons : (c : Call) (calls : List Call) → Sooner calls → (x : Bool) → accepts (request ws c) ≡ x → Sooner (c ∷ calls)
+  sooner-cons : (c : Call) (calls : List Call) → Sooner calls → (x : Bool) → accepts (callRequest ws c) ≡ x → Sooner (c ∷ calls)
   unfolding Sooner Later removedBy anyAccepted
   sooner-cons c calls f true e proper st w z h =
       subst (λ (v : ℕ → Bool). After v (makeAll (make st c) calls))
-      (fun-ext (λ g. removed-cons (accepts (request ws c)) (removes N (c .change) g) (removedBy I ws calls g) e))
+      (fun-ext (λ g. removed-cons (accepts (callRequest ws c)) (removes N (c .change) g) (removedBy I ws calls g) e))
       (later-all calls (λ d m. proper d (List·Memᴰ·tail m)) (removes N (c .change)) (make st c) (first-call st c (on-shared c e (proper c here)) w z e))
   sooner-cons c calls f false e proper st w z h =
-      let same = make-refused st c (ap (λ (v : List ℕ). accepts (request v c)) w ∙ e) in
+      let same = make-refused st c (ap (λ (v : List ℕ). accepts (callRequest v c)) w ∙ e) in
       subst (λ (v : ℕ → Bool). After v (makeAll (make st c) calls))
-      (fun-ext (λ g. removed-skip (accepts (request ws c)) (removes N (c .change) g) (removedBy I ws calls g) e))
+      (fun-ext (λ g. removed-skip (accepts (callRequest ws c)) (removes N (c .change) g) (removedBy I ws calls g) e))
       (f (λ d m. proper d (List·Memᴰ·tail m)) (make st c) (ap (λ (s : State). s .words) same ∙ w) (ap (λ (s : State). s .gone) same ∙ z) (subst (λ (x : Bool). (x || anyAccepted ws calls) ≡ true) e h))
 
   sooner-all : (calls : List Call) → Sooner calls
   unfolding Sooner anyAccepted
   sooner-all [] = λ _ st w z h. absurd (false≢true h)
-  sooner-all (c ∷ calls) = sooner-cons c calls (sooner-all calls) (accepts (request ws c)) refl
+  sooner-all (c ∷ calls) = sooner-cons c calls (sooner-all calls) (accepts (callRequest ws c)) refl
 
   pub makeAll-accepted : (calls : List Call) → Proper I ws calls → anyAccepted ws calls ≡ true → After (removedBy I ws calls) (makeAll (start ws) calls)
   unfolding Sooner
   makeAll-accepted calls proper h = sooner-all calls proper (start ws) refl refl h
 
-none-cons : (ws : List ℕ) (c : Call) (calls : List Call) → ((st : State) → st .words ≡ ws → anyAccepted ws calls ≡ false → makeAll st calls ≡ st) → (x : Bool) → accepts (request ws c) ≡ x → (st : State) → st .words ≡ ws → (x || anyAccepted ws calls) ≡ false → makeAll (make st c) calls ≡ st
+none-cons : (ws : List ℕ) (c : Call) (calls : List Call) → ((st : State) → st .words ≡ ws → anyAccepted ws calls ≡ false → makeAll st calls ≡ st) → (x : Bool) → accepts (callRequest ws c) ≡ x → (st : State) → st .words ≡ ws → (x || anyAccepted ws calls) ≡ false → makeAll (make st c) calls ≡ st
 none-cons ws c calls f true e st w h = absurd (true≢false h)
 none-cons ws c calls f false e st w h =
-    ap (λ (s : State). makeAll s calls) (make-refused st c (ap (λ (v : List ℕ). accepts (request v c)) w ∙ e)) ∙ f st w h
+    ap (λ (s : State). makeAll s calls) (make-refused st c (ap (λ (v : List ℕ). accepts (callRequest v c)) w ∙ e)) ∙ f st w h
 
 makeAll-still : (ws : List ℕ) (calls : List Call) (st : State) → st .words ≡ ws → anyAccepted ws calls ≡ false → makeAll st calls ≡ st
 unfolding anyAccepted
 makeAll-still ws [] st w h = refl
-makeAll-still ws (c ∷ calls) st w h = none-cons ws c calls (makeAll-still ws calls) (accepts (request ws c)) refl st w h
+makeAll-still ws (c ∷ calls) st w h = none-cons ws c calls (makeAll-still ws calls) (accepts (callRequest ws c)) refl st w h
 
 -- a list with no accepted call changes nothing
 pub makeAll-none : (ws : List ℕ) (calls : List Call) → anyAccepted ws calls ≡ false → makeAll (start ws) calls ≡ start ws

@@ -26,8 +26,8 @@ lentWords none shared = shared
 lentWords (some own) shared = own
 
 -- the call's request while the shared words are ws
-abbrev pub request : List ℕ → Call → Request
-request ws c = record { given = c .given; words = lentWords (c .own) ws; supports = c .supports; change = c .change }
+abbrev pub callRequest : List ℕ → Call → Request
+callRequest ws c = record { given = c .given; words = lentWords (c .own) ws; supports = c .supports; change = c .change }
 
 -- what the shared words hold after a call that leaves `after` in the words lent to it
 abbrev pub sharedAfter : Option (List ℕ) → List ℕ → List ℕ → List ℕ
@@ -37,7 +37,7 @@ sharedAfter (some own) shared after = shared
 -- A list's calls are on the shared instance and words, but a call that is refused may be on others.
 abbrev pub Proper : Instance → List ℕ → List Call → Type 0
 Proper I ws calls =
-    (c : Call) → List·Memᴰ c calls → ((c .given ≡ I) × (c .own ≡ none)) ⊎ (accepts (request ws c) ≡ false)
+    (c : Call) → List·Memᴰ c calls → ((c .given ≡ I) × (c .own ≡ none)) ⊎ (accepts (callRequest ws c) ≡ false)
 
 -- The shared words, how many tuples were withdrawn and deleted so far, and the last accepted call with its reply.
 pub record State : Type 0 where
@@ -51,7 +51,7 @@ start ws = record { words = ws; gone = 0; last = none }
 -- one call made
 unfoldable pub make : State → Call → State
 make st c =
-    let q = request (st .words) c in
+    let q = callRequest (st .words) c in
     record {
       words = sharedAfter (c .own) (st .words) ((reply q) .words);
       gone = st .gone + (((reply q) .answer) .withdrawn + ((reply q) .answer) .deleted);
@@ -65,11 +65,11 @@ makeAll st (c ∷ cs) = makeAll (make st c) cs
 
 -- some call of the list is accepted; this depends on how many words there are, and not on what they hold
 unfoldable pub anyAccepted : List ℕ → List Call → Bool
-anyAccepted ws calls = any (λ (c : Call). accepts (request ws c)) calls
+anyAccepted ws calls = any (λ (c : Call). accepts (callRequest ws c)) calls
 
 -- an accepted call of the list removes tuple g
 unfoldable pub removedBy : Instance → List ℕ → List Call → ℕ → Bool
-removedBy I ws calls g = any (λ (c : Call). accepts (request ws c) && removes (I .network) (c .change) g) calls
+removedBy I ws calls g = any (λ (c : Call). accepts (callRequest ws c) && removes (I .network) (c .change) g) calls
 
 -- the starting tuples
 abbrev pub starting : Instance → List ℕ → TupleSet

@@ -36,12 +36,12 @@ divisions [] = ([], []) ∷ []
 divisions (r ∷ c) = addToEither r (divisions c)
 
 -- some relation of the one group shares a variable with one of the other
-abbrev pub joined : Network → Division → Bool
-joined N d = any (λ (r : ℕ). any (share N r) (d .1)) (d .0)
+abbrev pub linked : Network → Division → Bool
+linked N d = any (λ (r : ℕ). any (share N r) (d .1)) (d .0)
 
 -- connected: no division into two groups, neither of them empty, shares no variable
 unfoldable pub connected : Network → Combination → Bool
-connected N c = all (λ (d : Division). empty (d .0) || empty (d .1) || joined N d) (divisions c)
+connected N c = all (λ (d : Division). empty (d .0) || empty (d .1) || linked N d) (divisions c)
 
 -- A chain of combinations from relation r to relation t: each two neighbours stand in one listed combination.
 pub data Chain (cs : List Combination) : ℕ → ℕ → Type 0 where

@@ -47,6 +47,14 @@ pub record Reply : Type 0 where
   pub words : List ℕ
   pub supports : List ℕ
 
+-- the request of these lists and this change
+abbrev pub request : Instance → List ℕ → List ℕ → Change → Request
+request I words supports change = record { given = I; words = words; supports = supports; change = change }
+
+-- the reply of an answer, and of the live words and the support list at the end
+abbrev pub replied : Answer → List ℕ → List ℕ → Reply
+replied a words supports = record { answer = answerNumbers a; words = words; supports = supports }
+
 -- relation r has no tuple in S
 abbrev pub isEmptied : Network → TupleSet → ℕ → Bool
 isEmptied N S r = not (any (has S) (idsOf N r))

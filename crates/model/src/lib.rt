@@ -1,4 +1,6 @@
-// The types of the interface, and the papers' limits.
+// The types of the interface, and the papers' numbers.
+
+pub mod refusal; // the refusal numbers
 
 // Document 01's numbers. specs/Limits.antt names the same ones; code that used another would not be proved.
 pub const MAX_RELATIONS: usize = 64;
@@ -58,3 +60,6 @@ pub enum Comparison {
     Differ,
     Refused(u8),
 }
+
+// A value (document 01: code).
+pub type Value = u16;

@@ -11,11 +11,11 @@ ghost use Rattle.model.specs.Agreement.{cells, agreeing};
 ghost use Rattle.model.specs.LiveWords.{isSet, isLive};
 ghost use Rattle.network.specs.Layout.{tabled, Laid, starts};
 ghost use Rattle.narrowing.specs.Marks.{bucketOf, marked, stays, rowBit, Kept, Marks, Grows, MarksTuple, MarksTuples, Narrows, Agreeing, Dead, Narrowed, Others, Bare};
+use layout::wide;
 use live::next;
 use model::MAX_RELATIONS;
 use model::MAX_TUPLES;
 use network::agreement::place_of;
-use network::wide;
 
 // How many buckets of values there are; specs/Marks.antt says why. A table has 64 words for each of 8 columns and each bucket.
 const BUCKETS: usize = 17;

@@ -1,7 +1,5 @@
 -- The laws of the crate's definitions, and of walks of a list.
 pub mod Walk
-pub mod Relations
-pub mod Records
 pub mod Starts
 pub mod Places
 pub mod Tabled

@@ -5,7 +5,7 @@ ghost use lib.ListN.{length, getD};
 ghost use Rattle.model.specs.Network.{size, firstId};
 ghost use Rattle.model.specs.Agreement.{cells, agreeing, agree};
 ghost use Rattle.network.specs.Layout.{tabled, Laid, placeAt};
-use super::wide;
+use layout::wide;
 
 // Where a relation's scope lies in the variable list, and one of its tuples in the value list.
 pub struct Place {

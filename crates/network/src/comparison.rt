@@ -4,14 +4,14 @@ ghost use Prim.Native.Nat.{_<_};
 ghost use Rattle.model.specs.Network.{total, tuplesIn};
 ghost use Rattle.model.specs.Agreement.{agree};
 ghost use Rattle.model.specs.Reply.{comparisonNumbers, compareReply};
-ghost use Rattle.network.specs.Shape.{networkOf};
+ghost use Rattle.layout.specs.Shape.{networkOf};
 ghost use Rattle.network.specs.Layout.{starts, tabled, Laid};
-use super::Shape;
 use super::agreement::tuples_agree;
 use super::faults::fault;
 use super::tables::offsets;
 use super::tables::relation_of;
-use super::wide;
+use layout::Shape;
+use layout::wide;
 use model::Comparison;
 use model::MAX_RELATIONS;
 

@@ -3,10 +3,10 @@ ghost use mathlib.Core.Path.{_≡_};
 ghost use Prim.Native.Nat.{_<_};
 ghost use lib.ListN.{getD};
 ghost use Rattle.model.specs.Network.{Network, variablesIn, tuplesIn, valuesIn, relationOf};
-ghost use Rattle.network.specs.Shape.{relationsOf};
+ghost use Rattle.layout.specs.Shape.{relationsOf};
 ghost use Rattle.network.specs.Layout.{Bounded, starts};
 use super::Offsets;
-use super::Shape;
+use layout::Shape;
 use model::MAX_RELATIONS;
 
 // Where each relation begins in each list.

@@ -18,9 +18,9 @@ use Rattle.model.proofs.Bools.{and-left, and-right}
 use Rattle.model.proofs.Lists.{all-getD}
 use Rattle.model.proofs.Network.{relationOf-at, indexOf-at, before-past}
 use Rattle.model.proofs.Fault.{faultless}
-use Rattle.network.specs.declared.Shape.{Shape}
+use Rattle.layout.specs.declared.Shape.{Shape}
 use Rattle.model.specs.Fault.{properWidth}
-use Rattle.network.specs.Shape.{networkOf}
+use Rattle.layout.specs.Shape.{networkOf}
 use Rattle.network.proofs.Tabled.{value-start}
 use Rattle.network.proofs.Places.{tuple-fits}
 use Rattle.request.specs.Tables.{Tables}

@@ -10,8 +10,8 @@ use Rattle.model.specs.Lists.{from, select}
 use Rattle.model.specs.Network.{total}
 use Rattle.model.specs.Fault.{networkFaults, firstFault}
 use Rattle.model.specs.Text.{textOf}
-use Rattle.network.specs.declared.Shape.{Shape}
-use Rattle.network.specs.Shape.{networkOf}
+use Rattle.layout.specs.declared.Shape.{Shape}
+use Rattle.layout.specs.Shape.{networkOf}
 
 -- A tuple's line has at most ten fields, and a field with the byte behind it at most six bytes.
 abbrev pub lineRoom : ℕ

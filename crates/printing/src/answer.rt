@@ -5,16 +5,15 @@ ghost use mathlib.Core.List.{List};
 ghost use Prim.Native.Nat.{ℕ, _≤_};
 ghost use lib.Dec.{eqb};
 ghost use lib.ListN.{length, take};
-ghost use Rattle.model.specs.Reply.{answerNumbers};
+ghost use Rattle.model.specs.Reply.{answerNumbers, replied};
 ghost use Rattle.model.specs.Text.{textOf};
 ghost use Rattle.model.specs.Listing.{answerLine, replyLines};
-ghost use Rattle.network.specs.Shape.{networkOf};
-ghost use Rattle.changes.specs.Change.{replied};
+ghost use Rattle.layout.specs.Shape.{networkOf};
 ghost use Rattle.printing.specs.Lines.{Printable};
 use super::text::line;
 use super::tuples::tuple_lines;
+use layout::Shape;
 use model::Answer;
-use network::Shape;
 
 // The fields of the answer's line: kind, subject, left, deleted.
 fn answer_fields(answer: Answer) -> [u16; 4]

@@ -6,14 +6,14 @@ ghost use Rattle.model.specs.Limits.{maxTuples};
 ghost use Rattle.model.specs.LiveWords.{isLive};
 ghost use Rattle.model.specs.Text.{textOf};
 ghost use Rattle.model.specs.Listing.{tupleLines};
-ghost use Rattle.network.specs.Shape.{networkOf};
+ghost use Rattle.layout.specs.Shape.{networkOf};
 ghost use Rattle.printing.specs.Appended.{Appended};
 ghost use Rattle.printing.specs.Lines.{lineRoom, part, placeIn, lineIn, textOver, Printable};
 use super::text::tuple_line;
+use layout::Shape;
+use layout::wide;
 use live::next;
-use network::Shape;
 use network::tables::offsets;
-use network::wide;
 
 // Each live tuple of a relation, whose ids are those from start on and below end, and whose values stand from first on.
 fn relation_lines(

@@ -20,8 +20,8 @@ use Rattle.model.specs.Fault.{within}
 use Rattle.model.specs.Reading.{Read, andThen, readLine, readLines, readRelations}
 use Rattle.model.proofs.Bools.{and-left}
 use Rattle.model.proofs.Lists.{from-append, map-from-same}
-use Rattle.network.specs.declared.Shape.{Shape}
-use Rattle.network.specs.Shape.{recordAt, relationsOf, networkOf}
+use Rattle.layout.specs.declared.Shape.{Shape}
+use Rattle.layout.specs.Shape.{recordAt, relationsOf, networkOf}
 use Rattle.reading.specs.Parts.{foundAt, mapRead, behind, append, single, unlisted, readRecord, readRelation}
 use Rattle.reading.proofs.Found.{found-at, behind-nil, map-split, map-found, passed-test}
 

@@ -7,7 +7,7 @@ use Prim.Native.Nat.{ℕ, _≤_}
 use lib.ListN.{length, take}
 use Rattle.model.specs.Request.{Instance}
 use Rattle.model.specs.Reading.{read}
-use Rattle.request.specs.Checks.{instanceOf}
+use Rattle.layout.specs.Shape.{instanceOf}
 use Rattle.reading.specs.declared.Book.{Book}
 
 -- the instance that stands in the lists

@@ -7,13 +7,13 @@ ghost use Rattle.reading.specs.Parts.{foundAt, readHeading};
 ghost use Rattle.reading.specs.Book.{Stands};
 use fields::line;
 use fields::lines;
+use layout::Shape;
+use layout::wide;
 use model::MAX_COMBINATIONS;
 use model::MAX_MEMBERS;
 use model::MAX_RELATIONS;
 use model::MIN_MEMBERS;
-use network::Shape;
 use network::faults::within;
-use network::wide;
 use relations::relations_at;
 
 pub mod fields; // a field, a line of fields, and lines

@@ -4,15 +4,15 @@ ghost use Prim.Native.Nat.{_+_, _*_, _≤_, _<_};
 ghost use lib.ListN.{length, take, drop};
 ghost use Rattle.model.specs.Limits.{maxRelations, maxWidth, maxTuples};
 ghost use Rattle.model.specs.Reading.{readRelations};
-ghost use Rattle.network.specs.Shape.{networkOf};
+ghost use Rattle.layout.specs.Shape.{networkOf};
 ghost use Rattle.reading.specs.Parts.{foundAt, mapRead, append, single, unlisted, readRecord, readRelation};
 use super::fields::line;
 use super::fields::lines;
+use layout::Shape;
+use layout::wide;
 use model::MAX_TUPLES;
 use model::MAX_WIDTH;
-use network::Shape;
 use network::faults::within;
-use network::wide;
 
 // A relation's width and how many tuples it has, and the position behind what was read; position 0 where it is not in the form.
 pub struct Record {

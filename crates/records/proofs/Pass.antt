@@ -28,8 +28,8 @@ use denote.Triple.Call.{calls-at}
 use denote.Triple.Spec.{tripleOf}
 use Rattle.model.specs.declared.Relation.{Relation}
 use Rattle.model.proofs.Relation as T
-use Rattle.network.specs.declared.Shape.{Shape}
-use Rattle.network.specs.Shape.{shapeOf}
+use Rattle.layout.specs.declared.Shape.{Shape}
+use Rattle.layout.specs.Shape.{shapeOf}
 use Rattle.network.proofs.Shape as S
 use Rattle.network.proofs.Shape.Laws as S′
 use Rattle.records.proofs.Locals.{sv, Spots, Held, env, holding, returned, gives, hears}

@@ -11,9 +11,9 @@ use lib.ListN.{length, getD, set, take, replicate, length-map}
 use Rattle.model.specs.declared.Relation.{Relation}
 use Rattle.model.specs.Limits.{maxRelations}
 use Rattle.model.specs.Network.{noRelation, variablesIn, tuplesIn}
-use Rattle.network.specs.declared.Shape.{Shape}
-use Rattle.network.specs.Shape.{padded, shapeOf}
-use Rattle.network.proofs.Records.{getD-records}
+use Rattle.layout.specs.declared.Shape.{Shape}
+use Rattle.layout.specs.Shape.{padded, shapeOf}
+use Rattle.layout.proofs.Records.{getD-records}
 use Rattle.records.specs.Records.{lesser, unread, withRecord}
 
 padded-none : (n : ℕ) → replicate n 0 ≡ padded n []

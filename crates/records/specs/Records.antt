@@ -6,7 +6,7 @@ use Rattle.model.specs.declared.Relation.{Relation}
 use Rattle.model.specs.Limits.{maxRelations}
 use Rattle.model.specs.Network.{Network}
 use Rattle.model.specs.Request.{Instance}
-use Rattle.network.specs.declared.Shape.{Shape}
+use Rattle.layout.specs.declared.Shape.{Shape}
 
 abbrev pub network : List Relation → List ℕ → List ℕ → Network
 network Rs variables values = record { relations = Rs; variables = variables; values = values }

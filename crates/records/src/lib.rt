@@ -3,16 +3,15 @@ ghost use mathlib.Core.Path.{_≡_};
 ghost use Prim.Native.Nat.{_<_};
 ghost use Rattle.model.specs.Limits.{maxRelations};
 ghost use Rattle.model.specs.Request.{filter, withdraw, choose};
-ghost use Rattle.model.specs.Reply.{reply, verdictNumbers, testReply, comparisonNumbers, compareReply};
-ghost use Rattle.network.specs.Shape.{shapeOf};
-ghost use Rattle.changes.specs.Change.{request, replied};
+ghost use Rattle.model.specs.Reply.{reply, verdictNumbers, testReply, comparisonNumbers, compareReply, request, replied};
+ghost use Rattle.layout.specs.Shape.{shapeOf};
 ghost use Rattle.records.specs.Records.{network, instance, lesser, unread, withRecord};
+use layout::Shape;
 use model::Answer;
 use model::Comparison;
 use model::MAX_RELATIONS;
 use model::Relation;
 use model::Verdict;
-use network::Shape;
 
 // n, or 64 where n is more.
 fn at_most_64(n: usize) -> usize

@@ -14,10 +14,10 @@ use Rattle.model.specs.Request.{filter, withdraw, Instance, removes}
 use Rattle.model.specs.Fault.{firstFault, refusal, networkFaults, changeFaults, testFaults}
 use Rattle.model.proofs.Lists.{here}
 use Rattle.model.proofs.Fault.{refusal-none, no-fault-at}
-use Rattle.network.specs.declared.Shape.{Shape}
-use Rattle.network.specs.Shape.{relationsOf, networkOf}
+use Rattle.layout.specs.declared.Shape.{Shape}
+use Rattle.layout.specs.Shape.{relationsOf, networkOf}
 use Rattle.network.specs.Layout.{starts}
-use Rattle.network.proofs.Relations.{relation-count}
+use Rattle.layout.proofs.Relations.{relation-count}
 use Rattle.combination.specs.Proper.{below}
 use Rattle.request.specs.Checks.{testFaultsOn}
 use Rattle.request.specs.Struck.{struck}

@@ -13,13 +13,12 @@ use Rattle.model.specs.Request.{Instance, combinationsOf}
 use Rattle.model.specs.Fault.{firstFault, networkFaults, combinationFaults}
 use Rattle.model.proofs.Lists.{here}
 use Rattle.model.proofs.Fault.{faultless, no-fault-at}
-use Rattle.network.specs.declared.Shape.{Shape}
-use Rattle.network.specs.Shape.{relationsOf, networkOf}
+use Rattle.layout.specs.declared.Shape.{Shape}
+use Rattle.layout.specs.Shape.{relationsOf, networkOf, instanceOf}
 use Rattle.network.specs.Layout.{Bounded}
-use Rattle.network.proofs.Relations.{relation-count}
+use Rattle.layout.proofs.Relations.{relation-count}
 use Rattle.network.proofs.Starts.{faultless-bounded}
 use Rattle.combination.specs.Proper.{proper, Proper}
-use Rattle.request.specs.Checks.{instanceOf}
 
 module _ (S : Shape) (variables values : List ℕ) where
   abbrev N : Network

@@ -7,12 +7,12 @@ ghost use Rattle.model.specs.Network.{Network, total};
 ghost use Rattle.model.specs.LiveWords.{living};
 ghost use Rattle.model.specs.Reply.{lowestEmpty, answerFor};
 ghost use Rattle.request.specs.Tables.{TupleTable};
+use layout::wide;
 use live::count;
 use live::next;
 use model::Answer;
 use model::Counts;
 use model::MAX_RELATIONS;
-use network::wide;
 
 // The lowest relation that has no live tuple; the number of relations if there is none.
 pub fn lowest_empty(tuple_starts: &[u16; 65], relations: u16, words: &[u64]) -> u16

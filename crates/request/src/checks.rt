@@ -6,19 +6,19 @@ ghost use Rattle.model.specs.Lists.{sum};
 ghost use Rattle.model.specs.Network.{Network, total, tuplesIn};
 ghost use Rattle.model.specs.Request.{filter, withdraw, choose};
 ghost use Rattle.model.specs.Fault.{firstFault, refusal, instanceFaults, faultsOn, changeFaults};
-ghost use Rattle.network.specs.Shape.{relationsOf};
+ghost use Rattle.layout.specs.Shape.{relationsOf, instanceOf};
 ghost use Rattle.network.specs.Layout.{Bounded};
-ghost use Rattle.request.specs.Checks.{instanceOf, testFaultsOn};
+ghost use Rattle.request.specs.Checks.{testFaultsOn};
 use combination::all_below;
 use combination::masks;
 use combination::needed;
 use combination::supports_fault;
 use combination::words_fault;
+use layout::Shape;
+use layout::wide;
 use model::MAX_RELATIONS;
 use model::VARIABLES;
-use network::Shape;
 use network::tables::offsets;
-use network::wide;
 
 // The number of the first fault of the network and its combinations, 2 to 10, or 0.
 fn instance_fault(shape: Shape, variables: &[u16], values: &[u16], m: u16, members: &[u16]) -> u8

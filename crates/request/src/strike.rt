@@ -7,14 +7,14 @@ ghost use Rattle.model.specs.Lists.{elem};
 ghost use Rattle.model.specs.Network.{total, firstId};
 ghost use Rattle.model.specs.Agreement.{fit};
 ghost use Rattle.model.specs.Request.{choose, removes};
-ghost use Rattle.network.specs.declared.Shape.{Shape};
-ghost use Rattle.network.specs.Shape.{networkOf};
+ghost use Rattle.layout.specs.declared.Shape.{Shape};
+ghost use Rattle.layout.specs.Shape.{networkOf};
 ghost use Rattle.combination.specs.Proper.{below};
 ghost use Rattle.request.specs.Struck.{between, struck};
 ghost use Rattle.request.specs.Tables.{Tables, columnOf};
+use layout::wide;
 use live::clear;
 use live::next;
-use network::wide;
 
 // Every listed id is dead, and every other bit of every word stays.
 pub fn withdraw_ids(words: &mut [u64], ids: &[u16])

@@ -12,11 +12,11 @@ ghost use Rattle.model.specs.Support.{supportFrom, completion};
 ghost use Rattle.network.specs.Layout.{tabled, Laid};
 ghost use Rattle.narrowing.specs.Marks.{Marks};
 ghost use Rattle.support.specs.Search.{searching, network, live, idAt, seeker, Ready, chosenIds, Begun, Due, pastOwn, spanAt, fits, Trial, answer};
+use layout::wide;
 use live::is_live;
 use live::next;
 use narrowing::narrow_members;
 use network::agreement::tuples_agree;
-use network::wide;
 
 // The indices of a support, one for each member; where there is none, ok is false.
 pub struct Found {

@@ -1,5 +1,5 @@
 // Document 01's boundaries: the last request that passes each limit, and the first that does not.
-use network::Shape;
+use layout::Shape;
 use request::checks::checked;
 
 // So many relations, all with this width and tuple count.

@@ -2,10 +2,10 @@
 use changes::choose;
 use changes::filter;
 use changes::withdraw;
+use layout::Shape;
 use model::Answer;
 use model::Comparison;
 use model::Verdict;
-use network::Shape;
 
 // The records of a list that holds each relation's width and tuple count.
 fn shape_of(records: &[u16]) -> Shape {

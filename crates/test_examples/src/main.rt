@@ -3,11 +3,11 @@ use changes::choose;
 use changes::filter;
 use changes::withdraw;
 use consistency::test;
+use layout::Shape;
 use model::Answer;
 use model::Comparison;
 use model::Counts;
 use model::Verdict;
-use network::Shape;
 use network::comparison::compare;
 
 // Three relations of two variables, with these tuple counts.

@@ -4,8 +4,7 @@ use mathlib.Core.List.{List}
 use Prim.Native.Nat.{ℕ}
 use Rattle.model.specs.declared.Answer.{Answer}
 use Rattle.model.specs.Request.{Request}
-use Rattle.model.specs.Reply.{Reply, answerNumbers, reply}
-use Rattle.changes.specs.Change.{replied}
+use Rattle.model.specs.Reply.{Reply, answerNumbers, reply, replied}
 use Rattle.encoding.specs.Packed.{packed, unpacked}
 use Rattle.encoding.proofs.Packed.{reply-unpacked}
 use Rattle.test_records.specs.Packing.{repliedIn}

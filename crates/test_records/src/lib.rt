@@ -2,8 +2,7 @@
 // answer.
 ghost use mathlib.Core.Path.{_≡_};
 ghost use Rattle.model.specs.Request.{filter, withdraw, choose};
-ghost use Rattle.model.specs.Reply.{reply, testReply, compareReply};
-ghost use Rattle.changes.specs.Change.{request};
+ghost use Rattle.model.specs.Reply.{reply, testReply, compareReply, request};
 ghost use Rattle.records.specs.Records.{network, instance};
 ghost use Rattle.encoding.specs.Packed.{packedPair};
 ghost use Rattle.test_records.specs.Packing.{repliedIn};

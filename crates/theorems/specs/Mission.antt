@@ -35,12 +35,11 @@ use Rattle.model.specs.Request.{withdraw, choose, Instance, Request}
 use Rattle.model.specs.Fault
 use Rattle.model.specs.Fault.{accepts}
 use Rattle.model.specs.Reply
-use Rattle.model.specs.Reply.{Reply, reply, answerNumbers, verdictNumbers, testReply, comparisonNumbers, compareReply}
-use Rattle.model.specs.Calls.{Call, request, sharedAfter, Proper, State, start, make, makeAll, anyAccepted}
+use Rattle.model.specs.Reply.{Reply, reply, answerNumbers, verdictNumbers, testReply, comparisonNumbers, compareReply, replied}
+use Rattle.model.specs.Calls.{Call, callRequest, sharedAfter, Proper, State, start, make, makeAll, anyAccepted}
 use Rattle.model.specs.Promises.{Answered, Filtered, StrikeRule, Local}
 use Rattle.model.specs.Examples.{relation, networkA, triangle, pairs, asked, next, p1, p3, p7}
 use Rattle.model.proofs.Mission.{answered, filtering, strike-rule, nothing-written, local}
-use Rattle.changes.specs.Change.{replied}
 
 -- ---- The contracts
 
@@ -80,7 +79,7 @@ after st c =
     record {
       words = sharedAfter ((c .0) .own) (st .words) ((outcome c) .words);
       gone = st .gone + (((outcome c) .answer) .withdrawn + ((outcome c) .answer) .deleted);
-      last = cond (accepts (request (st .words) (c .0))) (some (c .0, outcome c)) (st .last);
+      last = cond (accepts (callRequest (st .words) (c .0))) (some (c .0, outcome c)) (st .last);
     }
 
 abbrev pub afterAll : State → List Made → State
@@ -90,18 +89,18 @@ afterAll st (c ∷ cs) = afterAll (after st c) cs
 -- each call is given the words that the last one left, and keeps its contract
 abbrev pub AllKeep : State → List Made → Type 0
 AllKeep st [] = Unit {0}
-AllKeep st (c ∷ cs) = Keeps (request (st .words) (c .0)) (c .1 .0) (c .1 .1 .0) (c .1 .1 .1) × AllKeep (after st c) cs
+AllKeep st (c ∷ cs) = Keeps (callRequest (st .words) (c .0)) (c .1 .0) (c .1 .1 .0) (c .1 .1 .1) × AllKeep (after st c) cs
 
 abbrev pub callsOf : List Made → List Call
 callsOf made = map (λ (c : Made). c .0) made
 
-after-make : (st : State) (c : Made) → outcome c ≡ reply (request (st .words) (c .0)) → after st c ≡ make st (c .0)
+after-make : (st : State) (c : Made) → outcome c ≡ reply (callRequest (st .words) (c .0)) → after st c ≡ make st (c .0)
 unfolding make
 after-make st c e =
     ap (λ (p : Reply). record {
       words = sharedAfter ((c .0) .own) (st .words) (p .words);
       gone = st .gone + ((p .answer) .withdrawn + (p .answer) .deleted);
-      last = cond (accepts (request (st .words) (c .0))) (some (c .0, p)) (st .last);
+      last = cond (accepts (callRequest (st .words) (c .0))) (some (c .0, p)) (st .last);
     }) e
 
 afterAll-makeAll : (st : State) (made : List Made) → AllKeep st made → afterAll st made ≡ makeAll st (callsOf made)

@@ -4,8 +4,8 @@ use mathlib.Core.Path.{_≡_, _∙_}
 use mathlib.Core.List.{List}
 use Prim.Native.Nat.{ℕ}
 use Rattle.model.specs.Request.{choose, Instance, Request}
-use Rattle.request.specs.Checks.{instanceOf}
-use Rattle.changes.specs.Change.{request}
+use Rattle.layout.specs.Shape.{instanceOf}
+use Rattle.model.specs.Reply.{request}
 use Rattle.changes.proofs.Ready.{network-sound, checked-words, Changed, changed-ready, changed-reply}
 use Rattle.changes.proofs.Opened.{own-number, opened-refused, opened-checked, opened-own, opened-changed}
 use borrow.Author.Needs.{needs}

@@ -3,7 +3,7 @@
 use mathlib.Core.Path.{sym, _∙_}
 use Rattle.model.specs.Network.{total}
 use Rattle.model.specs.Request.{Instance}
-use Rattle.request.specs.Checks.{instanceOf}
+use Rattle.layout.specs.Shape.{instanceOf}
 use Rattle.changes.specs.Change.{Checked}
 use Rattle.changes.proofs.Ready.{checked-bounded, checked-ids, counted-all}
 use borrow.Author.Needs.{needs}

@@ -3,9 +3,9 @@
 use mathlib.Core.Path.{refl, sym, _∙_}
 use Rattle.model.specs.Network.{total}
 use Rattle.model.specs.Request.{filter, Instance, Request}
-use Rattle.request.specs.Checks.{instanceOf}
+use Rattle.layout.specs.Shape.{instanceOf}
 use Rattle.request.proofs.Change.{filter-struck}
-use Rattle.changes.specs.Change.{request}
+use Rattle.model.specs.Reply.{request}
 use Rattle.changes.proofs.Ready.{Changed, changed-ready, changed-reply}
 use Rattle.changes.proofs.Opened.{opened-refused, opened-changed}
 use borrow.Author.Needs.{needs}

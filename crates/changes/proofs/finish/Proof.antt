@@ -9,7 +9,7 @@ use Rattle.model.specs.TupleSet.{count}
 use Rattle.model.specs.Network.{Network, total}
 use Rattle.model.specs.LiveWords.{living}
 use Rattle.model.specs.Request.{Instance}
-use Rattle.request.specs.Checks.{instanceOf}
+use Rattle.layout.specs.Shape.{instanceOf}
 use Rattle.request.specs.Tables.{TupleTable}
 use Rattle.changes.proofs.Ready.{checked-few, checked-bounded, checked-proper, checked-total, checked-ids, checked-sound, final-table, final-fewer, final-reply, counted-all}
 use borrow.Author.Needs.{needs}

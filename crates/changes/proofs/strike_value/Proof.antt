@@ -2,7 +2,7 @@
 -- From what the tables and the strike ensure.
 use native.Mathlib.Omega.{arith}
 use lib.ListN.{length}
-use Rattle.network.specs.Shape.{networkOf}
+use Rattle.layout.specs.Shape.{networkOf}
 use Rattle.request.specs.Tables.{Tables}
 use Rattle.request.proofs.Instance.{network-few, network-bounded}
 use Rattle.request.proofs.Change.{tables-given}

@@ -15,9 +15,9 @@ use Rattle.model.specs.Combination.{Combination, combinations, connected}
 use Rattle.model.specs.Fault.{firstFault, refusal, within, properList, properMembers, combinationFaults}
 use Rattle.model.proofs.Bools.{and-left, and-intro}
 use Rattle.model.proofs.Lists.{all-more}
-use Rattle.network.specs.declared.Shape.{Shape}
-use Rattle.network.specs.Shape.{relationsOf, networkOf}
-use Rattle.network.proofs.Relations.{relation-count}
+use Rattle.layout.specs.declared.Shape.{Shape}
+use Rattle.layout.specs.Shape.{relationsOf, networkOf}
+use Rattle.layout.proofs.Relations.{relation-count}
 use Rattle.combination.specs.Proper.{below, proper}
 use Rattle.combination.proofs.Members.{below-more-relations, counted}
 use borrow.Author.Needs.{needs}

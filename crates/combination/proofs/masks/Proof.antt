@@ -14,8 +14,8 @@ use Rattle.model.specs.Lists.{all, elem}
 use Rattle.model.specs.Network.{variablesIn, before, scopeOf}
 use Rattle.model.specs.LiveWords.{isSet}
 use Rattle.model.proofs.Network.{before-le}
-use Rattle.network.specs.Shape.{relationsOf, networkOf}
-use Rattle.network.proofs.Relations.{relation-count, before-next}
+use Rattle.layout.specs.Shape.{relationsOf, networkOf}
+use Rattle.layout.proofs.Relations.{relation-count, before-next}
 use Rattle.combination.proofs.Scopes.{scope-part, few-relations, called-for, scope-variables}
 use borrow.Author.Needs.{needs}
 use Rattle.combination.proofs.masks.Statement.{statement}

@@ -10,9 +10,9 @@ use Rattle.model.specs.declared.Relation.{Relation}
 use Rattle.model.specs.Lists.{sum}
 use Rattle.model.specs.Network.{size}
 use Rattle.model.proofs.Combination.{needed-whole}
-use Rattle.network.specs.declared.Shape.{Shape}
-use Rattle.network.specs.Shape.{networkOf}
-use Rattle.network.proofs.Relations.{relation-at}
+use Rattle.layout.specs.declared.Shape.{Shape}
+use Rattle.layout.specs.Shape.{networkOf}
+use Rattle.layout.proofs.Relations.{relation-at}
 use Rattle.combination.proofs.Members.{sum-next, sum-end, few-members, whole-combinations, short-list, all-exist}
 use borrow.Author.Needs.{needs}
 use Rattle.combination.proofs.needed.Statement.{statement}

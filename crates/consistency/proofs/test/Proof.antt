@@ -15,7 +15,8 @@ use Rattle.model.specs.Fault.{firstFault, refusal, testFaults}
 use Rattle.model.specs.Reply.{verdictNumbers, verdictFor, testReply}
 use Rattle.model.proofs.Fault.{refusal-none}
 use Rattle.model.proofs.Reply.{testReply-refused, testReply-checked}
-use Rattle.request.specs.Checks.{instanceOf, testFaultsOn}
+use Rattle.layout.specs.Shape.{instanceOf}
+use Rattle.request.specs.Checks.{testFaultsOn}
 use Rattle.request.proofs.Instance.{network-bounded}
 use Rattle.request.proofs.Change.{testFaults-on}
 use Rattle.consistency.specs.Setting.{setting, network, live, Sound}

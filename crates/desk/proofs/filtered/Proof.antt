@@ -2,12 +2,10 @@
 -- From what the call and the printing ensure, and what an accepted reply gives.
 use mathlib.Core.Path.{_≡_, ap, _∙_}
 use Rattle.model.specs.Request.{Instance}
-use Rattle.model.specs.Reply.{Reply, reply}
+use Rattle.model.specs.Reply.{Reply, reply, replied}
 use Rattle.model.specs.Text.{textOf}
 use Rattle.model.specs.Listing.{allLive, fresh, replyLines}
-use Rattle.network.specs.Shape.{networkOf}
-use Rattle.request.specs.Checks.{instanceOf}
-use Rattle.changes.specs.Change.{replied}
+use Rattle.layout.specs.Shape.{networkOf, instanceOf}
 use Rattle.desk.proofs.Fresh.{reply-printable}
 use borrow.Author.Needs.{needs}
 use Rattle.desk.proofs.filtered.Statement.{statement}

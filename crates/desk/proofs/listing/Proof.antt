@@ -9,7 +9,7 @@ use lib.Seq.{length-take-le}
 use Rattle.model.specs.Request.{Instance}
 use Rattle.model.specs.Text.{textOf}
 use Rattle.model.specs.Listing.{linesFor, listing}
-use Rattle.request.specs.Checks.{instanceOf}
+use Rattle.layout.specs.Shape.{instanceOf}
 use borrow.Author.Needs.{needs}
 use Rattle.desk.proofs.listing.Statement.{statement}
 use Rattle.desk.proofs.listing.Tie as tie

@@ -12,7 +12,7 @@ use lib.ListN.{length, take, drop}
 use Rattle.model.specs.Network.{Network}
 use Rattle.model.specs.Request.{Instance}
 use Rattle.model.specs.Reading.{readInstance}
-use Rattle.network.specs.Shape.{networkOf}
+use Rattle.layout.specs.Shape.{networkOf}
 use Rattle.reading.specs.declared.Heading.{Heading}
 use Rattle.reading.specs.Parts.{foundAt, Numbers, readHeading}
 use Rattle.reading.proofs.Found.{positive, found-at, found-none}

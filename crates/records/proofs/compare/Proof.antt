@@ -12,8 +12,8 @@ use Rattle.model.specs.Reply.{comparisonNumbers, compareReply}
 use Rattle.model.proofs.Relation as T
 use Rattle.model.proofs.Comparison as R
 use Rattle.model.proofs.Comparison.Laws as R′
-use Rattle.network.specs.Shape.{shapeOf, networkOf}
-use Rattle.network.proofs.Records.{compareReply-shapeOf}
+use Rattle.layout.specs.Shape.{shapeOf, networkOf}
+use Rattle.layout.proofs.Records.{compareReply-shapeOf}
 use Rattle.network.proofs.comparison.compare as work
 use Rattle.network.proofs.comparison.compare.Symbol as work-def
 use Rattle.network.proofs.comparison.compare.Symbol.{name as #network·comparison·compare}

@@ -8,14 +8,12 @@ use denote.Enum.Laws as EL
 use Rattle.model.specs.declared.Relation.{Relation}
 use Rattle.model.specs.declared.Answer.{Answer}
 use Rattle.model.specs.Request.{Instance, filter}
-use Rattle.model.specs.Reply.{reply}
+use Rattle.model.specs.Reply.{reply, request, replied}
 use Rattle.model.proofs.Relation as T
 use Rattle.model.proofs.Answer as R
 use Rattle.model.proofs.Answer.Laws as R′
-use Rattle.network.specs.Shape.{shapeOf}
-use Rattle.network.proofs.Records.{reply-shapeOf}
-use Rattle.request.specs.Checks.{instanceOf}
-use Rattle.changes.specs.Change.{request, replied}
+use Rattle.layout.specs.Shape.{shapeOf, instanceOf}
+use Rattle.layout.proofs.Records.{reply-shapeOf}
 use Rattle.changes.proofs.filter as work
 use Rattle.changes.proofs.filter.Symbol as work-def
 use Rattle.changes.proofs.filter.Symbol.{name as #changes·filter}

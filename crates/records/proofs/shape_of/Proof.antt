@@ -39,8 +39,8 @@ use denote.Triple.Clauses.{Lasts}
 use denote.Triple.Walked.{says}
 use Rattle.model.specs.Network.{noRelation}
 use Rattle.model.specs.declared.Relation.{Relation}
-use Rattle.network.specs.declared.Shape.{Shape}
-use Rattle.network.specs.Shape.{shapeOf}
+use Rattle.layout.specs.declared.Shape.{Shape}
+use Rattle.layout.specs.Shape.{shapeOf}
 use Rattle.model.proofs.Relation as T
 use Rattle.model.proofs.Relation.Laws as T′
 use Rattle.network.proofs.Shape as S

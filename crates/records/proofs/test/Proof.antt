@@ -12,9 +12,8 @@ use Rattle.model.specs.Reply.{verdictNumbers, testReply}
 use Rattle.model.proofs.Relation as T
 use Rattle.model.proofs.Verdict as R
 use Rattle.model.proofs.Verdict.Laws as R′
-use Rattle.network.specs.Shape.{shapeOf}
-use Rattle.network.proofs.Records.{testReply-shapeOf}
-use Rattle.request.specs.Checks.{instanceOf}
+use Rattle.layout.specs.Shape.{shapeOf, instanceOf}
+use Rattle.layout.proofs.Records.{testReply-shapeOf}
 use Rattle.consistency.proofs.test as work
 use Rattle.consistency.proofs.test.Symbol as work-def
 use Rattle.consistency.proofs.test.Symbol.{name as #consistency·test}

@@ -10,11 +10,10 @@ use denote.Enum.Laws as EL
 use Rattle.model.specs.declared.Relation.{Relation}
 use Rattle.model.specs.declared.Answer.{Answer}
 use Rattle.model.specs.Request.{Request, withdraw}
-use Rattle.model.specs.Reply.{Reply, answerNumbers, reply}
+use Rattle.model.specs.Reply.{Reply, answerNumbers, reply, request, replied}
 use Rattle.model.proofs.Relation as T
 use Rattle.model.proofs.Answer as R
 use Rattle.model.proofs.Answer.Laws as R′
-use Rattle.changes.specs.Change.{request, replied}
 use Rattle.encoding.specs.Packed.{packed}
 use Rattle.test_records.specs.Packing.{repliedIn}
 use Rattle.records.specs.Records.{instance}

@@ -1,9 +1,8 @@
 -- `change` makes the call that its case names.
 -- From what the three calls ensure.
 use mathlib.Core.Path.{sym, ap, _∙_}
-use Rattle.model.specs.Reply.{Reply, reply}
-use Rattle.request.specs.Checks.{instanceOf}
-use Rattle.changes.specs.Change.{request}
+use Rattle.model.specs.Reply.{Reply, reply, request}
+use Rattle.layout.specs.Shape.{instanceOf}
 use Rattle.capi.specs.declared.change.Call.{Call}
 use Rattle.capi.specs.Call.{changeIn}
 use borrow.Author.Needs.{needs}

@@ -4,8 +4,8 @@ use mathlib.Core.Path.{_∙_}
 use mathlib.Core.List.{List}
 use Prim.Native.Nat.{ℕ}
 use Rattle.model.specs.Request.{withdraw, Instance, Request}
-use Rattle.request.specs.Checks.{instanceOf}
-use Rattle.changes.specs.Change.{request}
+use Rattle.layout.specs.Shape.{instanceOf}
+use Rattle.model.specs.Reply.{request}
 use Rattle.changes.proofs.Ready.{Changed, changed-ready, changed-reply}
 use Rattle.changes.proofs.Opened.{opened-refused, ids-refused, ids-ready, ids-changed}
 use Rattle.wire.specs.Entries.{entries16}

@@ -1,7 +1,7 @@
 -- `write_back` writes nothing where the answer is a refusal, and both lists where it is none.
 -- From what the answer's kind, its number and the stores ensure.
 use mathlib.Core.Path.{sym, _∙_}
-use Rattle.changes.specs.Change.{replied}
+use Rattle.model.specs.Reply.{replied}
 use Rattle.encoding.proofs.Written.{back-refused, back-accepted}
 use borrow.Author.Needs.{needs}
 use Rattle.encoding.proofs.writing.write_back.Statement.{statement}

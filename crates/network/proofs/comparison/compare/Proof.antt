@@ -15,7 +15,7 @@ use Rattle.model.specs.Agreement.{agree}
 use Rattle.model.specs.Fault.{firstFault, networkFaults, idsFault, compareFaults}
 use Rattle.model.specs.Reply.{comparisonNumbers, comparisonFor, compareReply}
 use Rattle.model.proofs.Fault.{faultless, fault-here, fault-next, firstFault-append-none, firstFault-append-some, refusal-some, refusal-none}
-use Rattle.network.specs.Shape.{networkOf}
+use Rattle.layout.specs.Shape.{networkOf}
 use Rattle.network.specs.Layout.{starts, Laid, tabled}
 use Rattle.network.proofs.Starts.{faultless-bounded, last-start}
 use Rattle.network.proofs.Tabled.{laid-tabled}

@@ -14,8 +14,8 @@ use Rattle.model.specs.Lists.{all, from, sum}
 use Rattle.model.specs.Network.{Network, total, variablesIn, valuesIn, scopeOf}
 use Rattle.model.specs.Fault.{properWidth, within, properLengths, properScope}
 use Rattle.model.proofs.Bools.{and-right}
-use Rattle.network.specs.Shape.{networkOf}
-use Rattle.network.proofs.Relations.{relation-count}
+use Rattle.layout.specs.Shape.{networkOf}
+use Rattle.layout.proofs.Relations.{relation-count}
 use Rattle.network.proofs.faults.fault.Statement.{statement}
 use Rattle.network.proofs.faults.fault.Tie as tie
 

@@ -14,10 +14,10 @@ use Rattle.model.specs.Lists.{all, from}
 use Rattle.model.specs.Network.{variablesIn, before, scopeOf}
 use Rattle.model.specs.Fault.{properScope}
 use Rattle.model.proofs.Network.{before-le}
-use Rattle.network.specs.declared.Shape.{Shape}
-use Rattle.network.specs.Shape.{relationsOf, networkOf}
+use Rattle.layout.specs.declared.Shape.{Shape}
+use Rattle.layout.specs.Shape.{relationsOf, networkOf}
 use Rattle.network.proofs.Walk.{all-passes, all-fails, all-ends}
-use Rattle.network.proofs.Relations.{relation-at, before-next, number-at, number-count}
+use Rattle.layout.proofs.Relations.{relation-at, before-next, number-at, number-count}
 use Rattle.network.proofs.faults.proper_scopes.Statement.{statement}
 use Rattle.network.proofs.faults.proper_scopes.Tie as tie
 

@@ -9,9 +9,9 @@ use Rattle.model.specs.Limits.{maxWidth}
 use Rattle.model.specs.Lists.{all}
 use Rattle.model.specs.Network.{noRelation}
 use Rattle.model.specs.Fault.{properWidth, within}
-use Rattle.network.specs.Shape.{relationsOf}
+use Rattle.layout.specs.Shape.{relationsOf}
 use Rattle.network.proofs.Walk.{all-passes, all-fails, all-ends}
-use Rattle.network.proofs.Relations.{relation-count, relation-at, below-count}
+use Rattle.layout.proofs.Relations.{relation-count, relation-at, below-count}
 use Rattle.network.proofs.faults.proper_widths.Statement.{statement}
 use Rattle.network.proofs.faults.proper_widths.Tie as tie
 

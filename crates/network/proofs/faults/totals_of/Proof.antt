@@ -6,8 +6,8 @@ use native.Mathlib.Nat.{mul-le-mul}
 use native.Mathlib.Omega.{arith}
 use borrow.Author.Needs.{needs}
 use Rattle.model.specs.Network.{variablesIn, tuplesIn, valuesIn, before}
-use Rattle.network.specs.Shape.{relationsOf}
-use Rattle.network.proofs.Relations.{before-next, before-end}
+use Rattle.layout.specs.Shape.{relationsOf}
+use Rattle.layout.proofs.Relations.{before-next, before-end}
 use Rattle.network.proofs.faults.totals_of.Statement.{statement}
 use Rattle.network.proofs.faults.totals_of.Tie as tie
 

@@ -8,8 +8,8 @@ use borrow.Author.Needs.{needs}
 use lib.ListN.{getD}
 use Rattle.model.specs.declared.Relation.{Relation}
 use Rattle.model.specs.Network.{variablesIn, tuplesIn, valuesIn, before}
-use Rattle.network.specs.Shape.{relationsOf}
-use Rattle.network.proofs.Relations.{relation-count, before-next, before-end}
+use Rattle.layout.specs.Shape.{relationsOf}
+use Rattle.layout.proofs.Relations.{relation-count, before-next, before-end}
 use Rattle.network.proofs.Starts.{Filled, filled-more, filled-starts, variables-fit, tuples-fit, values-fit}
 use Rattle.network.proofs.tables.offsets.Statement.{statement}
 use Rattle.network.proofs.tables.offsets.Tie as tie

@@ -8,11 +8,10 @@ use native.Mathlib.Omega.{arith}
 use borrow.Author.Tests.{eq-eqb, ne-eqb}
 use lib.Dec.{eqb}
 use lib.ListN.{length, getD}
-use Rattle.model.specs.Reply.{Reply, answerNumbers}
+use Rattle.model.specs.Reply.{Reply, answerNumbers, replied}
 use Rattle.model.specs.Text.{lineText}
 use Rattle.model.specs.Listing.{answerLine}
-use Rattle.network.specs.Shape.{networkOf}
-use Rattle.changes.specs.Change.{replied}
+use Rattle.layout.specs.Shape.{networkOf}
 use Rattle.printing.specs.Appended.{Appended}
 use Rattle.model.proofs.Text.{lineText-length}
 use Rattle.printing.proofs.Appended.{appended-then, appended-same, appended-end}

@@ -9,8 +9,8 @@ use Rattle.model.specs.Network.{Network, width, total, variablesIn, firstId}
 use Rattle.model.specs.LiveWords.{isLive}
 use Rattle.model.specs.Text.{textOf}
 use Rattle.network.specs.declared.Offsets.{Offsets}
-use Rattle.network.specs.Shape.{networkOf}
-use Rattle.network.proofs.Relations.{relation-count, relation-at}
+use Rattle.layout.specs.Shape.{networkOf}
+use Rattle.layout.proofs.Relations.{relation-count, relation-at}
 use Rattle.request.specs.Tables.{Tables}
 use Rattle.request.proofs.Instance.{network-few, network-bounded}
 use Rattle.request.proofs.Change.{tables-given}

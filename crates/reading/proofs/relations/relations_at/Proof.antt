@@ -13,7 +13,7 @@ use Rattle.model.specs.declared.Relation.{Relation}
 use Rattle.model.specs.Network.{Network}
 use Rattle.model.specs.Limits.{maxTuples}
 use Rattle.model.specs.Reading.{readRelations}
-use Rattle.network.specs.Shape.{networkOf}
+use Rattle.layout.specs.Shape.{networkOf}
 use Rattle.reading.specs.declared.relations.Record.{Record}
 use Rattle.reading.specs.Parts.{foundAt, mapRead, append, single, unlisted, readRelation}
 use Rattle.reading.proofs.Found.{positive, found-none, map-none}

@@ -6,7 +6,8 @@ use mathlib.Core.List.{[], _∷_}
 use Rattle.model.specs.Request.{Instance}
 use Rattle.model.specs.Fault.{firstFault, refusal, instanceFaults, networkFaults, combinationFaults, wordsFault, supportsFault, faultsOn}
 use Rattle.model.proofs.Fault.{refusal-none, refusal-front, refusal-back, firstFault-front, firstFault-back}
-use Rattle.request.specs.Checks.{instanceOf, testFaultsOn}
+use Rattle.layout.specs.Shape.{instanceOf}
+use Rattle.request.specs.Checks.{testFaultsOn}
 use Rattle.request.proofs.Instance.{network-few, combinations-proper}
 use borrow.Author.Needs.{needs}
 use Rattle.request.proofs.checks.checked.Statement.{statement}

@@ -6,8 +6,7 @@ use Rattle.model.specs.Network.{Network}
 use Rattle.model.specs.Request.{Instance}
 use Rattle.model.specs.Fault.{firstFault, networkFaults, combinationFaults}
 use Rattle.model.proofs.Fault.{refusal-none, refusal-front, refusal-back}
-use Rattle.network.specs.Shape.{networkOf}
-use Rattle.request.specs.Checks.{instanceOf}
+use Rattle.layout.specs.Shape.{networkOf, instanceOf}
 use Rattle.request.proofs.Instance.{network-few}
 use borrow.Author.Needs.{needs}
 use Rattle.request.proofs.checks.instance_fault.Statement.{statement}

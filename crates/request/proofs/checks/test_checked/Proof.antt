@@ -6,7 +6,7 @@ use mathlib.Core.List.{[], _∷_}
 use Rattle.model.specs.Request.{Instance}
 use Rattle.model.specs.Fault.{firstFault, refusal, instanceFaults, networkFaults, combinationFaults, wordsFault}
 use Rattle.model.proofs.Fault.{refusal-none, refusal-front, refusal-back, firstFault-front}
-use Rattle.request.specs.Checks.{instanceOf}
+use Rattle.layout.specs.Shape.{instanceOf}
 use Rattle.request.proofs.Instance.{network-bounded}
 use borrow.Author.Needs.{needs}
 use Rattle.request.proofs.checks.test_checked.Statement.{statement}

@@ -7,7 +7,7 @@ use native.Mathlib.Omega.{arith}
 use lib.ListN.{getD}
 use Rattle.model.specs.Network.{tuplesIn}
 use Rattle.model.proofs.Network.{before-past}
-use Rattle.network.specs.Shape.{relationsOf}
+use Rattle.layout.specs.Shape.{relationsOf}
 use Rattle.network.proofs.Starts.{start-at}
 use borrow.Author.Needs.{needs}
 use Rattle.request.proofs.checks.total_of.Statement.{statement}

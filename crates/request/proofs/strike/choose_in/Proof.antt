@@ -5,8 +5,8 @@ use Prim.Native.Nat.{ℕ, _+_, _-_, _≤_, _<_}
 use native.Mathlib.Omega.{arith}
 use lib.ListN.{length, getD, take, drop}
 use Rattle.model.specs.Network.{Network, width, total, scopeOf}
-use Rattle.network.specs.declared.Shape.{Shape}
-use Rattle.network.specs.Shape.{networkOf}
+use Rattle.layout.specs.declared.Shape.{Shape}
+use Rattle.layout.specs.Shape.{networkOf}
 use Rattle.request.specs.Tables.{Tables, columnOf}
 use Rattle.request.proofs.Tables.{count-few, scope-rises, scope-fits, scope-width, scope-part, Column, column-bounds, column-within, column-values, column-struck, absent-struck}
 use borrow.Author.Needs.{needs}

@@ -8,8 +8,8 @@ use lib.ListN.{length}
 use Rattle.model.specs.Network.{Network, total, tuplesIn, firstId}
 use Rattle.model.specs.Request.{choose, removes}
 use Rattle.model.proofs.Network.{before-past}
-use Rattle.network.specs.declared.Shape.{Shape}
-use Rattle.network.specs.Shape.{networkOf}
+use Rattle.layout.specs.declared.Shape.{Shape}
+use Rattle.layout.specs.Shape.{networkOf}
 use Rattle.request.specs.Struck.{struck}
 use Rattle.request.specs.Tables.{Tables}
 use Rattle.request.proofs.Struck.{Small, upwards, struck-length, upward-all, upward-parts, upward-end}

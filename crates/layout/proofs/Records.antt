@@ -15,8 +15,8 @@ use Rattle.model.specs.Request.{Change, Instance, Request}
 use Rattle.model.specs.Fault.{networkFaults}
 use Rattle.model.specs.Reply.{reply, testReply, compareReply}
 use Rattle.model.proofs.Edges.{Alike, same, instance-alike, reply-alike, testReply-alike, compareReply-alike, many-alike}
-use Rattle.network.specs.Shape.{padded, shapeOf, recordAt, relationsOf, networkOf}
-use Rattle.network.proofs.Relations.{relation-count, relation-at}
+use Rattle.layout.specs.Shape.{padded, shapeOf, recordAt, relationsOf, networkOf}
+use Rattle.layout.proofs.Relations.{relation-count, relation-at}
 
 padded-getD : (n r : ℕ) (xs : List ℕ) → r < n → getD (padded n xs) r 0 ≡ getD xs r 0
 unfolding padded

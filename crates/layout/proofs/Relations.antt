@@ -12,8 +12,8 @@ use Rattle.model.specs.Lists.{from, sum}
 use Rattle.model.specs.Network.{noRelation, before}
 use Rattle.model.proofs.Lists.{length-from, getD-map-from}
 use Rattle.model.proofs.Network.{before-suc, before-past}
-use Rattle.network.specs.declared.Shape.{Shape}
-use Rattle.network.specs.Shape.{recordAt, relationsOf}
+use Rattle.layout.specs.declared.Shape.{Shape}
+use Rattle.layout.specs.Shape.{recordAt, relationsOf}
 
 getD-from : (i n k d : ℕ) → k < n → getD (from i n) k d ≡ i + k
 getD-from i zero k d h = absurd (omega arith)

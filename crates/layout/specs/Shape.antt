@@ -6,7 +6,8 @@ use Rattle.model.specs.declared.Relation.{Relation}
 use Rattle.model.specs.Limits.{maxRelations}
 use Rattle.model.specs.Lists.{from}
 use Rattle.model.specs.Network.{Network, variablesIn, tuplesIn}
-use Rattle.network.specs.declared.Shape.{Shape}
+use Rattle.model.specs.Request.{Instance}
+use Rattle.layout.specs.declared.Shape.{Shape}
 
 -- the first n numbers of a list, and noughts where it is shorter
 unfoldable pub padded : ℕ → List ℕ → List ℕ
@@ -32,3 +33,7 @@ relationsOf S = map (recordAt S) (from 0 (S .count))
 
 abbrev pub networkOf : Shape → List ℕ → List ℕ → Network
 networkOf S variables values = record { relations = relationsOf S; variables = variables; values = values }
+
+-- .. with its combinations
+abbrev pub instanceOf : Shape → List ℕ → List ℕ → ℕ → List ℕ → Instance
+instanceOf S variables values m members = record { network = networkOf S variables values; m = m; members = members }

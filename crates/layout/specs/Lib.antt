@@ -1,0 +1,8 @@
+-- The definitions that the contracts cite.
+pub mod Lent
+pub mod Shape
+pub mod Starts
+pub mod Places
+pub mod Setting
+pub mod Pairs
+pub mod Columns
