@@ -26,6 +26,10 @@ pub fit-different : (a b : ℕ) → (a ≡ b → ⊥) → fit a b ≡ false
 unfolding fit
 fit-different a b d = ne-eqb a b d
 
+pub fit-equal : (a b : ℕ) → fit a b ≡ true → a ≡ b
+unfolding fit
+fit-equal a b e = eqb-true a b e
+
 pub fit-sym : (a b : ℕ) → fit a b ≡ fit b a
 unfolding fit
 fit-sym a b = eqb-sym a b
@@ -49,13 +53,12 @@ clash-none x y f = clash-case x y (eqb (x .0) (y .0)) refl f
 pub clash-other-variable : (x y : Cell) → (x .0 ≡ y .0 → ⊥) → clash x y ≡ false
 clash-other-variable x y d = clash-none x y (λ e. absurd (d e))
 
-pub clash-same-value : (x y : Cell) → x .1 ≡ y .1 → clash x y ≡ false
-clash-same-value x y e = clash-none x y (λ _. fit-same (x .1) (y .1) e)
+pub clash-fits : (x y : Cell) → fit (x .1) (y .1) ≡ true → clash x y ≡ false
+clash-fits x y e = clash-none x y (λ _. e)
 
-pub clash-different-value : (x y : Cell) → x .0 ≡ y .0 → (x .1 ≡ y .1 → ⊥) → clash x y ≡ true
+pub clash-unfit : (x y : Cell) → x .0 ≡ y .0 → fit (x .1) (y .1) ≡ false → clash x y ≡ true
 unfolding clash
-clash-different-value x y e d =
-    ap₂ (λ (a b : Bool). a && not b) (eq-eqb (x .0) (y .0) e) (fit-different (x .1) (y .1) d)
+clash-unfit x y e d = ap₂ (λ (a b : Bool). a && not b) (eq-eqb (x .0) (y .0) e) d
 
 pub clash-sym : (x y : Cell) → clash x y ≡ clash y x
 unfolding clash

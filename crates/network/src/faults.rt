@@ -6,15 +6,19 @@ ghost use lib.Dec.{ltb};
 ghost use lib.ListN.{length, drop};
 ghost use Rattle.model.specs.Limits.{maxRelations, variableCount};
 ghost use Rattle.model.specs.Lists.{from, sum, all, pairwise};
-ghost use Rattle.model.specs.Network.{variablesIn, tuplesIn, valuesIn, scopeOf};
+ghost use Rattle.model.specs.Network.{variablesIn, tuplesIn, valuesIn};
 ghost use Rattle.model.specs.Fault.{properWidth, within, different, properScope, networkFaults, firstFault, refusal};
+ghost use Rattle.layout.specs.Lent.{entry};
 ghost use Rattle.layout.specs.Shape.{relationsOf, networkOf};
+ghost use Rattle.network.specs.Scopes.{properScopes};
 use layout::Shape;
 use layout::wide;
 use model::MAX_RELATIONS;
 use model::MAX_TUPLES;
 use model::MAX_WIDTH;
 use model::VARIABLES;
+use model::Value;
+use model::refusal;
 
 // How many variables, tuples and values the records call for.
 pub struct Totals {
@@ -76,7 +80,7 @@ fn totals_of(shape: Shape) -> Totals
 
 // Whether every entry is a variable.
 fn all_variables(scope: &[u16]) -> bool
-    ensures { λ b. ⌜ b ≡ all (λ (x : ℕ). ltb x variableCount) (now (scope .entry)) ⌝ }
+    ensures { λ b. ⌜ b ≡ all (λ (x : ℕ). ltb x variableCount) (entry scope) ⌝ }
 {
     let mut i = 0;
     while i < scope.len() {
@@ -91,7 +95,7 @@ fn all_variables(scope: &[u16]) -> bool
 // Whether x stands nowhere from the given column on.
 fn absent(scope: &[u16], x: u16, from: usize) -> bool
     requires { ⌜ from ≤ length (now scope) ⌝ }
-    ensures { λ b. ⌜ b ≡ all (different x) (drop from (now (scope .entry))) ⌝ }
+    ensures { λ b. ⌜ b ≡ all (different x) (drop from (entry scope)) ⌝ }
 {
     let mut j = from;
     while j < scope.len() {
@@ -105,7 +109,7 @@ fn absent(scope: &[u16], x: u16, from: usize) -> bool
 
 // Whether no variable stands twice.
 fn all_different(scope: &[u16]) -> bool
-    ensures { λ b. ⌜ b ≡ pairwise different (now (scope .entry)) ⌝ }
+    ensures { λ b. ⌜ b ≡ pairwise different (entry scope) ⌝ }
 {
     let mut i = 0;
     while i < scope.len() {
@@ -119,7 +123,7 @@ fn all_different(scope: &[u16]) -> bool
 
 // Whether a scope's variables are variables, and none stands twice.
 fn proper_scope(scope: &[u16]) -> bool
-    ensures { λ b. ⌜ b ≡ properScope (now (scope .entry)) ⌝ }
+    ensures { λ b. ⌜ b ≡ properScope (entry scope) ⌝ }
 {
     if !all_variables(scope) {
         return false;
@@ -131,7 +135,7 @@ fn proper_scope(scope: &[u16]) -> bool
 fn proper_scopes(shape: Shape, variables: &[u16]) -> bool
     requires { ⌜ shape .count ≤ maxRelations ⌝ }
     requires { ⌜ length (now variables) ≡ sum (map variablesIn (relationsOf shape)) ⌝ }
-    ensures { λ b. ⌜ b ≡ all (λ (r : ℕ). properScope (scopeOf (networkOf shape (now (variables .entry)) []) r)) (from 0 (length (relationsOf shape))) ⌝ }
+    ensures { λ b. ⌜ b ≡ properScopes (networkOf shape (entry variables) []) ⌝ }
 {
     let mut start = 0;
     let mut r: usize = 0;
@@ -147,29 +151,29 @@ fn proper_scopes(shape: Shape, variables: &[u16]) -> bool
 }
 
 // The number of the network's first fault, 2 to 6, or 0.
-pub fn fault(shape: Shape, variables: &[u16], values: &[u16]) -> u8
-    ensures { λ f. ⌜ f ≡ refusal (firstFault (networkFaults (networkOf shape (now (variables .entry)) (now (values .entry))))) ⌝ }
+pub fn fault(shape: Shape, variables: &[u16], values: &[Value]) -> u8
+    ensures { λ f. ⌜ f ≡ refusal (firstFault (networkFaults (networkOf shape (entry variables) (entry values)))) ⌝ }
 {
     if !within(1, MAX_RELATIONS, shape.count) {
-        return 2;
+        return refusal::RELATIONS;
     }
     let widths_proper = proper_widths(shape);
     let called = totals_of(shape);
     let tuples = called.tuples;
     if !widths_proper {
-        return 3;
+        return refusal::WIDTH;
     }
     if MAX_TUPLES < tuples {
-        return 4;
+        return refusal::TUPLES;
     }
     if variables.len() != called.variables {
-        return 5;
+        return refusal::LENGTHS;
     }
     if values.len() != called.values {
-        return 5;
+        return refusal::LENGTHS;
     }
     if !proper_scopes(shape, variables) {
-        return 6;
+        return refusal::SCOPE;
     }
     0
 }

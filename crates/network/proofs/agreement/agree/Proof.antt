@@ -7,9 +7,10 @@ use Prim.Native.Nat.{ℕ, _≤_, _<_, _-_}
 use native.Mathlib.Omega.{arith}
 use borrow.Author.Needs.{needs}
 use borrow.Author.Count.{below-more}
+use borrow.Author.Tests.{not-true, not-false}
 use lib.ListN.{length}
 use Rattle.model.specs.Agreement.{clash}
-use Rattle.model.proofs.Agreement.{cellAt, agreeing-places, agreeing-clash, clash-other-variable, clash-same-value, clash-different-value}
+use Rattle.model.proofs.Agreement.{cellAt, agreeing-places, agreeing-clash, clash-other-variable, clash-fits, clash-unfit}
 use Rattle.network.proofs.agreement.agree.Statement.{statement}
 use Rattle.network.proofs.agreement.agree.Tie as tie
 
@@ -38,7 +39,7 @@ loop-again c = (
   omega arith,
   c .before .before .before .before .loop .inv .1,
   below-more _ _ (c .before .before .before .before .loop .inv .2)
-      (⊎-elim (λ w. clash-same-value _ _ (w .3 .left)) (λ w. clash-other-variable _ _ (w .left)) (c .if1 .came)),
+      (⊎-elim (λ w. clash-fits _ _ (sym (w .3 .ensures) ∙ not-false _ (w .4 .left))) (λ w. clash-other-variable _ _ (w .left)) (c .if1 .came)),
 )
 
 columns-again : tie.Need-columns-again Inv-loop μ-loop Inv-columns μ-columns
@@ -50,19 +51,20 @@ columns-again c = (
 
 returns : tie.Need-returns Inv-loop μ-loop Inv-columns μ-columns
 returns c =
-    let args = c .before .before .args in
+    let args = c .before .before .before .before .before .before .args in
     c .before .columns .inv .1
     ∙ sym (agreeing-places (args .scope-a .now) (args .a .now) (args .scope-b .now) (args .b .now) (λ k h. c .before .columns .inv .2 k (omega arith)))
 
 returns-2 : tie.Need-returns-2 Inv-loop μ-loop Inv-columns μ-columns
 returns-2 c =
-    let column = c .before .before .before .before .before .before .before .before .before in
-    let args = column .before .args in
+    let column = c .before .before .before .before .before .before .before .before .before .before in
+    let start = column .before .before .before .before .before in
+    let args = start .args in
     let i = column .columns .i in
-    let j = c .before .before .before .before .before .before .before .loop .j in
+    let j = c .before .before .before .before .before .before .before .before .loop .j in
     sym
-    (agreeing-clash (args .scope-a .now) (args .a .now) (args .scope-b .now) (args .b .now) i j (column .before .pre .0) (column .before .pre .1) (omega arith) (omega arith)
-    (clash-different-value (cellAt (args .scope-a .now) (args .a .now) i) (cellAt (args .scope-b .now) (args .b .now) j) (c .before .before .before .if1 .taken) (c .if2 .taken)))
+    (agreeing-clash (args .scope-a .now) (args .a .now) (args .scope-b .now) (args .b .now) i j (start .pre .0) (start .pre .1) (omega arith) (omega arith)
+    (clash-unfit (cellAt (args .scope-a .now) (args .a .now) i) (cellAt (args .scope-b .now) (args .b .now) j) (c .before .before .before .before .if1 .taken) (sym (c .before .fit .ensures) ∙ not-true _ (c .if2 .taken))))
 
 pub agree-spec : {M : Type 1} → statement M
 agree-spec =
@@ -75,7 +77,8 @@ agree-spec =
     columns-holds
     loop-holds
     (λ c. search needs) (λ c. search needs) (λ c. search needs) (λ c. search needs) (λ c. search needs)
-    (λ c. search needs) (λ c. search needs) (λ c. search needs) (λ c. search needs) (λ c. search needs)
+    (λ c. search needs) (λ c. search needs) (λ c. search needs) (λ c κs. search needs) (λ c. search needs)
+    (λ c. search needs)
     loop-again
     (λ c. search needs) (λ c. search needs)
     columns-again

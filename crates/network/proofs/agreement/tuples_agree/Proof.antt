@@ -1,133 +1,54 @@
 -- `tuples_agree` decides whether two tuples agree: it hands `agree` the parts of the lists where they lie.
--- From the laws of a network's tables and of agreement by relation and index.
+-- From the laws of places, and of agreement by relation and index.
 use mathlib.Core.Path.{sym, ap₂, _∙_}
 use native.Mathlib.Omega.{arith}
-use Rattle.model.specs.Network.{Network}
 use Rattle.model.specs.Agreement.{agreeing}
 use Rattle.model.proofs.Agreement.{agree-at}
-use Rattle.network.specs.Layout.{tabled}
-use Rattle.network.proofs.Places.{Within, below-limit, rises, place-within, place-lengths, place-cells}
+use Rattle.layout.specs.Setting.{Lists, networkIn}
+use Rattle.layout.proofs.Places.{Within, below-limit, place-within, place-lengths, place-cells}
 use Rattle.network.proofs.agreement.tuples_agree.Statement.{statement}
 use Rattle.network.proofs.agreement.tuples_agree.Tie as tie
 
-abbrev network : tie.Start → Network
-network c = tabled (c .args .variables .now) (c .args .values .now) (c .args .variable-starts .now) (c .args .value-starts .now)
+abbrev given : tie.Start → Lists
+given c = record { variables = c .args .variables .now; values = c .args .values .now; starts = c .args .starts .now }
 
-first : (c : tie.After-place-of2) → Within (network (c .before .before .before .before)) (c .before .before .before .before .args .variable-starts .now) (c .before .before .before .before .args .value-starts .now) (c .before .before .before .before .pre .0) (c .before .before .before .before .args .r) (c .before .before .before .before .args .x) (c .before .before .before .before .pre .1 .0) (c .before .place-of .result)
-first c =
-    let start = c .before .before .before .before in
-    place-within (network start) (start .args .variable-starts .now) (start .args .value-starts .now) (start .pre .0) (start .args .r) (start .args .x) (start .pre .1 .0) (c .before .place-of .result) (c .before .place-of .ensures)
+abbrev start : tie.After-place-of2 → tie.Start
+start c = c .before .before .before .before
 
-second : (c : tie.After-place-of2) → Within (network (c .before .before .before .before)) (c .before .before .before .before .args .variable-starts .now) (c .before .before .before .before .args .value-starts .now) (c .before .before .before .before .pre .0) (c .before .before .before .before .args .s) (c .before .before .before .before .args .y) (c .before .before .before .before .pre .1 .1) (c .place-of2 .result)
-second c =
-    let start = c .before .before .before .before in
-    place-within (network start) (start .args .variable-starts .now) (start .args .value-starts .now) (start .pre .0) (start .args .s) (start .args .y) (start .pre .1 .1) (c .place-of2 .result) (c .place-of2 .ensures)
+-- each place lies within the lists
+first : (c : tie.After-place-of2) → Within (start c .pre .laid) (start c .args .r) (start c .args .x) (start c .pre .first) (c .before .place-of .result)
+first c = place-within (start c .pre .laid) (start c .args .r) (start c .args .x) (start c .pre .first) (c .before .place-of .result) (c .before .place-of .ensures)
 
-place-of-requires : tie.Need-place-of-requires
-place-of-requires c κs =
-    let start = c .before .before in (
-      below-limit (network start) (start .args .variable-starts .now) (start .args .value-starts .now) (start .pre .0) (start .args .r) (start .args .x) (start .pre .1 .0),
-      rises (network start) (start .args .variable-starts .now) (start .args .value-starts .now) (start .pre .0) (start .args .r) (start .args .x) (start .pre .1 .0),
-    )
-
-place-of-requires-2 : tie.Need-place-of-requires-2
-place-of-requires-2 c κs =
-    let start = c .before .before .before in (
-      below-limit (network start) (start .args .variable-starts .now) (start .args .value-starts .now) (start .pre .0) (start .args .s) (start .args .y) (start .pre .1 .1),
-      rises (network start) (start .args .variable-starts .now) (start .args .value-starts .now) (start .pre .0) (start .args .s) (start .args .y) (start .pre .1 .1),
-    )
-
-mul-agree : tie.Need-mul-agree
-mul-agree c = let l = first c in omega arith
-
-sub-agree : tie.Need-sub-agree
-sub-agree c = let l = first c in omega arith
-
-part-agree-start : tie.Need-part-agree-start
-part-agree-start c = let l = first c in omega arith
-
-part-agree-end : tie.Need-part-agree-end
-part-agree-end c = let l = first c in omega arith
-
-mul-agree-2 : tie.Need-mul-agree-2
-mul-agree-2 c = let l = first (c .before) in omega arith
-
-sub-agree-2 : tie.Need-sub-agree-2
-sub-agree-2 c = let l = first (c .before) in omega arith
-
-part-agree-start-2 : tie.Need-part-agree-start-2
-part-agree-start-2 c = let l = first (c .before) in omega arith
-
-part-agree-end-2 : tie.Need-part-agree-end-2
-part-agree-end-2 c = let l = first (c .before) in omega arith
-
-mul-agree-3 : tie.Need-mul-agree-3
-mul-agree-3 c = let l = second (c .before .before) in omega arith
-
-sub-agree-3 : tie.Need-sub-agree-3
-sub-agree-3 c = let l = second (c .before .before) in omega arith
-
-part-agree-start-3 : tie.Need-part-agree-start-3
-part-agree-start-3 c = let l = second (c .before .before) in omega arith
-
-part-agree-end-3 : tie.Need-part-agree-end-3
-part-agree-end-3 c = let l = second (c .before .before) in omega arith
-
-mul-agree-4 : tie.Need-mul-agree-4
-mul-agree-4 c = let l = second (c .before .before .before) in omega arith
-
-sub-agree-4 : tie.Need-sub-agree-4
-sub-agree-4 c = let l = second (c .before .before .before) in omega arith
-
-part-agree-start-4 : tie.Need-part-agree-start-4
-part-agree-start-4 c = let l = second (c .before .before .before) in omega arith
-
-part-agree-end-4 : tie.Need-part-agree-end-4
-part-agree-end-4 c = let l = second (c .before .before .before) in omega arith
+second : (c : tie.After-place-of2) → Within (start c .pre .laid) (start c .args .s) (start c .args .y) (start c .pre .second) (c .place-of2 .result)
+second c = place-within (start c .pre .laid) (start c .args .s) (start c .args .y) (start c .pre .second) (c .place-of2 .result) (c .place-of2 .ensures)
 
 agree-requires : tie.Need-agree-requires
 agree-requires c κs =
-    let start = c .before .before .before .before .before .before .before .before in
     let places = c .before .before .before .before in
-    let vs = start .args .variable-starts .now in
-    let ws = start .args .value-starts .now in (
-      place-lengths (network start) vs ws (start .pre .0) (start .args .r) (start .args .x) (start .pre .1 .0) (places .before .place-of .result) (places .before .place-of .ensures),
-      place-lengths (network start) vs ws (start .pre .0) (start .args .s) (start .args .y) (start .pre .1 .1) (places .place-of2 .result) (places .place-of2 .ensures),
+    let s = start places in (
+      place-lengths (s .pre .laid) (s .args .r) (s .args .x) (s .pre .first) (places .before .place-of .result) (places .before .place-of .ensures),
+      place-lengths (s .pre .laid) (s .args .s) (s .args .y) (s .pre .second) (places .place-of2 .result) (places .place-of2 .ensures),
     )
 
 returns : tie.Need-returns
 returns c =
-    let start = c .before .before .before .before .before .before .before .before .before in
     let places = c .before .before .before .before .before in
-    let vs = start .args .variable-starts .now in
-    let ws = start .args .value-starts .now in
+    let s = start places in
     c .agree .ensures
     ∙ ap₂ agreeing
-    (place-cells (network start) vs ws (start .pre .0) (start .args .r) (start .args .x) (start .pre .1 .0) (places .before .place-of .result) (places .before .place-of .ensures))
-    (place-cells (network start) vs ws (start .pre .0) (start .args .s) (start .args .y) (start .pre .1 .1) (places .place-of2 .result) (places .place-of2 .ensures))
-    ∙ sym (agree-at (network start) (start .args .r) (start .args .x) (start .args .s) (start .args .y) (start .pre .1 .0) (start .pre .1 .1))
+    (place-cells (s .pre .laid) (s .args .r) (s .args .x) (s .pre .first) (places .before .place-of .result) (places .before .place-of .ensures))
+    (place-cells (s .pre .laid) (s .args .s) (s .args .y) (s .pre .second) (places .place-of2 .result) (places .place-of2 .ensures))
+    ∙ sym (agree-at (networkIn (given s)) (s .args .r) (s .args .x) (s .args .s) (s .args .y) (s .pre .first) (s .pre .second))
 
 pub tuples-agree-spec : {M : Type 1} → statement M
 tuples-agree-spec =
     tie.close
     (tie.spec
-    place-of-requires
-    place-of-requires-2
-    mul-agree
-    sub-agree
-    part-agree-start
-    part-agree-end
-    mul-agree-2
-    sub-agree-2
-    part-agree-start-2
-    part-agree-end-2
-    mul-agree-3
-    sub-agree-3
-    part-agree-start-3
-    part-agree-end-3
-    mul-agree-4
-    sub-agree-4
-    part-agree-start-4
-    part-agree-end-4
+    (λ c κs. let s = c .before .before in (s .pre .laid .framed, below-limit (s .pre .laid) (s .args .r) (s .args .x) (s .pre .first)))
+    (λ c κs. let s = c .before .before .before in (s .pre .laid .framed, below-limit (s .pre .laid) (s .args .s) (s .args .y) (s .pre .second)))
+    (λ c. omega (arith, first c)) (λ c. omega (arith, first c)) (λ c. omega (arith, first c)) (λ c. omega (arith, first c))
+    (λ c. omega (arith, first (c .before))) (λ c. omega (arith, first (c .before))) (λ c. omega (arith, first (c .before))) (λ c. omega (arith, first (c .before)))
+    (λ c. omega (arith, second (c .before .before))) (λ c. omega (arith, second (c .before .before))) (λ c. omega (arith, second (c .before .before))) (λ c. omega (arith, second (c .before .before)))
+    (λ c. omega (arith, second (c .before .before .before))) (λ c. omega (arith, second (c .before .before .before))) (λ c. omega (arith, second (c .before .before .before))) (λ c. omega (arith, second (c .before .before .before)))
     agree-requires
     returns)

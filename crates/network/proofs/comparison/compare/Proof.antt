@@ -1,24 +1,24 @@
 -- `compare` answers as the definition of the call says: the first fault, or whether the two tuples agree.
--- From what its parts ensure, the laws of the first fault and of a network's tables.
+-- From what its parts ensure, the laws of the first fault, and the bridge from no fault to laid lists.
 use mathlib.Core.Path.{_≡_, refl, sym, ap, ap₂, subst, _∙_}
 use mathlib.Core.Bool.{Bool, true, false, not, _&&_, and-false}
 use mathlib.Core.Option.{Option, none, some}
-use mathlib.Core.List.{[], _∷_}
+use mathlib.Core.List.{List, [], _∷_}
 use Prim.Native.Nat.{ℕ, _<_}
 use native.Mathlib.Omega.{arith}
 use borrow.Author.Needs.{needs}
 use borrow.Author.Tests.{lt-ltb, le-ltb}
 use lib.Dec.{ltb}
-use lib.ListN.{getD}
-use Rattle.model.specs.Network.{Network, total, tuplesIn}
+use Rattle.model.specs.Network.{Network, total}
 use Rattle.model.specs.Agreement.{agree}
 use Rattle.model.specs.Fault.{firstFault, networkFaults, idsFault, compareFaults}
 use Rattle.model.specs.Reply.{comparisonNumbers, comparisonFor, compareReply}
-use Rattle.model.proofs.Fault.{faultless, fault-here, fault-next, firstFault-append-none, firstFault-append-some, refusal-some, refusal-none}
+use Rattle.model.proofs.Fault.{fault-here, fault-next, firstFault-append-none, firstFault-append-some, refusal-some, refusal-none}
 use Rattle.layout.specs.Shape.{networkOf}
-use Rattle.network.specs.Layout.{starts, Laid, tabled}
-use Rattle.network.proofs.Starts.{faultless-bounded, last-start}
-use Rattle.network.proofs.Tabled.{laid-tabled}
+use Rattle.layout.specs.Setting.{Lists, networkIn, Laid}
+use Rattle.layout.proofs.Framed.{tuple-count}
+use Rattle.layout.proofs.Bridge.{shape-bounded, network-is, laid-of}
+use Rattle.network.specs.Tuples.{TwoIds}
 use Rattle.network.proofs.comparison.compare.Statement.{statement}
 use Rattle.network.proofs.comparison.compare.Tie as tie
 
@@ -47,93 +47,78 @@ module _ (N : Network) (g h : ℕ) where
 
 -- ---- What is known on the way
 
+abbrev start : tie.Else1 → tie.Start
+start c = c .before .before .before .before
+
 abbrev network : tie.Start → Network
 network c = networkOf (c .args .shape) (c .args .variables .now) (c .args .values .now)
 
-abbrev entry : tie.Else1 → tie.Start
-entry c = c .before .before .before .before
+sound : (c : tie.Else1) → firstFault (networkFaults (network (start c))) ≡ none
+sound c = refusal-none (networkFaults (network (start c))) refl (sym (c .before .fault .ensures) ∙ c .if1 .left)
 
-abbrev accepted : tie.After-value-starts → tie.Else1
-accepted c = c .before .before .before .before
+abbrev given : tie.After-starts-of → Lists
+given c =
+    let s = start (c .before) in
+    record { variables = s .args .variables .now; values = s .args .values .now; starts = c .starts-of .result }
 
-sound : (c : tie.Else1) → firstFault (networkFaults (network (entry c))) ≡ none
-sound c = refusal-none (networkFaults (network (entry c))) refl (sym (c .before .fault .ensures) ∙ c .if1 .left)
+laid : (c : tie.After-starts-of) → Laid (given c)
+laid c =
+    let s = start (c .before) in
+    subst (λ (xs : List ℕ). Laid (record { variables = s .args .variables .now; values = s .args .values .now; starts = xs })) (sym (c .starts-of .ensures)) (laid-of (s .args .shape) (s .args .variables .now) (s .args .values .now) (sound (c .before)))
 
-laid : (c : tie.After-offsets) → Laid (network (entry (c .before))) (c .offsets .result .variables) (c .offsets .result .values)
-laid c = record { faultless = sound (c .before); variables = c .offsets .ensures .0; values = c .offsets .ensures .1 .1 }
+described : (c : tie.After-starts-of) → networkIn (given c) ≡ network (start (c .before))
+described c =
+    let s = start (c .before) in
+    ap (λ (xs : List ℕ). networkIn (record { variables = s .args .variables .now; values = s .args .values .now; starts = xs })) (c .starts-of .ensures)
+    ∙ network-is (s .args .shape) (s .args .variables .now) (s .args .values .now) (sound (c .before))
 
-described : (c : tie.After-offsets) → tabled (entry (c .before) .args .variables .now) (entry (c .before) .args .values .now) (c .offsets .result .variables) (c .offsets .result .values) ≡ network (entry (c .before))
-described c = laid-tabled (network (entry (c .before))) (c .offsets .result .variables) (c .offsets .result .values) (laid c)
+count : (c : tie.After-tuple-count) → c .tuple-count .result ≡ total (network (start (c .before .before .before)))
+count c = c .tuple-count .ensures ∙ tuple-count (laid (c .before .before) .framed) ∙ ap total (described (c .before .before))
 
-count : (c : tie.After-value-starts) → getD (c .before .before .before .offsets .result .tuples) 64 0 ≡ total (network (entry (accepted c)))
-count c =
-    let N = network (entry (accepted c)) in
-    last-start N (faultless N (sound (accepted c))) (c .before .before .before .offsets .result .tuples) (c .before .before .before .offsets .ensures .1 .0)
-
-low : (c : tie.Else3) → (entry (accepted (c .before .before)) .args .g < total (network (entry (accepted (c .before .before))))) × (entry (accepted (c .before .before)) .args .h < total (network (entry (accepted (c .before .before)))))
+low : (c : tie.Else3) → (start (c .before .before .before .before .before) .args .g < total (network (start (c .before .before .before .before .before)))) × (start (c .before .before .before .before .before) .args .h < total (network (start (c .before .before .before .before .before))))
 low c = let t = count (c .before .before) in omega arith
 
--- what `ids_agree` asks, of the network itself and so of the one that the tables describe
-Asked : tie.Else3 → Network → Type 0
-Asked c N =
-    let start = entry (accepted (c .before .before)) in
-    let tables = c .before .before .before .before .before .offsets .result in
-    Laid N (tables .variables) (tables .values) × ((tables .tuples ≡ starts tuplesIn (N .relations)) × ((start .args .g < total N) × (start .args .h < total N)))
-
-asked : (c : tie.Else3) → Asked c (network (entry (accepted (c .before .before))))
-unfolding Asked
+asked : (c : tie.Else3) → TwoIds (given (c .before .before .before .before)) (start (c .before .before .before .before .before) .args .g) (start (c .before .before .before .before .before) .args .h)
 asked c =
-    let offsets = c .before .before .before .before .before in
-    (laid offsets, (offsets .offsets .ensures .1 .0, (low c .0, low c .1)))
+    let e = ap total (described (c .before .before .before .before)) in
+    record { laid = laid (c .before .before .before .before); first = omega (arith, low c); second = omega (arith, low c) }
 
-agreed : (c : tie.After-ids-agree) → agree (network (entry (accepted (c .before .before .before .before .before .before)))) (entry (accepted (c .before .before .before .before .before .before)) .args .g) (entry (accepted (c .before .before .before .before .before .before)) .args .h) ≡ c .ids-agree .result
+agreed : (c : tie.After-ids-agree) → agree (network (start (c .before .before .before .before .before .before .before))) (start (c .before .before .before .before .before .before .before) .args .g) (start (c .before .before .before .before .before .before .before) .args .h) ≡ c .ids-agree .result
 agreed c =
-    let tables = c .before .before .before .before .before .before in
-    let start = entry (accepted tables) in
-    sym (c .ids-agree .ensures ∙ ap (λ (N : Network). agree N (start .args .g) (start .args .h)) (described (tables .before .before .before)))
+    let s = start (c .before .before .before .before .before .before .before) in
+    sym (c .ids-agree .ensures ∙ ap (λ (N : Network). agree N (s .args .g) (s .args .h)) (described (c .before .before .before .before .before .before)))
 
 returns : tie.Need-returns
 returns c =
-    let start = c .before .before .before .before in
-    refused (network start) (start .args .g) (start .args .h) (c .before .fault .result) (refusal-some (firstFault (networkFaults (network start))) (c .before .fault .result) (sym (c .before .fault .ensures)) (c .if1 .taken))
-
-offsets-requires : tie.Need-offsets-requires
-offsets-requires c κs = faultless-bounded (network (entry c)) (faultless (network (entry c)) (sound c))
+    let s = c .before .before .before .before in
+    refused (network s) (s .args .g) (s .args .h) (c .before .fault .result) (refusal-some (firstFault (networkFaults (network s))) (c .before .fault .result) (sym (c .before .fault .ensures)) (c .if1 .taken))
 
 returns-2 : tie.Need-returns-2
 returns-2 c =
-    let start = entry (accepted (c .before)) in
-    let N = network start in
+    let s = start (c .before .before .before .before) in
+    let N = network s in
     let t = count (c .before) in
-    let low = le-ltb (start .args .g) (total N) (omega arith) in
-    refused-id N (start .args .g) (start .args .h) (sound (accepted (c .before))) (ap (λ (b : Bool). b && (ltb (start .args .h) (total N) && true)) low)
+    let low = le-ltb (s .args .g) (total N) (omega arith) in
+    refused-id N (s .args .g) (s .args .h) (sound (c .before .before .before .before)) (ap (λ (b : Bool). b && (ltb (s .args .h) (total N) && true)) low)
 
 returns-3 : tie.Need-returns-3
 returns-3 c =
-    let start = entry (accepted (c .before .before)) in
-    let N = network start in
+    let s = start (c .before .before .before .before .before) in
+    let N = network s in
     let t = count (c .before .before) in
-    let low = le-ltb (start .args .h) (total N) (omega arith) in
-    refused-id N (start .args .g) (start .args .h) (sound (accepted (c .before .before)))
-    (ap (λ (b : Bool). ltb (start .args .g) (total N) && (b && true)) low ∙ and-false (ltb (start .args .g) (total N)))
-
-ids-agree-requires : tie.Need-ids-agree-requires
-unfolding Asked
-ids-agree-requires c κs =
-    let chosen = c .before .before .before in
-    subst (Asked chosen) (sym (described (chosen .before .before .before .before .before))) (asked chosen)
+    let low = le-ltb (s .args .h) (total N) (omega arith) in
+    refused-id N (s .args .g) (s .args .h) (sound (c .before .before .before .before .before))
+    (ap (λ (b : Bool). ltb (s .args .g) (total N) && (b && true)) low ∙ and-false (ltb (s .args .g) (total N)))
 
 returns-4 : tie.Need-returns-4
 returns-4 c =
-    let chosen = c .before .before .before .before .before in
-    let start = entry (accepted (chosen .before .before)) in
-    answered (network start) (start .args .g) (start .args .h) (sound (accepted (chosen .before .before))) true (low chosen .0) (low chosen .1) (agreed (c .before) ∙ c .if4 .taken)
+    let s = start (c .before .before .before .before .before .before .before .before) in
+    answered (network s) (s .args .g) (s .args .h) (sound (c .before .before .before .before .before .before .before .before)) true (low (c .before .before .before) .0) (low (c .before .before .before) .1) (agreed (c .before) ∙ c .if4 .taken)
 
 returns-5 : tie.Need-returns-5
 returns-5 c =
-    let chosen = c .before .before .before .before .before in
-    let start = entry (accepted (chosen .before .before)) in
-    answered (network start) (start .args .g) (start .args .h) (sound (accepted (chosen .before .before))) false (low chosen .0) (low chosen .1) (agreed (c .before) ∙ c .if4 .left)
+    let s = start (c .before .before .before .before .before .before .before .before) in
+    answered (network s) (s .args .g) (s .args .h) (sound (c .before .before .before .before .before .before .before .before)) false (low (c .before .before .before) .0) (low (c .before .before .before) .1) (agreed (c .before) ∙ c .if4 .left)
 
 pub compare-spec : {M : Type 1} → statement M
 compare-spec =
@@ -141,10 +126,10 @@ compare-spec =
     (tie.spec
     (λ c κs. search needs)
     returns
-    offsets-requires
-    (λ c. search needs)
+    (λ c κs. let s = start c in shape-bounded (s .args .shape) (s .args .variables .now) (s .args .values .now) (sound c))
+    (λ c κs. search needs)
     returns-2
     returns-3
-    ids-agree-requires
+    (λ c κs. asked (c .before))
     returns-4
     returns-5)

@@ -1,102 +1,66 @@
 -- `ids_agree` decides whether the tuples with two ids agree: it finds the relation and the index of each.
--- From the laws of the relation and the index of an id, by the table of tuple starts.
-use mathlib.Core.Path.{_≡_, ap₂, _∙_}
+-- From the laws of the relation and the index of an id.
+use mathlib.Core.Path.{_≡_, ap₂, subst, sym, _∙_}
 use mathlib.Core.List.{List}
-use Prim.Native.Nat.{ℕ, _+_, _-_}
+use Prim.Native.Nat.{ℕ, _+_, _-_, _≤_, _<_}
 use native.Mathlib.Omega.{arith}
 use borrow.Author.Needs.{needs}
-use lib.ListN.{getD}
-use Rattle.model.specs.Network.{Network, firstId, relationOf}
+use Rattle.model.specs.Network.{size, total, firstId, relationOf}
 use Rattle.model.specs.Agreement.{agree}
-use Rattle.model.proofs.Fault.{Faultless, faultless}
-use Rattle.network.specs.Layout.{tabled}
-use Rattle.network.proofs.Starts.{last-start, id-relation, id-begun, id-index, id-back}
+use Rattle.layout.specs.Starts.{tupleStart, outline, Framed}
+use Rattle.layout.specs.Setting.{networkIn}
+use Rattle.layout.proofs.Framed.{id-relation, id-begun, id-index, id-back}
 use Rattle.network.proofs.comparison.ids_agree.Statement.{statement}
 use Rattle.network.proofs.comparison.ids_agree.Tie as tie
 
-abbrev network : tie.Start → Network
-network c = tabled (c .args .variables .now) (c .args .values .now) (c .args .variable-starts .now) (c .args .value-starts .now)
+-- What the number r of an id's relation, and where that one's tuples begin, say of the id.
+record Found (xs : List ℕ) (g r at : ℕ) : Type 0 where
+  below : r < 64
+  begun : tupleStart xs r ≤ g
+  index : at ≡ tupleStart xs r → g - at < size (outline xs) r
+  back : at ≡ tupleStart xs r → firstId (outline xs) r + (g - at) ≡ g
 
-abbrev table : tie.Start → List ℕ
-table c = c .args .tuple-starts .now
+found : {xs : List ℕ} → Framed xs → (g r at : ℕ) → g < total (outline xs) → r ≡ relationOf (outline xs) g → Found xs g r at
+found {xs} framed g r at h e =
+    subst (λ (r : ℕ). Found xs g r at) (sym e)
+    (record {
+      below = id-relation framed g h;
+      begun = id-begun framed g h;
+      index = λ q. subst (λ (a : ℕ). g - a < size (outline xs) (relationOf (outline xs) g)) (sym q) (id-index framed g h);
+      back = λ q. subst (λ (a : ℕ). firstId (outline xs) (relationOf (outline xs) g) + (g - a) ≡ g) (sym q) (id-back framed g h);
+    })
 
-sound : (c : tie.Start) → Faultless (network c)
-sound c = faultless (network c) (c .pre .0 .faultless)
+abbrev start : tie.After-relation-of2 → tie.Start
+start c = c .before .before .before .before
 
-first : (c : tie.After-wide) → c .wide .result ≡ relationOf (network (c .before .before .before .before .before)) (c .before .before .before .before .before .args .g)
-first c =
-    let start = c .before .before .before .before .before in
-    c .wide .ensures .0 ∙ c .before .before .relation-of .ensures (network start) (start .pre .1 .0)
+first : (c : tie.After-relation-of2) (at : ℕ) → Found (start c .args .starts .now) (start c .args .g) (c .before .relation-of .result) at
+first c at = found (start c .pre .laid .framed) (start c .args .g) (c .before .relation-of .result) at (start c .pre .first) (c .before .relation-of .ensures)
 
-second : (c : tie.After-wide2) → c .wide2 .result ≡ relationOf (network (c .before .before .before .before .before .before .before)) (c .before .before .before .before .before .before .before .args .h)
-second c =
-    let start = c .before .before .before .before .before .before .before in
-    c .wide2 .ensures .0 ∙ c .before .before .before .relation-of2 .ensures (network start) (start .pre .1 .0)
-
-relation-of-requires : tie.Need-relation-of-requires
-relation-of-requires c κs = rw (last-start (network (c .before .before)) (sound (c .before .before)) (table (c .before .before)) (c .before .before .pre .1 .0)) (c .before .before .pre .1 .1 .0)
-
-relation-of-requires-2 : tie.Need-relation-of-requires-2
-relation-of-requires-2 c κs =
-    let start = c .before .before .before in
-    rw (last-start (network start) (sound start) (table start) (start .pre .1 .0)) (start .pre .1 .1 .1)
-
-element-copy-out-x : tie.Need-element-copy-out-x
-element-copy-out-x c =
-    let start = c .before .before .before .before .before in
-    let e = first c in
-    let l = id-relation (network start) (sound start) (table start) (start .pre .1 .0) (start .args .g) (start .pre .1 .1 .0) in
-    omega arith
-
-sub-x : tie.Need-sub-x
-sub-x c =
-    let start = c .before .before .before .before .before .before in
-    rw (first (c .before)) (id-begun (network start) (sound start) (table start) (start .pre .1 .0) (start .args .g) (start .pre .1 .1 .0))
-
-element-copy-out-y : tie.Need-element-copy-out-y
-element-copy-out-y c =
-    let start = c .before .before .before .before .before .before .before in
-    let e = second c in
-    let l = id-relation (network start) (sound start) (table start) (start .pre .1 .0) (start .args .h) (start .pre .1 .1 .1) in
-    omega arith
-
-sub-y : tie.Need-sub-y
-sub-y c =
-    let start = c .before .before .before .before .before .before .before .before in
-    rw (second (c .before)) (id-begun (network start) (sound start) (table start) (start .pre .1 .0) (start .args .h) (start .pre .1 .1 .1))
-
-tuples-agree-requires : tie.Need-tuples-agree-requires
-tuples-agree-requires c κs =
-    let start = c .before .before .before .before .before .before .before .before in
-    let relations = c .before .before .before .before in (
-      start .pre .0,
-      (
-        rw (first (c .before .before .before), relations .before .relation-of .ensures (network start) (start .pre .1 .0)) (id-index (network start) (sound start) (table start) (start .pre .1 .0) (start .args .g) (start .pre .1 .1 .0)),
-        rw (second (c .before), relations .relation-of2 .ensures (network start) (start .pre .1 .0)) (id-index (network start) (sound start) (table start) (start .pre .1 .0) (start .args .h) (start .pre .1 .1 .1)),
-      ),
-    )
+second : (c : tie.After-relation-of2) (at : ℕ) → Found (start c .args .starts .now) (start c .args .h) (c .relation-of2 .result) at
+second c at = found (start c .pre .laid .framed) (start c .args .h) (c .relation-of2 .result) at (start c .pre .second) (c .relation-of2 .ensures)
 
 returns : tie.Need-returns
 returns c =
-    let start = c .before .before .before .before .before .before .before .before .before in
-    let relations = c .before .before .before .before .before in
-    let N = network start in
+    let t = c .before in
+    let r = c .before .before .before in
+    let s = start r in
     c .tuples-agree .ensures
-    ∙ ap₂ (agree N)
-    (ap₂ (λ (q p : ℕ). firstId N q + (start .args .g - getD (table start) p 0)) (relations .before .relation-of .ensures N (start .pre .1 .0)) (first (c .before .before .before .before)) ∙ id-back N (sound start) (table start) (start .pre .1 .0) (start .args .g) (start .pre .1 .1 .0))
-    (ap₂ (λ (q p : ℕ). firstId N q + (start .args .h - getD (table start) p 0)) (relations .relation-of2 .ensures N (start .pre .1 .0)) (second (c .before .before)) ∙ id-back N (sound start) (table start) (start .pre .1 .0) (start .args .h) (start .pre .1 .1 .1))
+    ∙ ap₂ (agree (networkIn (record { variables = s .args .variables .now; values = s .args .values .now; starts = s .args .starts .now })))
+    (first r (t .before .tuple-start .result) .back (t .before .tuple-start .ensures))
+    (second r (t .tuple-start2 .result) .back (t .tuple-start2 .ensures))
 
 pub ids-agree-spec : {M : Type 1} → statement M
 ids-agree-spec =
     tie.close
     (tie.spec
-    relation-of-requires
-    relation-of-requires-2
-    (λ c κs. search needs) (λ c. search needs)
-    element-copy-out-x
-    sub-x
-    (λ c κs. search needs) (λ c. search needs)
-    element-copy-out-y
-    sub-y
-    tuples-agree-requires
+    (λ c κs. search needs) (λ c κs. search needs)
+    (λ c κs. omega (arith, first c 0 .below))
+    (λ c. omega (arith, first (c .before) 0 .begun, c .tuple-start .ensures))
+    (λ c κs. omega (arith, second (c .before) 0 .below))
+    (λ c. omega (arith, second (c .before .before) 0 .begun, c .tuple-start2 .ensures))
+    (λ c κs. record {
+      laid = start (c .before .before) .pre .laid;
+      first = first (c .before .before) (c .before .tuple-start .result) .index (c .before .tuple-start .ensures);
+      second = second (c .before .before) (c .tuple-start2 .result) .index (c .tuple-start2 .ensures);
+    })
     returns)
