@@ -1,5 +1,4 @@
--- The laws of the table of marks, and of the words narrowed by it.
+-- The laws of the value index, and of the words narrowed by it.
 pub mod Words
-pub mod Tables
-pub mod Marking
+pub mod Indexing
 pub mod Narrowing

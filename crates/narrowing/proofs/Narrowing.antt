@@ -2,7 +2,7 @@
 -- of a combination, one after the other.
 -- From what `keep` ensures, and the laws of agreement by places and of ids.
 use mathlib.Core.Path.{_≡_, refl, sym, _∙_, ap, subst}
-use mathlib.Core.Bool.{Bool, true, _&&_, and-true}
+use mathlib.Core.Bool.{Bool, true, false, _&&_, and-true}
 use mathlib.Core.List.{List}
 use mathlib.Core.Logic.{_⊎_, inl, inr, ⊎-elim}
 use Prim.Native.Nat.{ℕ, _+_, _-_, _≤_, _<_}
@@ -11,22 +11,26 @@ use native.Mathlib.Decide.{ℕ-discrete, decLt, decLe}
 use lib.Dec.{ltb, leb}
 use lib.ListN.{length, getD}
 use Rattle.model.specs.Network.{Network, width, size, firstId, scopeOf, valuesAt, relationOf}
-use Rattle.model.specs.Agreement.{Cell, cells, cellsOf, agreeing, agree}
+use Rattle.model.specs.Agreement.{Cell, fit, cells, cellsOf, agreeing, agree}
 use Rattle.model.specs.LiveWords.{isLive, nextLive}
 use Rattle.model.proofs.Bools.{and-left, and-intro, or-right, not-both}
 use Rattle.model.proofs.Network.{relationOf-at}
 use Rattle.model.proofs.LiveWords.{nextLive-first}
-use Rattle.model.proofs.Agreement.{cellAt, cellsOf-at, agreeing-clash, clash-different-value}
-use Rattle.network.specs.Layout.{Laid}
-use Rattle.narrowing.specs.Marks.{bucketOf, marked, Marks, stays, Narrows, Agreeing, Dead, Narrowed}
+use Rattle.model.proofs.Agreement.{cellAt, cellsOf-at, agreeing-clash, clash-unfit, fit-equal}
+use Rattle.layout.specs.Setting.{Lists, networkIn, Laid}
+use Rattle.layout.proofs.Places.{below-limit, scope-length, values-length}
+use Rattle.narrowing.specs.Index.{bucketOf, isIndexed, Indexed, stays, Narrows, Agreeing, Dead, Narrowed}
 use Rattle.narrowing.proofs.Words.{stays-before, stays-behind}
-use Rattle.narrowing.proofs.Tables.{scope-length, values-length}
 
-module _ (accepts : List ℕ → Bool) (columns : ℕ) (table : List ℕ) (start end : ℕ) where
-  pub narrows-none : (ws : List ℕ) → Narrows accepts columns table start end ws ws
+-- values that fit share a bucket
+fit-bucket : (v w : ℕ) → fit v w ≡ true → bucketOf v ≡ bucketOf w
+fit-bucket v w e = ap bucketOf (fit-equal v w e)
+
+module _ (accepts : List ℕ → Bool) (columns : ℕ) (index : List ℕ) (start end : ℕ) where
+  pub narrows-none : (ws : List ℕ) → Narrows accepts columns index start end ws ws
   narrows-none ws = record { inside = λ g e. e; outside = λ g o. refl; keeps = λ g b l m a e. e }
 
-  pub narrows-on : (a b c : List ℕ) → Narrows accepts columns table start end a b → Narrows accepts columns table start end b c → Narrows accepts columns table start end a c
+  pub narrows-on : (a b c : List ℕ) → Narrows accepts columns index start end a b → Narrows accepts columns index start end b c → Narrows accepts columns index start end a c
   narrows-on a b c f g =
       record {
         inside = λ h e. f .inside h (g .inside h e);
@@ -34,34 +38,35 @@ module _ (accepts : List ℕ → Bool) (columns : ℕ) (table : List ℕ) (start
         keeps = λ h v l m p e. g .keeps h v l m p (f .keeps h v l m p e);
       }
 
-  -- a column in which accepted values have value v
-  pub narrows-keep : (column v : ℕ) (before after : List ℕ) → column < columns → ((b : List ℕ) → columns ≡ length b → accepts b ≡ true → getD b column 0 ≡ v) → ((g : ℕ) → isLive after g ≡ (isLive before g && stays (marked table column (bucketOf v)) start end g)) → Narrows accepts columns table start end before after
+  -- a column in which accepted values fit value v
+  pub narrows-keep : (column v : ℕ) (before after : List ℕ) → column < columns → ((b : List ℕ) → columns ≡ length b → accepts b ≡ true → fit v (getD b column 0) ≡ true) → ((g : ℕ) → isLive after g ≡ (isLive before g && stays (isIndexed index column (bucketOf v)) start end g)) → Narrows accepts columns index start end before after
   narrows-keep column v before after h told kept =
       record {
-        inside = λ g e. and-left (isLive before g) (stays (marked table column (bucketOf v)) start end g) (sym (kept g) ∙ e);
-        outside = λ g o. kept g ∙ ap (λ (x : Bool). isLive before g && x) (⊎-elim (stays-before (marked table column (bucketOf v)) start end g) (stays-behind (marked table column (bucketOf v)) start end g) o) ∙ and-true (isLive before g);
-        keeps = λ g b l m a e. kept g ∙ and-intro e (or-right (ltb g start) (or-right (leb end g) (subst (λ (x : ℕ). marked table column (bucketOf x) g ≡ true) (told b l a) (m column h))));
+        inside = λ g e. and-left (isLive before g) (stays (isIndexed index column (bucketOf v)) start end g) (sym (kept g) ∙ e);
+        outside = λ g o. kept g ∙ ap (λ (x : Bool). isLive before g && x) (⊎-elim (stays-before (isIndexed index column (bucketOf v)) start end g) (stays-behind (isIndexed index column (bucketOf v)) start end g) o) ∙ and-true (isLive before g);
+        keeps = λ g b l m a e. kept g ∙ and-intro e (or-right (ltb g start) (or-right (leb end g) (subst (λ (k : ℕ). isIndexed index column k g ≡ true) (sym (fit-bucket v (getD b column 0) (told b l a))) (m column h))));
       }
 
--- tuples that agree have the same value under a variable that stands at place i of the one scope and at place j of the other
+-- tuples that agree have fitting values under a variable that stands at place i of the one scope and at place j of the other
 module _ (scopeA a scopeB : List ℕ) (i j : ℕ) (widths : length scopeA ≡ length a) (hi : i < length scopeA) (hj : j < length scopeB) (same : getD scopeA i 0 ≡ getD scopeB j 0) where
-  pub same-value : (b : List ℕ) → length scopeB ≡ length b → agreeing (cells scopeA a) (cells scopeB b) ≡ true → getD b j 0 ≡ getD a i 0
-  same-value b l e = go (ℕ-discrete (getD a i 0) (getD b j 0))
+  pub values-fit : (b : List ℕ) → length scopeB ≡ length b → agreeing (cells scopeA a) (cells scopeB b) ≡ true → fit (getD a i 0) (getD b j 0) ≡ true
+  values-fit b l e = go (fit (getD a i 0) (getD b j 0)) refl
     where
-      go : Dec (getD a i 0 ≡ getD b j 0) → getD b j 0 ≡ getD a i 0
-      go (yes q) = sym q
-      go (no d) = absurd (not-both e (agreeing-clash scopeA a scopeB b i j widths l hi hj (clash-different-value (cellAt scopeA a i) (cellAt scopeB b j) same d)))
+      go : (x : Bool) → fit (getD a i 0) (getD b j 0) ≡ x → fit (getD a i 0) (getD b j 0) ≡ true
+      go true q = q
+      go false q = absurd (not-both e (agreeing-clash scopeA a scopeB b i j widths l hi hj (clash-unfit (cellAt scopeA a i) (cellAt scopeB b j) same q)))
 
 -- relation s, by its scope and the values of its tuples
-pub narrows-agreeing : (N : Network) (vs ws : List ℕ) → Laid N vs ws → (table : List ℕ) → Marks N table → (r x s start end : ℕ) → start ≡ firstId N s → end ≡ firstId N s + size N s → (xs : List Cell) → xs ≡ cellsOf N (firstId N r + x) → (scope : List ℕ) → scope ≡ scopeOf N s → (before after : List ℕ) → Narrows (λ (b : List ℕ). agreeing xs (cells scope b)) (length scope) table start end before after → Agreeing N r x s before after
+pub narrows-agreeing : {L : Lists} → Laid L → (let N = networkIn L in (index : List ℕ) → Indexed N index → (r x s start end : ℕ) → start ≡ firstId N s → end ≡ firstId N s + size N s → (xs : List Cell) → xs ≡ cellsOf N (firstId N r + x) → (scope : List ℕ) → scope ≡ scopeOf N s → (before after : List ℕ) → Narrows (λ (b : List ℕ). agreeing xs (cells scope b)) (length scope) index start end before after → Agreeing N r x s before after)
 unfolding agree
-narrows-agreeing N vs ws laid table marks r x s start end es ee xs ex scope ep before after n =
+narrows-agreeing {L} laid index marks r x s start end es ee xs ex scope ep before after n =
+    let N = networkIn L in
     record {
       inside = n .inside;
       outside = λ g o. n .outside g (subst (λ (k : ℕ). (g < k) ⊎ (end ≤ g)) (sym es) (subst (λ (k : ℕ). (g < firstId N s) ⊎ (k ≤ g)) (sym ee) o));
       keeps = λ z h a e.
-          let l : length scope ≡ width N s = ap (λ (p : List ℕ). length p) ep ∙ scope-length N vs ws laid s z h in
-          n .keeps (firstId N s + z) (valuesAt N s z) (l ∙ sym (values-length N vs ws laid s z h))
+          let l : length scope ≡ width N s = ap (λ (p : List ℕ). length p) ep ∙ scope-length laid s (below-limit laid s z h) in
+          n .keeps (firstId N s + z) (valuesAt N s z) (l ∙ sym (values-length laid s z h))
           (λ c k. marks .at s z c h (omega arith))
           (ap (λ (p : List ℕ). agreeing xs (cells p (valuesAt N s z))) ep
           ∙ ap (agreeing xs) (sym (cellsOf-at N s z h))

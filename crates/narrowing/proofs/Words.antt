@@ -1,4 +1,4 @@
--- Laws of the words that narrow: a word of the ids below a bound, and words narrowed by a test of ids or by the table.
+-- Laws of the words that narrow: a word of the ids below a bound, and words narrowed by a test of ids or by the index.
 -- From the laws of the machine's operations on words.
 use mathlib.Core.Path.{_≡_, refl, sym, _∙_, ap, ap₂}
 use mathlib.Core.Bool.{Bool, true, false, not, _&&_, _||_, and-true, or-true, or-false}
@@ -15,7 +15,7 @@ use borrow.Author.Tests.{lt-ltb, le-ltb, ltb-true, ltb-false, le-leb, lt-leb, le
 use Rattle.model.specs.LiveWords.{isSet, isLive}
 use Rattle.model.proofs.LiveWords.{isLive-at}
 use Rattle.live.proofs.Bits.{isSet-high, isSet-not, isSet-and, isSet-or, isSet-pow, one-shl}
-use Rattle.narrowing.specs.Marks.{buckets, bucketOf, marked, stays, rowBit, Kept}
+use Rattle.narrowing.specs.Index.{buckets, bucketOf, isIndexed, stays, rowBit, Kept}
 
 -- ---- The ids below a bound
 
@@ -61,8 +61,8 @@ module _ (ws : List ℕ) (i w g : ℕ) where
   isLive-set-other d = ap (λ (x : ℕ). isSet x (g % 64)) (getD-set-other ws i (g / 64) w 0 d)
 
 -- the bit at place p is set, and no other changes
-pub marked-one : (ws : List ℕ) (p h : ℕ) → p / 64 < length ws → isLive (set ws (p / 64) (bitOr (getD ws (p / 64) 0) (1 * 2 ^ (p % 64) % 2 ^ 64))) h ≡ (isLive ws h || eqb p h)
-marked-one ws p h inside = rw (one-shl (p % 64) (omega arith)) (go (ℕ-discrete (h / 64) (p / 64)))
+pub entered-one : (ws : List ℕ) (p h : ℕ) → p / 64 < length ws → isLive (set ws (p / 64) (bitOr (getD ws (p / 64) 0) (1 * 2 ^ (p % 64) % 2 ^ 64))) h ≡ (isLive ws h || eqb p h)
+entered-one ws p h inside = rw (one-shl (p % 64) (omega arith)) (go (ℕ-discrete (h / 64) (p / 64)))
   where
     same : (x : Bool) → eqb p h ≡ x → h / 64 ≡ p / 64 → eqb (p % 64) (h % 64) ≡ x
     same true e q = let d = eqb-true p h e in eq-eqb (p % 64) (h % 64) (omega arith)
@@ -161,27 +161,27 @@ module _ (passes : ℕ → Bool) where
       go false p true q = sym (high g (leb-true (64 * n) g q))
       go false p false q = refl
 
--- ---- Words narrowed by the table
+-- ---- Words narrowed by the index
 
-module _ (table : List ℕ) (first : ℕ) where
-  -- bit j of word i there is bit j of the table's word
-  pub row-at : (i j : ℕ) → j < 64 → isSet (getD table (first + i) 0) j ≡ rowBit table first (64 * i + j)
+module _ (index : List ℕ) (first : ℕ) where
+  -- bit j of word i there is bit j of the index's word
+  pub row-at : (i j : ℕ) → j < 64 → isSet (getD index (first + i) 0) j ≡ rowBit index first (64 * i + j)
   row-at i j h =
       let e : 64 * first + (64 * i + j) ≡ 64 * (first + i) + j = omega arith in
-      sym (ap (isLive table) e ∙ isLive-at table (first + i) j h)
+      sym (ap (isLive index) e ∙ isLive-at index (first + i) j h)
 
-  row-marked : (c b g : ℕ) → first ≡ (c * buckets + b) * 64 → rowBit table first g ≡ marked table c b g
-  unfolding marked
-  row-marked c b g e =
+  row-indexed : (c b g : ℕ) → first ≡ (c * buckets + b) * 64 → rowBit index first g ≡ isIndexed index c b g
+  unfolding isIndexed
+  row-indexed c b g e =
       let q : 64 * first + g ≡ (c * buckets + b) * 4096 + g = omega arith in
-      ap (isLive table) q
+      ap (isLive index) q
 
   module _ (start end : ℕ) where
     -- the bits of the word that word i is narrowed by
-    pub stays-at : (i low high j : ℕ) → ((k : ℕ) → k < 64 → isSet low k ≡ ltb (i * 64 + k) start) → high < 2 ^ 64 → ((k : ℕ) → k < 64 → isSet high k ≡ ltb (i * 64 + k) end) → j < 64 → isSet (bitOr low (bitOr (2 ^ 64 - 1 - high) (getD table (first + i) 0))) j ≡ stays (rowBit table first) start end (64 * i + j)
+    pub stays-at : (i low high j : ℕ) → ((k : ℕ) → k < 64 → isSet low k ≡ ltb (i * 64 + k) start) → high < 2 ^ 64 → ((k : ℕ) → k < 64 → isSet high k ≡ ltb (i * 64 + k) end) → j < 64 → isSet (bitOr low (bitOr (2 ^ 64 - 1 - high) (getD index (first + i) 0))) j ≡ stays (rowBit index first) start end (64 * i + j)
     stays-at i low high j lows fits highs h =
         let c : i * 64 + j ≡ 64 * i + j = omega arith in
-        let m = getD table (first + i) 0 in
+        let m = getD index (first + i) 0 in
         isSet-or low (bitOr (2 ^ 64 - 1 - high) m) j
         ∙ ap₂ (λ (x y : Bool). x || y) (lows j h ∙ ap (λ (g : ℕ). ltb g start) c)
         (isSet-or (2 ^ 64 - 1 - high) m j
@@ -190,13 +190,13 @@ module _ (table : List ℕ) (first : ℕ) where
         (row-at i j h))
 
     -- words whose ids all lie from start on and below end
-    pub kept-inner : (i n : ℕ) (a b : List ℕ) → start ≤ 64 * i → 64 * n ≤ end → Kept (rowBit table first) i n a b → Kept (stays (rowBit table first) start end) i n a b
+    pub kept-inner : (i n : ℕ) (a b : List ℕ) → start ≤ 64 * i → 64 * n ≤ end → Kept (rowBit index first) i n a b → Kept (stays (rowBit index first) start end) i n a b
     kept-inner i n a b h k =
-        kept-same (rowBit table first) (stays (rowBit table first) start end) i n a b
-        (λ g l m. sym (ap₂ (λ (x y : Bool). x || (y || rowBit table first g)) (le-ltb g start (omega arith)) (lt-leb end g (omega arith))))
+        kept-same (rowBit index first) (stays (rowBit index first) start end) i n a b
+        (λ g l m. sym (ap₂ (λ (x y : Bool). x || (y || rowBit index first g)) (le-ltb g start (omega arith)) (lt-leb end g (omega arith))))
 
     -- words that hold all ids from start on and below end
-    pub kept-stays : (column value i n : ℕ) (a b : List ℕ) → first ≡ (column * buckets + value % buckets) * 64 → 64 * i ≤ start → end ≤ 64 * n → Kept (stays (rowBit table first) start end) i n a b → (g : ℕ) → isLive b g ≡ (isLive a g && stays (marked table column (bucketOf value)) start end g)
+    pub kept-stays : (column value i n : ℕ) (a b : List ℕ) → first ≡ (column * buckets + value % buckets) * 64 → 64 * i ≤ start → end ≤ 64 * n → Kept (stays (rowBit index first) start end) i n a b → (g : ℕ) → isLive b g ≡ (isLive a g && stays (isIndexed index column (bucketOf value)) start end g)
     kept-stays column value i n a b e h k f g =
-        kept-all (stays (rowBit table first) start end) i n a b (λ g l. stays-before (rowBit table first) start end g (omega arith)) (λ g l. stays-behind (rowBit table first) start end g (omega arith)) f g
-        ∙ ap (λ (x : Bool). isLive a g && (ltb g start || (leb end g || x))) (row-marked column (bucketOf value) g e)
+        kept-all (stays (rowBit index first) start end) i n a b (λ g l. stays-before (rowBit index first) start end g (omega arith)) (λ g l. stays-behind (rowBit index first) start end g (omega arith)) f g
+        ∙ ap (λ (x : Bool). isLive a g && (ltb g start || (leb end g || x))) (row-indexed column (bucketOf value) g e)

@@ -1,24 +1,46 @@
-// Forward checking by words: the table that marks each tuple under its columns' values, and the live tuples narrowed by it.
+// Forward checking by words: the index of each tuple under its columns' values, and the live tuples narrowed by it.
 ghost use mathlib.Core.Path.{_≡_};
-ghost use mathlib.Core.Bool.{false, _&&_, _||_};
+ghost use mathlib.Core.Bool.{_||_};
 ghost use mathlib.Core.List.{List};
 ghost use Prim.Native.Nat.{ℕ, _+_, _-_, _*_, _^_, _≤_, _<_};
 ghost use lib.Dec.{ltb, eqb};
 ghost use lib.ListN.{length, getD};
-ghost use Rattle.model.specs.Limits.{maxWidth, maxTuples};
-ghost use Rattle.model.specs.Network.{tuplesIn, size, firstId};
-ghost use Rattle.model.specs.Agreement.{cells, agreeing};
+ghost use Rattle.model.specs.Limits.{maxRelations, maxWidth, maxTuples};
 ghost use Rattle.model.specs.LiveWords.{isSet, isLive};
-ghost use Rattle.network.specs.Layout.{tabled, Laid, starts};
-ghost use Rattle.narrowing.specs.Marks.{bucketOf, marked, stays, rowBit, Kept, Marks, Grows, MarksTuple, MarksTuples, Narrows, Agreeing, Dead, Narrowed, Others, Bare};
+ghost use Rattle.layout.specs.Lent.{entry, exit};
+ghost use Rattle.layout.specs.Setting.{lists, networkIn, Laid};
+ghost use Rattle.narrowing.specs.Index.{indexWords, indexBits, bucketOf, isIndexed, stays, rowBit, Kept, KeptIds, Indexed, Grows, IndexesTuple, IndexesTuples, Agreeing, Others, Long, Full, Seeks, NarrowsMember, NarrowsMembers};
+ghost use Rattle.narrowing.specs.Columns.{accepts, NarrowsBy, NarrowsColumn};
+use layout::Starts;
+use layout::column_of;
+use layout::place_of;
+use layout::relation_count;
+use layout::tuple_start;
+use layout::value_start;
+use layout::variable_start;
 use layout::wide;
+use live::WORDS;
+use live::Words;
 use live::next;
 use model::MAX_RELATIONS;
 use model::MAX_TUPLES;
-use network::agreement::place_of;
+use model::MAX_WIDTH;
+use model::Value;
 
-// How many buckets of values there are; specs/Marks.antt says why. A table has 64 words for each of 8 columns and each bucket.
+// How many buckets of values there are; specs/Index.antt says why.
 const BUCKETS: usize = 17;
+
+// The index has 64 words for each column and each bucket.
+pub const INDEX: usize = MAX_WIDTH * BUCKETS * WORDS;
+
+pub type Index = [u64; INDEX];
+
+// The bucket of a value.
+fn bucket_of(v: Value) -> usize
+    ensures { λ b. ⌜ b ≡ bucketOf v ⌝ }
+{
+    v as usize % BUCKETS
+}
 
 // The word whose bit j is 1 where base + j is below the bound.
 fn below(base: usize, bound: usize) -> u64
@@ -34,286 +56,239 @@ fn below(base: usize, bound: usize) -> u64
     (1u64 << k) - 1
 }
 
-// The ids of word i, of those from begin on and below stop, whose bit in the table's words from `first` on is 0, are dead,
+// The ids of word i, of those from begin on and below stop, whose bit in the index's words from `first` on is 0, are dead,
 // and every other bit stays.
 fn keep_word(
-    table: &[u64; 8704],
-    words: &mut [u64; 64],
+    index: &Index,
+    words: &mut Words,
     first: usize,
     i: usize,
     begin: usize,
     stop: usize,
 )
-    requires { ⌜ (length (now words) ≡ 64) × ((first + 64 ≤ 8704) × (i < 64)) ⌝ }
-    ensures { λ _. ⌜ (length (now (words .exit)) ≡ 64) × Kept (stays (rowBit (now (table .entry)) first) begin stop) i (i + 1) (now (words .entry)) (now (words .exit)) ⌝ }
+    requires { ⌜ Long (now words) × ((first + 64 ≤ indexWords) × (i < 64)) ⌝ }
+    ensures { λ _. ⌜ Long (exit words) × Kept (stays (rowBit (entry index) first) begin stop) i (i + 1) (entry words) (exit words) ⌝ }
 {
     let low = below(i * 64, begin);
     let high = below(i * 64, stop);
-    words[i] = words[i] & (low | (!high | table[first + i]));
+    words[i] = words[i] & (low | (!high | index[first + i]));
 }
 
 // The same for all ids of the words from `from` on and below `to`.
-fn keep_words(table: &[u64; 8704], words: &mut [u64; 64], first: usize, from: usize, to: usize)
-    requires { ⌜ (length (now words) ≡ 64) × ((first + 64 ≤ 8704) × ((from ≤ to) × (to ≤ 64))) ⌝ }
-    ensures { λ _. ⌜ (length (now (words .exit)) ≡ 64) × Kept (rowBit (now (table .entry)) first) from to (now (words .entry)) (now (words .exit)) ⌝ }
+fn keep_words(index: &Index, words: &mut Words, first: usize, from: usize, to: usize)
+    requires { ⌜ Long (now words) × ((first + 64 ≤ indexWords) × ((from ≤ to) × (to ≤ 64))) ⌝ }
+    ensures { λ _. ⌜ Long (exit words) × Kept (rowBit (entry index) first) from to (entry words) (exit words) ⌝ }
 {
     let mut i = from;
     while i < to {
-        words[i] = words[i] & table[first + i];
+        words[i] = words[i] & index[first + i];
         i += 1;
     }
 }
 
-// Of the ids from start on and below end, those not marked under the column and the value's bucket are dead, and every
+// Of the ids from start on and below end, those not indexed under the column and the value's bucket are dead, and every
 // other bit stays.
-fn keep(table: &[u64; 8704], words: &mut [u64; 64], start: u16, end: u16, column: u16, value: u16)
-    requires { ⌜ (length (now words) ≡ 64) × ((end ≤ maxTuples) × (column < maxWidth)) ⌝ }
-    ensures { λ _. ⌜ (length (now (words .exit)) ≡ 64) × ((g : ℕ) → isLive (now (words .exit)) g ≡ (isLive (now (words .entry)) g && stays (marked (now (table .entry)) column (bucketOf value)) start end g)) ⌝ }
+fn keep(index: &Index, words: &mut Words, start: u16, end: u16, column: u16, value: Value)
+    requires { ⌜ Long (now words) × ((end ≤ maxTuples) × (column < maxWidth)) ⌝ }
+    ensures { λ _. ⌜ Long (exit words) × KeptIds (isIndexed (entry index) column (bucketOf value)) start end (entry words) (exit words) ⌝ }
 {
     let begin = wide(start);
     let stop = wide(end);
     if stop <= begin {
         return;
     }
-    let first = (wide(column) * BUCKETS + wide(value) % BUCKETS) * 64;
+    let first = (wide(column) * BUCKETS + bucket_of(value)) * WORDS;
     let i = begin / 64;
     let last = (stop - 1) / 64;
-    keep_word(table, words, first, i, begin, stop);
+    keep_word(index, words, first, i, begin, stop);
     if i < last {
-        keep_words(table, words, first, i + 1, last);
-        keep_word(table, words, first, last, begin, stop);
+        keep_words(index, words, first, i + 1, last);
+        keep_word(index, words, first, last, begin, stop);
     }
 }
 
-// The bit at place p of the table is 1, and every other bit stays.
-fn mark(table: &mut [u64; 8704], p: usize)
-    requires { ⌜ (length (now table) ≡ 8704) × (p < 557056) ⌝ }
-    ensures { λ _. ⌜ (length (now (table .exit)) ≡ 8704) × ((h : ℕ) → isLive (now (table .exit)) h ≡ (isLive (now (table .entry)) h || eqb p h)) ⌝ }
+// The bit at place p of the index is 1, and every other bit stays.
+fn enter(index: &mut Index, p: usize)
+    requires { ⌜ Full (now index) × (p < indexBits) ⌝ }
+    ensures { λ _. ⌜ Full (exit index) × ((h : ℕ) → isLive (exit index) h ≡ (isLive (entry index) h || eqb p h)) ⌝ }
 {
-    table[p / 64] = table[p / 64] | (1u64 << (p % 64));
+    index[p / 64] = index[p / 64] | (1u64 << (p % 64));
 }
 
-// The tuple with id g, whose values begin at `at`, is marked under each of its columns, and no mark is lost.
-fn mark_tuple(values: &[u16], at: usize, width: usize, g: u16, table: &mut [u64; 8704])
-    requires { ⌜ (length (now table) ≡ 8704) × ((at + width ≤ length (now values)) × ((width ≤ maxWidth) × (g < maxTuples))) ⌝ }
-    ensures { λ _. ⌜ (length (now (table .exit)) ≡ 8704) × (Grows (now (table .entry)) (now (table .exit)) × MarksTuple (now (values .entry)) at width g (now (table .exit))) ⌝ }
+// The tuple with id g, whose values begin at `at`, is indexed under each of its columns, and no entry is lost.
+fn index_tuple(values: &[Value], at: usize, width: usize, g: u16, index: &mut Index)
+    requires { ⌜ Full (now index) × ((at + width ≤ length (now values)) × ((width ≤ maxWidth) × (g < maxTuples))) ⌝ }
+    ensures { λ _. ⌜ Full (exit index) × (Grows (entry index) (exit index) × IndexesTuple (entry values) at width g (exit index)) ⌝ }
 {
     let id = wide(g);
     let mut c = 0;
     while c < width {
-        let bucket = wide(values[at + c]) % BUCKETS;
-        mark(table, (c * BUCKETS + bucket) * MAX_TUPLES + id);
+        let bucket = bucket_of(values[at + c]);
+        enter(index, (c * BUCKETS + bucket) * MAX_TUPLES + id);
         c += 1;
     }
 }
 
-// The tuples from id start on and below id end, whose values begin at `at`, are marked, and no mark is lost.
-fn mark_tuples(
-    values: &[u16],
+// The tuples from id start on and below id end, whose values begin at `at`, are indexed, and no entry is lost.
+fn index_tuples(
+    values: &[Value],
     at: usize,
     width: usize,
     start: u16,
     end: u16,
-    table: &mut [u64; 8704],
+    index: &mut Index,
 )
-    requires { ⌜ (length (now table) ≡ 8704) × ((start ≤ end) × ((end ≤ maxTuples) × ((width ≤ maxWidth) × (at + (end - start) * width ≤ length (now values))))) ⌝ }
-    ensures { λ _. ⌜ (length (now (table .exit)) ≡ 8704) × (Grows (now (table .entry)) (now (table .exit)) × MarksTuples (now (values .entry)) at width start end (now (table .exit))) ⌝ }
+    requires { ⌜ Full (now index) × ((start ≤ end) × (end ≤ maxTuples)) ⌝ }
+    requires { ⌜ (width ≤ maxWidth) × (at + (end - start) * width ≤ length (now values)) ⌝ }
+    ensures { λ _. ⌜ Full (exit index) × (Grows (entry index) (exit index) × IndexesTuples (entry values) at width start end (exit index)) ⌝ }
 {
     let mut g = start;
     let mut p = at;
     while g < end {
-        mark_tuple(values, p, width, g, table);
+        index_tuple(values, p, width, g, index);
         g += 1;
         p += width;
     }
 }
 
-// Every tuple is marked, in the network that has these tables. A caller lends noughts: a mark that is there already stays.
-pub fn mark_all(
-    values: &[u16],
-    variable_starts: &[u16; 65],
-    tuple_starts: &[u16; 65],
-    value_starts: &[u16; 65],
-    table: &mut [u64; 8704],
-)
-    requires { ⌜ (length (now table) ≡ 8704) × ((variables : List ℕ) × (let N = tabled variables (now values) (now «variable_starts») (now «value_starts») in Laid N (now «variable_starts») (now «value_starts») × (now «tuple_starts» ≡ starts tuplesIn (N .relations)))) ⌝ }
-    ensures { λ _. ⌜ (length (now (table .exit)) ≡ 8704) × ((variables : List ℕ) → Marks (tabled variables (now (values .entry)) (now («variable_starts» .entry)) (now («value_starts» .entry))) (now (table .exit))) ⌝ }
+// Every tuple is indexed. A caller lends noughts: an entry that is there already stays.
+pub fn index_all(variables: &[u16], values: &[Value], starts: &Starts, index: &mut Index)
+    requires { ⌜ Full (now index) × Laid (lists now variables values starts) ⌝ }
+    ensures { λ _. ⌜ Full (exit index) × Indexed (networkIn (lists entry variables values starts)) (exit index) ⌝ }
 {
-    let mut r = 0;
-    while r < MAX_RELATIONS {
-        let at = wide(value_starts[r]);
-        let width = wide(variable_starts[r + 1]) - wide(variable_starts[r]);
-        mark_tuples(
+    let relations = relation_count(starts);
+    let mut r: u16 = 0;
+    while r < relations {
+        let width = variable_start(starts, r + 1) - variable_start(starts, r);
+        index_tuples(
             values,
-            at,
+            value_start(starts, r),
             width,
-            tuple_starts[r],
-            tuple_starts[r + 1],
-            table,
+            tuple_start(starts, r),
+            tuple_start(starts, r + 1),
+            index,
         );
         r += 1;
     }
 }
 
-// A place where x stands in a scope; the scope's length if nowhere.
-fn column_of(scope: &[u16], x: u16) -> usize
-    ensures { λ i. ⌜ (i < length (now (scope .entry)) → getD (now (scope .entry)) i 0 ≡ x) ⌝ }
-{
-    let mut i = 0;
-    while i < scope.len() {
-        if scope[i] == x {
-            return i;
-        }
-        i += 1;
-    }
-    i
-}
-
 // The ids from start on and below end narrowed by the column whose variable is v, where scope a has it: to a's value there.
 fn narrow_column(
     scope_a: &[u16],
-    a: &[u16],
+    a: &[Value],
     v: u16,
-    table: &[u64; 8704],
-    words: &mut [u64; 64],
+    index: &Index,
+    words: &mut Words,
     start: u16,
     end: u16,
     column: u16,
 )
-    requires { ⌜ (length (now words) ≡ 64) × ((length (now «scope_a») ≡ length (now a)) × ((end ≤ maxTuples) × (column < maxWidth))) ⌝ }
-    ensures { λ _. ⌜ (length (now (words .exit)) ≡ 64) × ((scope : List ℕ) → column < length scope → getD scope column 0 ≡ v → Narrows (λ (b : List ℕ). agreeing (cells (now («scope_a» .entry)) (now (a .entry))) (cells scope b)) (length scope) (now (table .entry)) start end (now (words .entry)) (now (words .exit))) ⌝ }
+    requires { ⌜ Long (now words) × ((length (now «scope_a») ≡ length (now a)) × ((end ≤ maxTuples) × (column < maxWidth))) ⌝ }
+    ensures { λ _. ⌜ Long (exit words) × NarrowsColumn (entry «scope_a») (entry a) v column (entry index) start end (entry words) (exit words) ⌝ }
 {
     let i = column_of(scope_a, v);
     if scope_a.len() <= i {
         return;
     }
-    keep(table, words, start, end, column, a[i]);
+    keep(index, words, start, end, column, a[i]);
 }
 
 // The ids from start on and below end, of tuples with scope b, narrowed by every column whose variable scope a has too.
 fn narrow_columns(
     scope_a: &[u16],
-    a: &[u16],
+    a: &[Value],
     scope_b: &[u16],
-    table: &[u64; 8704],
-    words: &mut [u64; 64],
+    index: &Index,
+    words: &mut Words,
     start: u16,
     end: u16,
 )
-    requires { ⌜ (length (now words) ≡ 64) × ((length (now «scope_a») ≡ length (now a)) × ((end ≤ maxTuples) × (length (now «scope_b») ≤ maxWidth))) ⌝ }
-    ensures { λ _. ⌜ (length (now (words .exit)) ≡ 64) × Narrows (λ (b : List ℕ). agreeing (cells (now («scope_a» .entry)) (now (a .entry))) (cells (now («scope_b» .entry)) b)) (length (now («scope_b» .entry))) (now (table .entry)) start end (now (words .entry)) (now (words .exit)) ⌝ }
+    requires { ⌜ Long (now words) × ((length (now «scope_a») ≡ length (now a)) × ((end ≤ maxTuples) × (length (now «scope_b») ≤ maxWidth))) ⌝ }
+    ensures { λ _. ⌜ Long (exit words) × NarrowsBy (entry «scope_a») (entry a) (entry «scope_b») (entry index) start end (entry words) (exit words) ⌝ }
 {
     let mut j: u16 = 0;
     while wide(j) < scope_b.len() {
-        narrow_column(scope_a, a, scope_b[wide(j)], table, words, start, end, j);
+        narrow_column(scope_a, a, scope_b[wide(j)], index, words, start, end, j);
         j += 1;
     }
 }
 
-// Relation s's ids narrowed for tuple x of relation r: under each variable that both scopes have, to those marked with the
+// Relation s's ids narrowed for tuple x of relation r: under each variable that both scopes have, to those indexed with the
 // bucket of its value.
 fn narrow(
     variables: &[u16],
-    values: &[u16],
-    variable_starts: &[u16; 65],
-    tuple_starts: &[u16; 65],
-    value_starts: &[u16; 65],
-    table: &[u64; 8704],
-    words: &mut [u64; 64],
+    values: &[Value],
+    starts: &Starts,
+    index: &Index,
+    words: &mut Words,
     r: u16,
     x: u16,
     s: u16,
 )
-    requires { ⌜ (length (now words) ≡ 64) × (let N = tabled (now variables) (now values) (now «variable_starts») (now «value_starts») in Laid N (now «variable_starts») (now «value_starts») × ((now «tuple_starts» ≡ starts tuplesIn (N .relations)) × (Marks N (now table) × ((x < size N r) × (s < 64))))) ⌝ }
-    ensures { λ _. ⌜ (length (now (words .exit)) ≡ 64) × Agreeing (tabled (now (variables .entry)) (now (values .entry)) (now («variable_starts» .entry)) (now («value_starts» .entry))) r x s (now (words .entry)) (now (words .exit)) ⌝ }
+    requires { ⌜ Long (now words) × (Seeks (lists now variables values starts) (now index) r x × (s < maxRelations)) ⌝ }
+    ensures { λ _. ⌜ Long (exit words) × Agreeing (networkIn (lists entry variables values starts)) r x s (entry words) (exit words) ⌝ }
 {
-    let p = place_of(variable_starts, value_starts, r, x);
-    let q = place_of(variable_starts, value_starts, s, 0);
+    let p = place_of(starts, r, x);
+    let q = place_of(starts, s, 0);
     let scope_a = p.scope;
     let scope_a_end = p.scope_end;
     let a = p.tuple;
     let a_end = p.tuple_end;
     let scope_b = q.scope;
     let scope_b_end = q.scope_end;
-    let relation = wide(s);
+    let start = tuple_start(starts, s);
+    let end = tuple_start(starts, s + 1);
     narrow_columns(
         &variables[scope_a..scope_a_end],
         &values[a..a_end],
         &variables[scope_b..scope_b_end],
-        table,
+        index,
         words,
-        tuple_starts[relation],
-        tuple_starts[relation + 1],
+        start,
+        end,
     );
 }
 
 // Relation s's ids narrowed for tuple x of relation r. False where none of them is live any more.
 fn narrow_member(
     variables: &[u16],
-    values: &[u16],
-    variable_starts: &[u16; 65],
-    tuple_starts: &[u16; 65],
-    value_starts: &[u16; 65],
-    table: &[u64; 8704],
-    words: &mut [u64; 64],
+    values: &[Value],
+    starts: &Starts,
+    index: &Index,
+    words: &mut Words,
     r: u16,
     x: u16,
     s: u16,
 ) -> bool
-    requires { ⌜ (length (now words) ≡ 64) × (let N = tabled (now variables) (now values) (now «variable_starts») (now «value_starts») in Laid N (now «variable_starts») (now «value_starts») × ((now «tuple_starts» ≡ starts tuplesIn (N .relations)) × (Marks N (now table) × ((x < size N r) × (s < 64))))) ⌝ }
-    ensures { λ b. ⌜ (length (now (words .exit)) ≡ 64) × (let N = tabled (now (variables .entry)) (now (values .entry)) (now («variable_starts» .entry)) (now («value_starts» .entry)) in Agreeing N r x s (now (words .entry)) (now (words .exit)) × (b ≡ false → Dead N s (now (words .exit)))) ⌝ }
+    requires { ⌜ Long (now words) × (Seeks (lists now variables values starts) (now index) r x × (s < maxRelations)) ⌝ }
+    ensures { λ b. ⌜ NarrowsMember (lists entry variables values starts) r x s (entry words) (exit words) b ⌝ }
 {
-    narrow(
-        variables,
-        values,
-        variable_starts,
-        tuple_starts,
-        value_starts,
-        table,
-        words,
-        r,
-        x,
-        s,
-    );
-    let relation = wide(s);
-    let end = tuple_starts[relation + 1];
-    next(words, tuple_starts[relation], end) < end
+    narrow(variables, values, starts, index, words, r, x, s);
+    let end = tuple_start(starts, s + 1);
+    next(words, tuple_start(starts, s), end) < end
 }
 
 // The tuples of each member from k on, but the one at `place`, narrowed for tuple x of relation r, which is none of these.
 // False where one of them has no live tuple left.
 pub fn narrow_members(
     variables: &[u16],
-    values: &[u16],
-    variable_starts: &[u16; 65],
-    tuple_starts: &[u16; 65],
-    value_starts: &[u16; 65],
-    table: &[u64; 8704],
-    words: &mut [u64; 64],
+    values: &[Value],
+    starts: &Starts,
+    index: &Index,
+    words: &mut Words,
     members: &[u16],
     place: usize,
     k: usize,
     r: u16,
     x: u16,
 ) -> bool
-    requires { ⌜ (length (now words) ≡ 64) × (let N = tabled (now variables) (now values) (now «variable_starts») (now «value_starts») in Laid N (now «variable_starts») (now «value_starts») × ((now «tuple_starts» ≡ starts tuplesIn (N .relations)) × (Marks N (now table) × ((x < size N r) × Others (now members) place k r)))) ⌝ }
-    ensures { λ b. ⌜ (length (now (words .exit)) ≡ 64) × (let N = tabled (now (variables .entry)) (now (values .entry)) (now («variable_starts» .entry)) (now («value_starts» .entry)) in Narrowed N (firstId N r + x) (now (words .entry)) (now (words .exit)) × (b ≡ false → Bare N (now (members .entry)) place k (now (words .exit)))) ⌝ }
+    requires { ⌜ Long (now words) × (Seeks (lists now variables values starts) (now index) r x × Others (now members) place k r) ⌝ }
+    ensures { λ b. ⌜ NarrowsMembers (lists entry variables values starts) (entry members) place k r x (entry words) (exit words) b ⌝ }
 {
     let mut j = k;
     while j < members.len() {
         if j != place {
-            if !narrow_member(
-                variables,
-                values,
-                variable_starts,
-                tuple_starts,
-                value_starts,
-                table,
-                words,
-                r,
-                x,
-                members[j],
-            ) {
+            if !narrow_member(variables, values, starts, index, words, r, x, members[j]) {
                 return false;
             }
         }

@@ -1,5 +1,5 @@
 -- `keep` narrows the first word, and where there are more, the words between and the last one.
--- From what `keep_word` and `keep_words` ensure, and the laws of words narrowed by the table.
+-- From what `keep_word` and `keep_words` ensure, and the laws of words narrowed by the index.
 use mathlib.Core.Path.{_≡_, ap₂, _∙_}
 use mathlib.Core.Bool.{_&&_}
 use mathlib.Core.List.{List}
@@ -7,7 +7,7 @@ use Prim.Native.Nat.{ℕ, _+_, _-_, _*_, _/_, _%_, _≤_, _<_}
 use native.Mathlib.Omega.{arith}
 use borrow.Author.Needs.{needs}
 use Rattle.model.specs.LiveWords.{isLive}
-use Rattle.narrowing.specs.Marks.{buckets, bucketOf, marked, stays, rowBit, Kept}
+use Rattle.narrowing.specs.Index.{buckets, bucketOf, isIndexed, stays, rowBit, Kept}
 use Rattle.narrowing.proofs.Words.{kept-on, kept-inner, kept-stays, stays-none}
 use Rattle.narrowing.proofs.keep.Statement.{statement}
 use Rattle.narrowing.proofs.keep.Tie as tie
@@ -30,19 +30,19 @@ module _ (w : tie.After-wide4) where
   some = w .before .before .if1 .left
 
   -- the words narrowed hold them all
-  done : (n : ℕ) (after : List ℕ) → stop ≤ 64 * n → Kept (stays (rowBit (start .args .table .now) first) begin stop) (begin / 64) n (start .args .words .now) after → (g : ℕ) → isLive after g ≡ (isLive (start .args .words .now) g && stays (marked (start .args .table .now) (start .args .column) (bucketOf (start .args .value))) (start .args .start) (start .args .end) g)
+  done : (n : ℕ) (after : List ℕ) → stop ≤ 64 * n → Kept (stays (rowBit (start .args .index .now) first) begin stop) (begin / 64) n (start .args .words .now) after → (g : ℕ) → isLive after g ≡ (isLive (start .args .words .now) g && stays (isIndexed (start .args .index .now) (start .args .column) (bucketOf (start .args .value))) (start .args .start) (start .args .end) g)
   done n after h f g =
       let a = start .args in
       let l : 64 * (begin / 64) ≤ begin = omega arith in
-      kept-stays (a .table .now) first begin stop (a .column) (a .value) (begin / 64) n (a .words .now) after (ap₂ (λ (x y : ℕ). (x * buckets + y % buckets) * 64) (w .before .wide3 .ensures .0) (w .wide4 .ensures .0)) l h f g
-      ∙ ap₂ (λ (x y : ℕ). isLive (a .words .now) g && stays (marked (a .table .now) (a .column) (bucketOf (a .value))) x y g) (w .before .before .before .before .wide .ensures .0) (w .before .before .before .wide2 .ensures .0)
+      kept-stays (a .index .now) first begin stop (a .column) (a .value) (begin / 64) n (a .words .now) after (ap₂ (λ (x y : ℕ). (x * buckets + y % buckets) * 64) (w .before .wide3 .ensures .0) (w .wide4 .ensures .0)) l h f g
+      ∙ ap₂ (λ (x y : ℕ). isLive (a .words .now) g && stays (isIndexed (a .index .now) (a .column) (bucketOf (a .value))) x y g) (w .before .before .before .before .wide .ensures .0) (w .before .before .before .wide2 .ensures .0)
 
 returns : tie.Need-returns
 returns c =
     let s = c .before .before .before in
     let a = s .args in
     let h : a .end ≤ a .start = omega (arith, c .if1 .taken, c .before .wide2 .ensures .0, c .before .before .wide .ensures .0) in
-    (s .pre .0, λ g. stays-none (marked (a .table .now) (a .column) (bucketOf (a .value))) (a .start) (a .end) g h (isLive (a .words .now) g))
+    (s .pre .0, λ g. stays-none (isIndexed (a .index .now) (a .column) (bucketOf (a .value))) (a .start) (a .end) g h (isLive (a .words .now) g))
 
 returns-2 : tie.Need-returns-2
 returns-2 c =
@@ -61,8 +61,8 @@ returns-2 c =
     let low : begin w ≤ 64 * (i + 1) = omega arith in
     let high : 64 * last ≤ stop w = omega arith in
     let end : stop w ≤ 64 * (last + 1) = omega arith in
-    let test = stays (rowBit (a .table .now) (first w)) (begin w) (stop w) in
-    let inner = kept-inner (a .table .now) (first w) (begin w) (stop w) (i + 1) last words₁ words₂ low high (between .keep-words .ensures .1) in
+    let test = stays (rowBit (a .index .now) (first w)) (begin w) (stop w) in
+    let inner = kept-inner (a .index .now) (first w) (begin w) (stop w) (i + 1) last words₁ words₂ low high (between .keep-words .ensures .1) in
     let l1 : i ≤ i + 1 = omega arith in
     let l2 : i + 1 ≤ last = omega arith in
     let l3 : i ≤ last = omega arith in

@@ -1,11 +1,11 @@
--- `keep_word` narrows one word, by the table's word and the words of the ids below each bound.
+-- `keep_word` narrows one word, by the index's word and the words of the ids below each bound.
 -- From the laws of one word narrowed.
 use mathlib.Core.Path.{_∙_}
 use Prim.Native.Nat.{_<_}
 use native.Mathlib.Omega.{arith}
 use lib.ListN.{length, length-set}
 use borrow.Author.Needs.{needs}
-use Rattle.narrowing.specs.Marks.{stays, rowBit}
+use Rattle.narrowing.specs.Index.{stays, rowBit}
 use Rattle.narrowing.proofs.Words.{kept-word, stays-at}
 use Rattle.narrowing.proofs.keep_word.Statement.{statement}
 use Rattle.narrowing.proofs.keep_word.Tie as tie
@@ -19,8 +19,8 @@ returns c =
     let ws = a .words .now in
     let inside : a .i < length ws = omega (arith, s .pre .0, s .pre .1 .1) in (
       length-set ws (a .i) _ ∙ s .pre .0,
-      kept-word (stays (rowBit (a .table .now) (a .first)) (a .begin) (a .stop)) (a .i) _ ws inside
-          (λ j l. stays-at (a .table .now) (a .first) (a .begin) (a .stop) (a .i) (low .result) (high .result) j (low .ensures .1) (high .ensures .0) (high .ensures .1) l),
+      kept-word (stays (rowBit (a .index .now) (a .first)) (a .begin) (a .stop)) (a .i) _ ws inside
+          (λ j l. stays-at (a .index .now) (a .first) (a .begin) (a .stop) (a .i) (low .result) (high .result) j (low .ensures .1) (high .ensures .0) (high .ensures .1) l),
     )
 
 pub keep-word-spec : {M : Type 1} → statement M

@@ -12,7 +12,7 @@ use Rattle.model.proofs.Agreement.{cellsOf-at}
 use Rattle.network.specs.declared.agreement.Place.{Place}
 use Rattle.network.specs.Layout.{tabled, placeAt}
 use Rattle.network.proofs.Places.{Within, below-limit, rises, place-within, place-lengths, place-cells}
-use Rattle.narrowing.specs.Marks.{Narrows, Agreeing}
+use Rattle.narrowing.specs.Index.{Narrows, Agreeing}
 use Rattle.narrowing.proofs.Tables.{first-at, end-at, scope-rises, ids-few, part-rises, part-within, part-scope, part-few}
 use Rattle.narrowing.proofs.Narrowing.{narrows-agreeing}
 use Rattle.narrowing.proofs.narrow.Statement.{statement}
@@ -47,7 +47,7 @@ agreeing-narrowed : (start : tie.Start) →
     let ts = a .tuple-starts .now in
     let ws = a .value-starts .now in
     (p : Place) → p ≡ placeAt vs ws (a .r) (a .x) → (q : Place) → q ≡ placeAt vs ws (a .s) 0 → (k : ℕ) → k ≡ a .s → (after : List ℕ) →
-    Narrows (λ (b : List ℕ). agreeing (cells (take (p .«scope_end» - p .scope) (drop (p .scope) (N .variables))) (take (p .«tuple_end» - p .tuple) (drop (p .tuple) (N .values)))) (cells (take (q .«scope_end» - q .scope) (drop (q .scope) (N .variables))) b)) (length (take (q .«scope_end» - q .scope) (drop (q .scope) (N .variables)))) (a .table .now) (getD ts k 0) (getD ts (k + 1) 0) (a .words .now) after →
+    Narrows (λ (b : List ℕ). agreeing (cells (take (p .«scope_end» - p .scope) (drop (p .scope) (N .variables))) (take (p .«tuple_end» - p .tuple) (drop (p .tuple) (N .values)))) (cells (take (q .«scope_end» - q .scope) (drop (q .scope) (N .variables))) b)) (length (take (q .«scope_end» - q .scope) (drop (q .scope) (N .variables)))) (a .index .now) (getD ts k 0) (getD ts (k + 1) 0) (a .words .now) after →
     Agreeing N (a .r) (a .x) (a .s) (a .words .now) after
 agreeing-narrowed start p e q f k h after n =
     let a = start .args in
@@ -59,7 +59,7 @@ agreeing-narrowed start p e q f k h after n =
     let tuples = start .pre .1 .1 .0 in
     let x = start .pre .1 .1 .1 .1 .0 in
     let s = start .pre .1 .1 .1 .1 .1 in
-    narrows-agreeing N vs ws laid (a .table .now) (start .pre .1 .1 .1 .0) (a .r) (a .x) (a .s) (getD ts k 0) (getD ts (k + 1) 0)
+    narrows-agreeing N vs ws laid (a .index .now) (start .pre .1 .1 .1 .0) (a .r) (a .x) (a .s) (getD ts k 0) (getD ts (k + 1) 0)
     (ap (λ (i : ℕ). getD ts i 0) h ∙ first-at N vs ts ws laid tuples (a .s) s)
     (ap (λ (i : ℕ). getD ts (i + 1) 0) h ∙ end-at N vs ts ws laid tuples (a .s) s)
     (cells (take (p .«scope_end» - p .scope) (drop (p .scope) (N .variables))) (take (p .«tuple_end» - p .tuple) (drop (p .tuple) (N .values))))

@@ -14,7 +14,7 @@ returns : tie.Need-returns
 returns c =
     let a = c .before .before .before .before .args in (
       c .before .before .before .before .pre .0,
-      λ scope h e. narrows-none (λ (b : List ℕ). agreeing (cells (a .scope-a .now) (a .a .now)) (cells scope b)) (length scope) (a .table .now) (a .start) (a .end) (a .words .now),
+      λ scope h e. narrows-none (λ (b : List ℕ). agreeing (cells (a .scope-a .now) (a .a .now)) (cells scope b)) (length scope) (a .index .now) (a .start) (a .end) (a .words .now),
     )
 
 returns-2 : tie.Need-returns-2
@@ -25,7 +25,7 @@ returns-2 c =
     let i = found .before .column-of .result in (
       c .keep .ensures .0,
       λ scope h e.
-          narrows-keep (λ (b : List ℕ). agreeing (cells (a .scope-a .now) (a .a .now)) (cells scope b)) (length scope) (a .table .now) (a .start) (a .end) (a .column) (getD (a .a .now) i 0) (a .words .now) (c .keep .last .1 .0) h
+          narrows-keep (λ (b : List ℕ). agreeing (cells (a .scope-a .now) (a .a .now)) (cells scope b)) (length scope) (a .index .now) (a .start) (a .end) (a .column) (getD (a .a .now) i 0) (a .words .now) (c .keep .last .1 .0) h
           (same-value (a .scope-a .now) (a .a .now) scope i (a .column) (s .pre .1 .0) (found .if1 .left) h (found .before .column-of .ensures (found .if1 .left) ∙ sym e))
           (c .keep .ensures .1),
     )

@@ -21,33 +21,33 @@ module _ (c : tie.After-wide) where
   abbrev network : Network
   network = tabled (start .args .variables .now) (start .args .values .now) (start .args .variable-starts .now) (start .args .value-starts .now)
 
-  abbrev table : List ℕ
-  table = start .args .tuple-starts .now
+  abbrev index : List ℕ
+  index = start .args .tuple-starts .now
 
   -- the words once the relation is narrowed
   abbrev after : List ℕ
   after = c .before .narrow .last .1 .1 .1 .1 .1 .1 .0
 
   abbrev from-id : ℕ
-  from-id = getD table (c .wide .result) 0
+  from-id = getD index (c .wide .result) 0
 
   abbrev to-id : ℕ
-  to-id = getD table (c .wide .result + 1) 0
+  to-id = getD index (c .wide .result + 1) 0
 
   from-is : from-id ≡ firstId network (start .args .s)
   from-is =
-      ap (λ (i : ℕ). getD table i 0) (c .wide .ensures .0)
-      ∙ first-at network (start .args .variable-starts .now) table (start .args .value-starts .now) (start .pre .1 .0) (start .pre .1 .1 .0) (start .args .s) (start .pre .1 .1 .1 .1 .1)
+      ap (λ (i : ℕ). getD index i 0) (c .wide .ensures .0)
+      ∙ first-at network (start .args .variable-starts .now) index (start .args .value-starts .now) (start .pre .1 .0) (start .pre .1 .1 .0) (start .args .s) (start .pre .1 .1 .1 .1 .1)
 
   to-is : to-id ≡ firstId network (start .args .s) + size network (start .args .s)
   to-is =
-      ap (λ (i : ℕ). getD table (i + 1) 0) (c .wide .ensures .0)
-      ∙ end-at network (start .args .variable-starts .now) table (start .args .value-starts .now) (start .pre .1 .0) (start .pre .1 .1 .0) (start .args .s) (start .pre .1 .1 .1 .1 .1)
+      ap (λ (i : ℕ). getD index (i + 1) 0) (c .wide .ensures .0)
+      ∙ end-at network (start .args .variable-starts .now) index (start .args .value-starts .now) (start .pre .1 .0) (start .pre .1 .1 .0) (start .args .s) (start .pre .1 .1 .1 .1 .1)
 
   few : to-id ≤ 4096
   few =
-      subst (λ (i : ℕ). getD table (i + 1) 0 ≤ 4096) (sym (c .wide .ensures .0))
-      (ids-few network (start .args .variable-starts .now) table (start .args .value-starts .now) (start .pre .1 .0) (start .pre .1 .1 .0) (start .args .s) (start .pre .1 .1 .1 .1 .1))
+      subst (λ (i : ℕ). getD index (i + 1) 0 ≤ 4096) (sym (c .wide .ensures .0))
+      (ids-few network (start .args .variable-starts .now) index (start .args .value-starts .now) (start .pre .1 .0) (start .pre .1 .1 .0) (start .args .s) (start .pre .1 .1 .1 .1 .1))
 
   bounds : (from-id ≤ to-id) × (to-id ≤ 64 * length after) × (to-id ≤ 4096)
   bounds = (omega (arith, from-is, to-is), omega (arith, few, c .before .narrow .ensures .0), few)

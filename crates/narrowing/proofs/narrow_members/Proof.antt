@@ -11,18 +11,18 @@ use borrow.Author.Tests.{not-true}
 use Rattle.model.specs.Network.{Network, firstId}
 use Rattle.model.proofs.Bools.{not-both}
 use Rattle.network.specs.Layout.{tabled}
-use Rattle.narrowing.specs.Marks.{Narrowed, Later}
+use Rattle.narrowing.specs.Index.{Narrowed, Later}
 use Rattle.narrowing.proofs.Narrowing.{narrowed-none, narrowed-on, narrowed-one}
 use Rattle.narrowing.proofs.narrow_members.Statement.{statement}
 use Rattle.narrowing.proofs.narrow_members.Tie as tie
 
 abbrev Inv-loop : tie.InvT-loop
-Inv-loop variables values variable-starts tuple-starts value-starts table words₀ members place k r x j₀ words j =
+Inv-loop variables values variable-starts tuple-starts value-starts index words₀ members place k r x j₀ words j =
     let N = tabled variables values variable-starts value-starts in
     (k ≤ j) × ((length words ≡ 64) × Narrowed N (firstId N r + x) words₀ words)
 
 abbrev μ-loop : tie.MeasureT-loop
-μ-loop variables values variable-starts tuple-starts value-starts table words₀ members place k r x j₀ words j =
+μ-loop variables values variable-starts tuple-starts value-starts index words₀ members place k r x j₀ words j =
     length members - j
 
 abbrev start : tie.At-loop Inv-loop μ-loop → tie.Start Inv-loop μ-loop

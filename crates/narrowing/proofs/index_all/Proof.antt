@@ -1,4 +1,4 @@
--- `mark_all` marks relation by relation. The loop's invariant: the relations passed are marked.
+-- `index_all` marks relation by relation. The loop's invariant: the relations passed are indexed.
 -- From the laws of a network's tables at every number below 64, and the law of one relation more.
 use mathlib.Core.Path.{_≡_, sym, ap₂, subst, _∙_}
 use mathlib.Core.List.{[]}
@@ -9,16 +9,16 @@ use borrow.Author.Needs.{needs}
 use Rattle.model.specs.Network.{Network, width}
 use Rattle.network.specs.Layout.{tabled}
 use Rattle.narrowing.proofs.Tables.{first-at, end-at, value-start, width-at, scope-rises, ids-rise, ids-few, columns-few, values-within}
-use Rattle.narrowing.proofs.Marking.{MarksBelow, relations-more, marks-all, below-other, marks-other}
-use Rattle.narrowing.proofs.mark_all.Statement.{statement}
-use Rattle.narrowing.proofs.mark_all.Tie as tie
+use Rattle.narrowing.proofs.Indexing.{IndexesBelow, relations-more, indexed-all, below-other, marks-other}
+use Rattle.narrowing.proofs.index_all.Statement.{statement}
+use Rattle.narrowing.proofs.index_all.Tie as tie
 
 abbrev Inv-loop : tie.InvT-loop
-Inv-loop values variable-starts tuple-starts value-starts table₀ r₀ table r =
-    (r ≤ 64) × ((length table ≡ 8704) × MarksBelow (tabled [] values variable-starts value-starts) r table)
+Inv-loop values variable-starts tuple-starts value-starts index₀ r₀ index r =
+    (r ≤ 64) × ((length index ≡ 8704) × IndexesBelow (tabled [] values variable-starts value-starts) r index)
 
 abbrev μ-loop : tie.MeasureT-loop
-μ-loop values variable-starts tuple-starts value-starts table₀ r₀ table r = 64 - r
+μ-loop values variable-starts tuple-starts value-starts index₀ r₀ index r = 64 - r
 
 abbrev turn : tie.After-wide3 Inv-loop μ-loop → tie.In-loop Inv-loop μ-loop
 turn w = w .before .before .before .before .before .before
@@ -50,8 +50,8 @@ loop-holds c =
 sub-width : tie.Need-sub-width Inv-loop μ-loop
 sub-width c = omega (arith, c .before .before .wide2 .ensures .0, c .wide3 .ensures .0, rises c)
 
-mark-tuples-requires : tie.Need-mark-tuples-requires Inv-loop μ-loop
-mark-tuples-requires c κs =
+index-tuples-requires : tie.Need-index-tuples-requires Inv-loop μ-loop
+index-tuples-requires c κs =
     let w = c .before .before .before in
     let s = start w in
     let a = s .args in
@@ -88,19 +88,19 @@ loop-again c =
     let h = turn w .loop-test .taken in
     let laid = s .pre .1 .1 .0 in
     let tuples = s .pre .1 .1 .1 in
-    let new = c .mark-tuples .last .1 .1 .1 .1 .1 .0 in (
+    let new = c .index-tuples .last .1 .1 .1 .1 .1 .0 in (
       omega arith,
       (
-        c .mark-tuples .ensures .0,
+        c .index-tuples .ensures .0,
         below-other (s .pre .1 .0) [] (a .values .now) vs ws new (l .r + 1)
-            (relations-more N vs ws laid (l .r) (w .before .before .before .before .wide .result) (w .before .before .wide2 .result - w .wide3 .result) (getD ts (l .r) 0) (getD ts (l .r + 1) 0) (l .table) new
+            (relations-more N vs ws laid (l .r) (w .before .before .before .before .wide .result) (w .before .before .wide2 .result - w .wide3 .result) (getD ts (l .r) 0) (getD ts (l .r + 1) 0) (l .index) new
             (w .before .before .before .before .wide .ensures .0 ∙ value-start N vs ts ws laid tuples (l .r) h)
             (columns w)
             (first-at N vs ts ws laid tuples (l .r) h)
             (end-at N vs ts ws laid tuples (l .r) h)
-            (c .mark-tuples .ensures .1 .0)
-            (c .mark-tuples .ensures .1 .1)
-            (below-other [] (s .pre .1 .0) (a .values .now) vs ws (l .table) (l .r) (l .inv .1 .1))),
+            (c .index-tuples .ensures .1 .0)
+            (c .index-tuples .ensures .1 .1)
+            (below-other [] (s .pre .1 .0) (a .values .now) vs ws (l .index) (l .r) (l .inv .1 .1))),
       ),
     )
 
@@ -114,12 +114,12 @@ returns c =
     let own = s .pre .1 .0 in (
       l .inv .1 .0,
       λ variables.
-          marks-other own variables (a .values .now) vs ws (l .table)
-          (marks-all (network s) vs ws (s .pre .1 .1 .0) (l .r) (l .table) (c .loop-test .left) (below-other [] own (a .values .now) vs ws (l .table) (l .r) (l .inv .1 .1))),
+          marks-other own variables (a .values .now) vs ws (l .index)
+          (indexed-all (network s) vs ws (s .pre .1 .1 .0) (l .r) (l .index) (c .loop-test .left) (below-other [] own (a .values .now) vs ws (l .index) (l .r) (l .inv .1 .1))),
     )
 
-pub mark-all-spec : {M : Type 1} → statement M
-mark-all-spec =
+pub index-all-spec : {M : Type 1} → statement M
+index-all-spec =
     tie.close
     (tie.spec
     Inv-loop
@@ -130,7 +130,7 @@ mark-all-spec =
     (λ c. search needs) (λ c κs. search needs)
     sub-width
     (λ c. search needs) (λ c. search needs) (λ c. search needs) (λ c. search needs) (λ c. search needs)
-    mark-tuples-requires
+    index-tuples-requires
     (λ c. search needs) (λ c. search needs)
     loop-again
     returns)

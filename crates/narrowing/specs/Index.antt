@@ -1,0 +1,141 @@
+-- The value index: for each column and bucket of values, the tuples that have such a value in the column; and the live words narrowed
+-- by it.
+use mathlib.Core.Path.{_≡_}
+use mathlib.Core.Bool.{Bool, true, false, _&&_, _||_}
+use mathlib.Core.List.{List}
+use mathlib.Core.Logic.{_⊎_}
+use Prim.Native.Nat.{ℕ, _+_, _-_, _*_, _%_, _≤_, _<_}
+use lib.Dec.{ltb, leb}
+use lib.ListN.{length, getD}
+use Rattle.model.specs.Limits.{maxRelations, maxTuples, wordBits}
+use Rattle.model.specs.Network.{Network, width, size, firstId, valuesAt}
+use Rattle.model.specs.Agreement.{agree}
+use Rattle.model.specs.LiveWords.{isLive}
+use Rattle.model.specs.Edges.{maxWords}
+use Rattle.layout.specs.Setting.{Lists, networkIn, Laid}
+
+-- how many buckets of values there are: a prime, so that codes that are multiples of ten or of a power of two spread over all
+abbrev pub buckets : ℕ
+buckets = 17
+
+-- the words of the index: 64 for each of 8 columns and each bucket; and its bits
+abbrev pub indexWords : ℕ
+indexWords = 8704
+
+abbrev pub indexBits : ℕ
+indexBits = 557056
+
+-- the bucket of a value
+abbrev pub bucketOf : ℕ → ℕ
+bucketOf v = v % buckets
+
+-- where the entry of column c, bucket b and id g stands among the bits of the index
+abbrev pub entryPlace : ℕ → ℕ → ℕ → ℕ
+entryPlace c b g = (c * buckets + b) * maxTuples + g
+
+-- the tuple with id g is indexed under column c and bucket b
+unfoldable pub isIndexed : List ℕ → ℕ → ℕ → ℕ → Bool
+isIndexed index c b g = isLive index (entryPlace c b g)
+
+-- Every tuple is indexed under each of its columns and the bucket of its value there.
+pub record Indexed (N : Network) (index : List ℕ) : Type 0 where
+  pub at : (r x c : ℕ) → x < size N r → c < width N r → isIndexed index c (bucketOf (getD (valuesAt N r x) c 0)) (firstId N r + x) ≡ true
+
+-- no entry is lost
+abbrev pub Grows : List ℕ → List ℕ → Type 0
+Grows before after = (p : ℕ) → isLive before p ≡ true → isLive after p ≡ true
+
+-- the tuple with id g, whose values begin at `at`, is indexed under each of its columns
+abbrev pub IndexesTuple : List ℕ → ℕ → ℕ → ℕ → List ℕ → Type 0
+IndexesTuple values at columns g index = (c : ℕ) → c < columns → isIndexed index c (bucketOf (getD values (at + c) 0)) g ≡ true
+
+-- .. and so are the tuples from id start on and below id end, which stand one after the other
+abbrev pub IndexesTuples : List ℕ → ℕ → ℕ → ℕ → ℕ → List ℕ → Type 0
+IndexesTuples values at columns start end index =
+    (g : ℕ) → start ≤ g → g < end → IndexesTuple values (at + (g - start) * columns) columns g index
+
+-- ---- Narrowing
+
+-- id g stays when the ids from start on and below end are narrowed to those that pass the test
+abbrev pub stays : (ℕ → Bool) → ℕ → ℕ → ℕ → Bool
+stays passes start end g = ltb g start || (leb end g || passes g)
+
+-- the ids from start on and below end are narrowed to those that pass the test, and every other bit is as before
+abbrev pub KeptIds : (ℕ → Bool) → ℕ → ℕ → List ℕ → List ℕ → Type 0
+KeptIds passes start end before after = (g : ℕ) → isLive after g ≡ (isLive before g && stays passes start end g)
+
+-- the ids of the words from i on and below n are narrowed to those that pass the test, and every other bit is as before
+abbrev pub Kept : (ℕ → Bool) → ℕ → ℕ → List ℕ → List ℕ → Type 0
+Kept passes i n before after = KeptIds passes (wordBits * i) (wordBits * n) before after
+
+-- bit g of the 64 words of the index that begin at word `first`: those of one column and bucket
+abbrev pub rowBit : List ℕ → ℕ → ℕ → Bool
+rowBit index first g = isLive index (wordBits * first + g)
+
+-- No id is raised, the ids outside stay, and so does an id that is indexed under each of its columns by accepted values.
+pub record Narrows (accepts : List ℕ → Bool) (columns : ℕ) (index : List ℕ) (start end : ℕ) (before after : List ℕ) : Type 0 where
+  pub inside : (g : ℕ) → isLive after g ≡ true → isLive before g ≡ true
+  pub outside : (g : ℕ) → (g < start) ⊎ (end ≤ g) → isLive after g ≡ isLive before g
+  pub keeps : (g : ℕ) (b : List ℕ) → columns ≡ length b → ((c : ℕ) → c < columns → isIndexed index c (bucketOf (getD b c 0)) g ≡ true) → accepts b ≡ true → isLive before g ≡ true → isLive after g ≡ true
+
+-- No id is raised, the ids outside relation s stay, and so does a tuple of it that agrees with tuple x of relation r.
+pub record Agreeing (N : Network) (r x s : ℕ) (before after : List ℕ) : Type 0 where
+  pub inside : (g : ℕ) → isLive after g ≡ true → isLive before g ≡ true
+  pub outside : (g : ℕ) → (g < firstId N s) ⊎ (firstId N s + size N s ≤ g) → isLive after g ≡ isLive before g
+  pub keeps : (z : ℕ) → z < size N s → agree N (firstId N r + x) (firstId N s + z) ≡ true → isLive before (firstId N s + z) ≡ true → isLive after (firstId N s + z) ≡ true
+
+-- ---- Narrowing the members of a combination
+
+-- no tuple of relation s is live
+abbrev pub Dead : Network → ℕ → List ℕ → Type 0
+Dead N s words = (z : ℕ) → z < size N s → isLive words (firstId N s + z) ≡ false
+
+-- Narrowed for the tuple with id y: no id is raised, every tuple that agrees with it stays, and so does y itself.
+pub record Narrowed (N : Network) (y : ℕ) (before after : List ℕ) : Type 0 where
+  pub inside : (g : ℕ) → isLive after g ≡ true → isLive before g ≡ true
+  pub keeps : (s z : ℕ) → z < size N s → agree N y (firstId N s + z) ≡ true → isLive before (firstId N s + z) ≡ true → isLive after (firstId N s + z) ≡ true
+  pub itself : isLive after y ≡ isLive before y
+
+-- Place j is one of those from k on, but not `place`.
+pub record Later (members : List ℕ) (place k j : ℕ) : Type 0 where
+  pub from-k : k ≤ j
+  pub inside : j < length members
+  pub other : j ≡ place → ⊥
+
+-- The members at the places from k on, but the one at `place`, are numbers of relations, and none of them is relation r.
+pub record Others (members : List ℕ) (place k r : ℕ) : Type 0 where
+  pub few : (j : ℕ) → Later members place k j → getD members j 0 < maxRelations
+  pub other : (j : ℕ) → Later members place k j → getD members j 0 ≡ r → ⊥
+
+-- One of these members, at place j, has no live tuple left.
+pub record Bare (N : Network) (members : List ℕ) (place k : ℕ) (words : List ℕ) : Type 0 where
+  pub j : ℕ
+  pub later : Later members place k j
+  pub dead : Dead N (getD members j 0) words
+
+-- ---- Contracts
+
+-- an array of 64 words
+abbrev pub Long : List ℕ → Type 0
+Long words = length words ≡ maxWords
+
+-- an array of the index's words
+abbrev pub Full : List ℕ → Type 0
+Full index = length index ≡ indexWords
+
+-- Tuple x of relation r, which the words are narrowed for, in laid lists with their index.
+pub record Seeks (L : Lists) (index : List ℕ) (r x : ℕ) : Type 0 where
+  pub laid : Laid L
+  pub indexed : Indexed (networkIn L) index
+  pub own : x < size (networkIn L) r
+
+-- relation s narrowed for tuple x of relation r; false only where none of its tuples is live any more
+abbrev pub NarrowsMember : Lists → ℕ → ℕ → ℕ → List ℕ → List ℕ → Bool → Type 0
+NarrowsMember L r x s before after found =
+    Long after × (Agreeing (networkIn L) r x s before after × (found ≡ false → Dead (networkIn L) s after))
+
+-- the members from k on, but the one at `place`; false only where one of them has no live tuple left
+abbrev pub NarrowsMembers : Lists → List ℕ → ℕ → ℕ → ℕ → ℕ → List ℕ → List ℕ → Bool → Type 0
+NarrowsMembers L members place k r x before after found =
+    Long after
+    × (Narrowed (networkIn L) (firstId (networkIn L) r + x) before after × (found ≡ false → Bare (networkIn L) members place k after))
