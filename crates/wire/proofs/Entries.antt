@@ -1,13 +1,14 @@
--- Entries and their bytes: each is the other's, and what one entry more does to a list that is decoded or encoded.
--- All over the number k of bytes of an entry.
+-- Entries and their bytes: each is the other's; an entry is its two halves; and what one entry more does to a list that is decoded or
+-- encoded. All over the number k of bytes of an entry.
 use mathlib.Core.Path.{_≡_, refl, sym, ap, _∙_}
 use mathlib.Core.List.{List, [], _∷_, _++_, append-assoc, append-nil}
 use Prim.Native.Nat.{ℕ, zero, suc, _+_, _*_, _/_, _%_, _^_, _≤_, _<_, min}
-use native.Mathlib.Nat.{mul-zero, mul-suc, pow-succ', pow-zero, one-le-pow, add-comm, not-suc-le-zero}
+use native.Mathlib.Nat.{zero-add, suc-add, add-comm, add-assoc, mul-zero, mul-suc, mul-comm, mul-assoc, mul-left-comm, add-mul, mul-le-mul-left, div-one, div-div-eq-div-mul, mul-div-le, pow-zero, pow-suc, pow-succ', one-le-pow, le-trans, not-suc-le-zero}
 use native.Mathlib.Numerals.{add-one}
 use native.Mathlib.Omega.{arith}
+use lib.Arith.{mod-mul}
 use lib.ListN.{length, take, drop, getD, set, length-append, length-drop, length-set, take-append-drop, drop-of-length-le}
-use lib.Seq.{drop-cons, take-suc, drop-drop, getD-drop, take-at, drop-at, length-take-le, set-at, take-length, take-all}
+use lib.Seq.{drop-cons, drop-nil, drop-drop, drop-at, take-nil, take-suc, take-at, take-length, take-all, length-take-le, getD-drop, set-at, sets-eq}
 use Rattle.wire.specs.Entries.{value, bytesOf, entryAt, entries, bytes, entries16, Filled}
 
 -- every byte of a list is one
@@ -37,9 +38,20 @@ bytesOf-value (b ∷ bs) h =
     let d : (b + 256 * value bs) / 256 ≡ value bs = omega arith in
     rw (m, d, bytesOf-value bs (λ i. h (suc i)))
 
--- an entry's first byte, and its others
-pub value-next : (k at : ℕ) (bs : List ℕ) → at < length bs → value (take (suc k) (drop at bs)) ≡ getD bs at 0 + 256 * value (take k (drop (at + 1) bs))
-value-next k at bs h = rw (add-one, drop-cons bs at 0)
+-- the value of j + k bytes is that of the first j, and of the others above them
+value-add : (j k : ℕ) (bs : List ℕ) → value (take (j + k) bs) ≡ value (take j bs) + 256 ^ j * value (take k (drop j bs))
+value-add zero k bs = rw (zero-add k) (omega arith)
+value-add (suc j) k [] = rw (suc-add, take-nil k, mul-zero)
+value-add (suc j) k (b ∷ bs) = rw (suc-add, value-add j k bs, pow-succ', mul-assoc) (omega arith)
+
+-- the bytes of x are those of its lower part, and of its upper part behind them
+bytesOf-add : (j k x : ℕ) → bytesOf (j + k) x ≡ bytesOf j (x % 256 ^ j) ++ bytesOf k (x / 256 ^ j)
+bytesOf-add zero k x = rw (zero-add, div-one)
+bytesOf-add (suc j) k x =
+    let parts : x % (256 ^ j * 256) ≡ x / 256 % 256 ^ j * 256 + x % 256 = mod-mul x (one-le-pow j 256 (omega arith)) (omega arith) in
+    let low : x % (256 ^ j * 256) % 256 ≡ x % 256 = omega arith in
+    let high : x % (256 ^ j * 256) / 256 ≡ x / 256 % 256 ^ j = omega arith in
+    rw (suc-add, bytesOf-add j k (x / 256), pow-suc, low, high, div-div-eq-div-mul, mul-comm 256)
 
 -- ---- Lists of entries
 
@@ -136,76 +148,98 @@ bytes-behind k j xs bs e =
     let whole : bytes k (take j xs) ++ bytes k (drop j xs) ≡ bs = sym (bytes-append k (take j xs) (drop j xs)) ∙ ap (bytes k) (take-append-drop j xs) ∙ e in
     rw (← whole) (sym (drop-at (bytes k (take j xs)) (bytes k (drop j xs)) (k * length (take j xs)) (bytes-length k (take j xs))))
 
--- ---- As the code reads them
+-- ---- As the code reads and writes them
 
-pub entry-two : (bs : List ℕ) (i : ℕ) → 2 * i + 2 ≤ length bs → entryAt 2 bs i ≡ getD bs (2 * i) 0 + 256 * getD bs (2 * i + 1) 0
-unfolding entryAt
-entry-two bs i h =
-    let e0 = value-next 1 (2 * i) bs (omega arith) in
-    let e1 = value-next 0 (2 * i + 1) bs (omega arith) in
-    omega arith
+-- what d holds once x is written as entry number i
+abbrev pub put : ℕ → ℕ → ℕ → List ℕ → List ℕ
+put k i x d = take (k * i) d ++ bytesOf k x ++ drop (k * i + k) d
 
-pub entry-eight : (bs : List ℕ) (i : ℕ) → 8 * i + 8 ≤ length bs → entryAt 8 bs i ≡ getD bs (8 * i) 0 + 256 * (getD bs (8 * i + 1) 0 + 256 * (getD bs (8 * i + 1 + 1) 0 + 256 * (getD bs (8 * i + 1 + 1 + 1) 0 + 256 * (getD bs (8 * i + 1 + 1 + 1 + 1) 0 + 256 * (getD bs (8 * i + 1 + 1 + 1 + 1 + 1) 0 + 256 * (getD bs (8 * i + 1 + 1 + 1 + 1 + 1 + 1) 0 + 256 * getD bs (8 * i + 1 + 1 + 1 + 1 + 1 + 1 + 1) 0))))))
+-- where the next entry begins
+next-at : (k i : ℕ) → k * (i + 1) ≡ k * i + k
+next-at k i = rw (add-one, mul-suc)
+
+-- where an entry of twice the width begins
+twice-at : (k i : ℕ) → (k + k) * i ≡ k * (2 * i)
+twice-at k i = rw (add-mul, mul-left-comm) (omega arith)
+
+-- an entry is written behind the bytes of those before it
+put-behind : (k i x : ℕ) (p q : List ℕ) → length p ≡ k * i → put k i x (p ++ q) ≡ p ++ bytesOf k x ++ drop k q
+put-behind k i x p q e = rw (take-at p q (k * i) e, ← drop-drop k (k * i) (p ++ q), drop-at p q (k * i) e)
+
+-- an entry of one byte, and one of twice the width by its halves
+pub entry-one : (bs : List ℕ) (i : ℕ) → entryAt 1 bs i ≡ getD bs i 0
 unfolding entryAt
-entry-eight bs i h =
-    let e0 = value-next 7 (8 * i) bs (omega arith) in
-    let e1 = value-next 6 (8 * i + 1) bs (omega arith) in
-    let e2 = value-next 5 (8 * i + 1 + 1) bs (omega arith) in
-    let e3 = value-next 4 (8 * i + 1 + 1 + 1) bs (omega arith) in
-    let e4 = value-next 3 (8 * i + 1 + 1 + 1 + 1) bs (omega arith) in
-    let e5 = value-next 2 (8 * i + 1 + 1 + 1 + 1 + 1) bs (omega arith) in
-    let e6 = value-next 1 (8 * i + 1 + 1 + 1 + 1 + 1 + 1) bs (omega arith) in
-    let e7 = value-next 0 (8 * i + 1 + 1 + 1 + 1 + 1 + 1 + 1) bs (omega arith) in
-    omega arith
+entry-one [] i = rw drop-nil
+entry-one (b ∷ bs) zero = omega arith
+entry-one (b ∷ bs) (suc i) = rw (mul-suc, add-one) (entry-one bs i)
+
+pub entry-halves : (k i low high : ℕ) (bs : List ℕ) → low ≡ entryAt k bs (2 * i) → high ≡ entryAt k bs (2 * i + 1) → low + 256 ^ k * high ≡ entryAt (k + k) bs i
+unfolding entryAt
+entry-halves k i low high bs e e' = rw (e, e', twice-at, next-at, ← drop-drop) (sym (value-add k k (drop (k * (2 * i)) bs)))
+
+-- an entry of two bytes is written byte by byte, and one of twice the width by its halves
+pub put-two : (i x : ℕ) (d : List ℕ) → 2 * i + 2 ≤ length d → set (set d (2 * i) (x % 256)) (2 * i + 1) (x / 256 % 256) ≡ put 2 i x d
+put-two i x d h = simp add-one (sets-eq (bytesOf 2 x) d (2 * i) h)
+
+pub put-halves : (k i x : ℕ) (d d' d'' : List ℕ) → (k + k) * i + (k + k) ≤ length d
+    → d' ≡ put k (2 * i) (x % 256 ^ k) d → d'' ≡ put k (2 * i + 1) (x / 256 ^ k) d' → d'' ≡ put (k + k) i x d
+put-halves k i x d d' d'' h first second =
+    let at = k * (2 * i) in
+    let low = bytesOf k (x % 256 ^ k) in
+    let high = bytesOf k (x / 256 ^ k) in
+    let long : length (take at d ++ low) ≡ k * (2 * i + 1) = simp (length-append, length-take-le at d (omega (arith, twice-at k i)), bytesOf-length, next-at) in
+    rw (second, first, put-behind k (2 * i + 1) (x / 256 ^ k) (take at d ++ low) (drop (at + k) d) long, twice-at, bytesOf-add, drop-drop, append-assoc (take at d) low high, add-assoc)
 
 -- ---- The loops
 
--- d holds the first i entries of s, and behind them what it held at the start, d₀
-pub record Loaded (k i : ℕ) (s d₀ d : List ℕ) : Type 0 where
+-- d holds the first i of n entries of s, and behind them what it held at the start, d₀
+pub record Loaded (k n i : ℕ) (s d₀ d : List ℕ) : Type 0 where
+  pub within : i ≤ n
   pub kept : length d ≡ length d₀
   pub holds : d ≡ entries k i s ++ drop i d₀
 
-pub loaded-start : (k : ℕ) (s d : List ℕ) → Loaded k 0 s d d
-loaded-start k s d = record { kept = refl; holds = refl }
+pub loaded-start : (k n : ℕ) (s d : List ℕ) → Loaded k n 0 s d d
+loaded-start k n s d = record { within = omega arith; kept = refl; holds = refl }
 
-pub loaded-next : (k i : ℕ) (s d₀ d : List ℕ) → i < length d₀ → Loaded k i s d₀ d → Loaded k (i + 1) s d₀ (set d i (entryAt k s i))
-loaded-next k i s d₀ d h l =
+pub loaded-next : (k n i x : ℕ) (s d₀ d : List ℕ) → Loaded k n i s d₀ d → i < n → n ≤ length d₀ → x ≡ entryAt k s i → Loaded k n (i + 1) s d₀ (set d i x)
+loaded-next k n i x s d₀ d l more room e =
+    let h : i < length d₀ = omega arith in
     record {
-      kept = length-set d i (entryAt k s i) ∙ l .kept;
+      within = omega arith;
+      kept = length-set d i x ∙ l .kept;
       holds =
-          rw (l .holds, drop-cons d₀ i 0 h, set-at (entries k i s) (getD d₀ i 0) (drop (suc i) d₀) (entryAt k s i) i (entries-length k i s), entries-next, append-assoc, add-one);
+          rw (l .holds, e, drop-cons d₀ i 0 h, set-at (entries k i s) (getD d₀ i 0) (drop (suc i) d₀) (entryAt k s i) i (entries-length k i s), entries-next, append-assoc, add-one);
     }
 
-pub loaded-end : (k n i : ℕ) (s d₀ d : List ℕ) → k * n ≤ length s → n ≡ min (length s / k) (length d₀) → n ≤ i → i ≤ n → Loaded k i s d₀ d → Filled k n s d₀ d
-loaded-end k n i s d₀ d fits least above below l =
+pub loaded-end : (k n i : ℕ) (s d₀ d : List ℕ) → Loaded k n i s d₀ d → n ≤ i → n ≡ min (length s / k) (length d₀) → Filled k n s d₀ d
+loaded-end k n i s d₀ d l all least =
     let same : i ≡ n = omega arith in
     let front : take n d ≡ entries k n s = rw (l .holds, same) (take-at (entries k n s) (drop n d₀) n (entries-length k n s)) in
     record {
-      within = omega (arith, l .kept);
+      within = omega arith;
       count = sym (ap length front ∙ entries-length k n s);
       held = front ∙ entries-front k n (length s / k) (length d₀) s least;
-      most = fits;
+      most = le-trans (mul-le-mul-left k (omega arith)) (mul-div-le (length s) k);
     }
 
 -- d holds the bytes of the first i entries of s, and behind them what it held at the start, d₀
 pub record Stored (k i : ℕ) (s d₀ d : List ℕ) : Type 0 where
+  pub within : i ≤ length s
   pub kept : length d ≡ length d₀
   pub holds : d ≡ bytes k (take i s) ++ drop (k * i) d₀
 
 pub stored-start : (k : ℕ) (s d : List ℕ) → Stored k 0 s d d
-stored-start k s d = record { kept = refl; holds = rw mul-zero }
+stored-start k s d = record { within = omega arith; kept = refl; holds = rw mul-zero }
 
-pub stored-next : (k i : ℕ) (s d₀ d d' : List ℕ) → i < length s → Stored k i s d₀ d
-    → length d' ≡ length d → d' ≡ take (k * i) d ++ bytesOf k (getD s i 0) ++ drop (k * i + k) d → Stored k (i + 1) s d₀ d'
-stored-next k i s d₀ d d' h l same wrote =
-    let long : length (bytes k (take i s)) ≡ k * i = bytes-length k (take i s) ∙ ap (λ (n : ℕ). k * n) (length-take-le i s (omega arith)) in
-    let front : take (k * i) d ≡ bytes k (take i s) = rw (l .holds) (take-at (bytes k (take i s)) (drop (k * i) d₀) (k * i) long) in
-    let next : k * i + k ≡ k * (i + 1) = rw (add-one, mul-suc) in
-    let rest : drop (k * i + k) d ≡ drop (k * (i + 1)) d₀ =
-    sym (drop-drop k (k * i) d) ∙ rw (l .holds, drop-at (bytes k (take i s)) (drop (k * i) d₀) (k * i) long) (drop-drop k (k * i) d₀ ∙ ap (λ (n : ℕ). drop n d₀) next) in
-    let more : bytes k (take (i + 1) s) ≡ bytes k (take i s) ++ bytesOf k (getD s i 0) =
-    rw (add-one, take-suc s i 0 h, bytes-append) (ap (λ (x : List ℕ). bytes k (take i s) ++ x) (append-nil (bytesOf k (getD s i 0)))) in
-    record { kept = same ∙ l .kept; holds = wrote ∙ rw (front, rest, more) }
+pub stored-next : (k i : ℕ) (s d₀ d d' : List ℕ) → Stored k i s d₀ d → i < length s → length d' ≡ length d → d' ≡ put k i (getD s i 0) d → Stored k (i + 1) s d₀ d'
+stored-next k i s d₀ d d' l h same wrote =
+    let long : length (bytes k (take i s)) ≡ k * i = bytes-length k (take i s) ∙ ap (λ (n : ℕ). k * n) (length-take-le i s (l .within)) in
+    record {
+      within = omega arith;
+      kept = same ∙ l .kept;
+      holds =
+          rw (wrote, l .holds, put-behind k i (getD s i 0) (bytes k (take i s)) (drop (k * i) d₀) long, drop-drop, next-at, add-one, take-suc s i 0 h, bytes-append, append-nil);
+    }
 
-pub stored-end : (k i : ℕ) (s d₀ d : List ℕ) → length s ≤ i → i ≤ length s → Stored k i s d₀ d → d ≡ bytes k s ++ drop (k * length s) d₀
-stored-end k i s d₀ d above below l = let same : i ≡ length s = omega arith in l .holds ∙ rw (same, take-length)
+pub stored-end : (k i : ℕ) (s d₀ d : List ℕ) → Stored k i s d₀ d → length s ≤ i → d ≡ bytes k s ++ drop (k * length s) d₀
+stored-end k i s d₀ d l all = let same : i ≡ length s = omega arith in l .holds ∙ rw (same, take-length)

@@ -12,13 +12,6 @@ fn wide16(b: u8) -> u16
     b as u16
 }
 
-// A byte as a 64-bit number.
-fn wide64(b: u8) -> u64
-    ensures { λ x. ⌜ (x ≡ b) × (x < 256) ⌝ }
-{
-    b as u64
-}
-
 // Entry i of a list of 16-bit entries.
 pub fn u16_at(s: &[u8], i: usize) -> u16
     requires { ⌜ 2 * i + 2 ≤ length (now s) ⌝ }
@@ -29,28 +22,20 @@ pub fn u16_at(s: &[u8], i: usize) -> u16
     wide16(s[a0]) + 256 * wide16(s[a1])
 }
 
+// Entry i of a list of 32-bit entries.
+fn u32_at(s: &[u8], i: usize) -> u32
+    requires { ⌜ 4 * i + 4 ≤ length (now s) ⌝ }
+    ensures { λ x. ⌜ x ≡ entryAt 4 (now (s .entry)) i ⌝ }
+{
+    (u16_at(s, 2 * i) as u32) + 65536 * (u16_at(s, 2 * i + 1) as u32)
+}
+
 // Entry i of a list of 64-bit entries.
 pub fn u64_at(s: &[u8], i: usize) -> u64
     requires { ⌜ 8 * i + 8 ≤ length (now s) ⌝ }
     ensures { λ x. ⌜ x ≡ entryAt 8 (now (s .entry)) i ⌝ }
 {
-    let a0 = 8 * i;
-    let a1 = a0 + 1;
-    let a2 = a1 + 1;
-    let a3 = a2 + 1;
-    let a4 = a3 + 1;
-    let a5 = a4 + 1;
-    let a6 = a5 + 1;
-    let a7 = a6 + 1;
-    let b0 = wide64(s[a0]);
-    let b1 = wide64(s[a1]);
-    let b2 = wide64(s[a2]);
-    let b3 = wide64(s[a3]);
-    let b4 = wide64(s[a4]);
-    let b5 = wide64(s[a5]);
-    let b6 = wide64(s[a6]);
-    let b7 = wide64(s[a7]);
-    b0 + 256 * (b1 + 256 * (b2 + 256 * (b3 + 256 * (b4 + 256 * (b5 + 256 * (b6 + 256 * b7))))))
+    (u32_at(s, 2 * i) as u64) + 4294967296 * (u32_at(s, 2 * i + 1) as u64)
 }
 
 // Writes x as entry i of a list of 16-bit entries.
@@ -64,34 +49,22 @@ pub fn put_u16(d: &mut [u8], i: usize, x: u16)
     d[a1] = (x / 256 % 256) as u8;
 }
 
+// Writes x as entry i of a list of 32-bit entries.
+fn put_u32(d: &mut [u8], i: usize, x: u32)
+    requires { ⌜ 4 * i + 4 ≤ length (now d) ⌝ }
+    ensures { λ _. ⌜ now (d .exit) ≡ take (4 * i) (now (d .entry)) ++ bytesOf 4 x ++ drop (4 * i + 4) (now (d .entry)) ⌝ }
+{
+    put_u16(d, 2 * i, (x % 65536) as u16);
+    put_u16(d, 2 * i + 1, (x / 65536) as u16);
+}
+
 // Writes x as entry i of a list of 64-bit entries.
 pub fn put_u64(d: &mut [u8], i: usize, x: u64)
     requires { ⌜ 8 * i + 8 ≤ length (now d) ⌝ }
     ensures { λ _. ⌜ now (d .exit) ≡ take (8 * i) (now (d .entry)) ++ bytesOf 8 x ++ drop (8 * i + 8) (now (d .entry)) ⌝ }
 {
-    let a0 = 8 * i;
-    let a1 = a0 + 1;
-    let a2 = a1 + 1;
-    let a3 = a2 + 1;
-    let a4 = a3 + 1;
-    let a5 = a4 + 1;
-    let a6 = a5 + 1;
-    let a7 = a6 + 1;
-    let x1 = x / 256;
-    let x2 = x1 / 256;
-    let x3 = x2 / 256;
-    let x4 = x3 / 256;
-    let x5 = x4 / 256;
-    let x6 = x5 / 256;
-    let x7 = x6 / 256;
-    d[a0] = (x % 256) as u8;
-    d[a1] = (x1 % 256) as u8;
-    d[a2] = (x2 % 256) as u8;
-    d[a3] = (x3 % 256) as u8;
-    d[a4] = (x4 % 256) as u8;
-    d[a5] = (x5 % 256) as u8;
-    d[a6] = (x6 % 256) as u8;
-    d[a7] = (x7 % 256) as u8;
+    put_u32(d, 2 * i, (x % 4294967296) as u32);
+    put_u32(d, 2 * i + 1, (x / 4294967296) as u32);
 }
 
 // The lesser of two numbers.

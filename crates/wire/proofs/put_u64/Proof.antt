@@ -1,61 +1,13 @@
--- `put_u64` writes the bytes of one entry, one after the other.
--- From the law of entries set from a place on.
-use Prim.Native.Nat.{_*_}
-use native.Mathlib.Numerals.{add-one}
-use native.Mathlib.Omega.{arith}
-use lib.ListN.{length-set}
-use lib.Seq.{sets-eq}
-use Rattle.wire.specs.Entries.{bytesOf}
+-- `put_u64` writes the two halves of one entry, from the law of an entry's halves.
 use borrow.Author.Needs.{needs}
+use Rattle.wire.proofs.Entries.{put-halves}
 use Rattle.wire.proofs.put_u64.Statement.{statement}
 use Rattle.wire.proofs.put_u64.Tie as tie
-
-slice-write-d-2 : tie.Need-slice-write-d-2
-slice-write-d-2 c = simp length-set (omega arith)
-
-slice-write-d-3 : tie.Need-slice-write-d-3
-slice-write-d-3 c = simp length-set (omega arith)
-
-slice-write-d-4 : tie.Need-slice-write-d-4
-slice-write-d-4 c = simp length-set (omega arith)
-
-slice-write-d-5 : tie.Need-slice-write-d-5
-slice-write-d-5 c = simp length-set (omega arith)
-
-slice-write-d-6 : tie.Need-slice-write-d-6
-slice-write-d-6 c = simp length-set (omega arith)
-
-slice-write-d-7 : tie.Need-slice-write-d-7
-slice-write-d-7 c = simp length-set (omega arith)
-
-slice-write-d-8 : tie.Need-slice-write-d-8
-slice-write-d-8 c = simp length-set (omega arith)
-
-same-length : tie.Need-same-length
-same-length c = simp length-set
-
-returns : tie.Need-returns
-returns c = simp add-one (sets-eq (bytesOf 8 (c .args .x)) (c .args .d .now) (8 * c .args .i) (c .pre))
 
 pub put-u64-spec : {M : Type 1} → statement M
 put-u64-spec =
     tie.close
     (tie.spec
-    (λ c. search needs) (λ c. search needs) (λ c. search needs) (λ c. search needs) (λ c. search needs)
-    (λ c. search needs) (λ c. search needs) (λ c. search needs) (λ c. search needs) (λ c. search needs)
-    (λ c. search needs)
-    slice-write-d-2
-    (λ c. search needs)
-    slice-write-d-3
-    (λ c. search needs)
-    slice-write-d-4
-    (λ c. search needs)
-    slice-write-d-5
-    (λ c. search needs)
-    slice-write-d-6
-    (λ c. search needs)
-    slice-write-d-7
-    (λ c. search needs)
-    slice-write-d-8
-    same-length
-    returns)
+    (λ c. search needs) (λ c. search needs) (λ c κs. search needs) (λ c. search needs) (λ c. search needs)
+    (λ c. search needs) (λ c κs. search needs) (λ c. search needs)
+    (λ c. search (put-halves 4)))

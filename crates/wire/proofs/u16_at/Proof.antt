@@ -1,13 +1,8 @@
--- `u16_at` reads the bytes of one entry.
--- From the law of an entry of two bytes.
-use native.Mathlib.Omega.{arith}
-use Rattle.wire.proofs.Entries.{entry-two}
+-- `u16_at` reads the two bytes of one entry, from the law of an entry's halves.
 use borrow.Author.Needs.{needs}
+use Rattle.wire.proofs.Entries.{entry-one, entry-halves}
 use Rattle.wire.proofs.u16_at.Statement.{statement}
 use Rattle.wire.proofs.u16_at.Tie as tie
-
-returns : tie.Need-returns
-returns c = let start = c .before .before .before .before .before in omega (arith, entry-two (start .args .s .now) (start .args .i) (start .pre))
 
 pub u16-at-spec : {M : Type 1} → statement M
 u16-at-spec =
@@ -15,4 +10,4 @@ u16-at-spec =
     (tie.spec
     (λ c. search needs) (λ c. search needs) (λ c. search needs) (λ c κs. search needs)
     (λ c. search needs) (λ c κs. search needs) (λ c. search needs) (λ c. search needs)
-    returns)
+    (λ c. search (entry-halves 1, entry-one)))
