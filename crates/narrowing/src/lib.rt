@@ -1,16 +1,16 @@
 // Forward checking by words: the index of each tuple under its columns' values, and the live tuples narrowed by it.
 ghost use mathlib.Core.Path.{_≡_};
 ghost use mathlib.Core.Bool.{_||_};
-ghost use mathlib.Core.List.{List};
 ghost use Prim.Native.Nat.{ℕ, _+_, _-_, _*_, _^_, _≤_, _<_};
 ghost use lib.Dec.{ltb, eqb};
-ghost use lib.ListN.{length, getD};
+ghost use lib.ListN.{length};
 ghost use Rattle.model.specs.Limits.{maxRelations, maxWidth, maxTuples};
 ghost use Rattle.model.specs.LiveWords.{isSet, isLive};
 ghost use Rattle.layout.specs.Lent.{entry, exit};
 ghost use Rattle.layout.specs.Setting.{lists, networkIn, Laid};
-ghost use Rattle.narrowing.specs.Index.{indexWords, indexBits, bucketOf, isIndexed, stays, rowBit, Kept, KeptIds, Indexed, Grows, IndexesTuple, IndexesTuples, Agreeing, Others, Long, Full, Seeks, NarrowsMember, NarrowsMembers};
-ghost use Rattle.narrowing.specs.Columns.{accepts, NarrowsBy, NarrowsColumn};
+ghost use Rattle.narrowing.specs.Index.{indexWords, indexBits, bucketOf, isIndexed, Indexed, Grows, IndexesTuple, IndexesTuples};
+ghost use Rattle.narrowing.specs.Index.{stays, rowBit, Kept, KeptIds, Agreeing, Others, Long, Full, Seeks, NarrowsMember, NarrowsMembers};
+ghost use Rattle.narrowing.specs.Columns.{NarrowsBy, NarrowsColumn};
 use layout::Starts;
 use layout::column_of;
 use layout::place_of;
@@ -22,7 +22,6 @@ use layout::wide;
 use live::WORDS;
 use live::Words;
 use live::next;
-use model::MAX_RELATIONS;
 use model::MAX_TUPLES;
 use model::MAX_WIDTH;
 use model::Value;
@@ -58,14 +57,7 @@ fn below(base: usize, bound: usize) -> u64
 
 // The ids of word i, of those from begin on and below stop, whose bit in the index's words from `first` on is 0, are dead,
 // and every other bit stays.
-fn keep_word(
-    index: &Index,
-    words: &mut Words,
-    first: usize,
-    i: usize,
-    begin: usize,
-    stop: usize,
-)
+fn keep_word(index: &Index, words: &mut Words, first: usize, i: usize, begin: usize, stop: usize)
     requires { ⌜ Long (now words) × ((first + 64 ≤ indexWords) × (i < 64)) ⌝ }
     ensures { λ _. ⌜ Long (exit words) × Kept (stays (rowBit (entry index) first) begin stop) i (i + 1) (entry words) (exit words) ⌝ }
 {
@@ -130,14 +122,7 @@ fn index_tuple(values: &[Value], at: usize, width: usize, g: u16, index: &mut In
 }
 
 // The tuples from id start on and below id end, whose values begin at `at`, are indexed, and no entry is lost.
-fn index_tuples(
-    values: &[Value],
-    at: usize,
-    width: usize,
-    start: u16,
-    end: u16,
-    index: &mut Index,
-)
+fn index_tuples(values: &[Value], at: usize, width: usize, start: u16, end: u16, index: &mut Index)
     requires { ⌜ Full (now index) × ((start ≤ end) × (end ≤ maxTuples)) ⌝ }
     requires { ⌜ (width ≤ maxWidth) × (at + (end - start) * width ≤ length (now values)) ⌝ }
     ensures { λ _. ⌜ Full (exit index) × (Grows (entry index) (exit index) × IndexesTuples (entry values) at width start end (exit index)) ⌝ }

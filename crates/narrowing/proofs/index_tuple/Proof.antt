@@ -1,7 +1,7 @@
--- `index_tuple` marks column by column. The loop's invariant: the columns passed are indexed, and no mark is lost.
+-- `index_tuple` goes column by column. The loop's invariant: the tuple is indexed under the columns passed, and no entry is lost.
 -- From the law of one column more.
 use mathlib.Core.Path.{_≡_, ap₂}
-use Prim.Native.Nat.{ℕ, _+_, _-_, _*_, _%_, _≤_}
+use Prim.Native.Nat.{ℕ, _+_, _-_, _*_, _≤_}
 use native.Mathlib.Omega.{arith}
 use lib.ListN.{length}
 use borrow.Author.Needs.{needs}
@@ -22,7 +22,7 @@ loop-holds c =
     let a = c .before .before .args in
     (search needs, (c .wide .ensures .0, (c .before .before .pre .0, (λ p e. e, λ k h. absurd (omega arith)))))
 
-enter-requires : tie.Need-mark-requires Inv-loop μ-loop
+enter-requires : tie.Need-enter-requires Inv-loop μ-loop
 enter-requires c κs =
     let l = c .before .before .before .before .loop in
     (l .inv .1 .1 .0, omega arith)
@@ -41,7 +41,7 @@ loop-again c =
           (
             grows-on (a .index .now) (l .index) new (l .inv .1 .1 .1 .0) (grows-one (l .index) new _ f),
             tuple-more (a .values .now) (a .at) (l .c) (a .g) (l .index) new _
-                (ap₂ (λ (v i : ℕ). (l .c * buckets + v % buckets) * 4096 + i) (c .before .before .wide2 .ensures .0) (l .inv .1 .0))
+                (ap₂ (λ (v i : ℕ). (l .c * buckets + v) * 4096 + i) (c .before .before .bucket-of .ensures) (l .inv .1 .0))
                 f
                 (l .inv .1 .1 .1 .1),
           ),

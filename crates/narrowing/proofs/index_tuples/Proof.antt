@@ -1,4 +1,4 @@
--- `index_tuples` marks tuple by tuple, and keeps p at the tuple of id g. The loop's invariant: the tuples passed are indexed.
+-- `index_tuples` goes tuple by tuple, and keeps p at the tuple of id g. The loop's invariant: the tuples passed are indexed.
 -- From the law of one tuple more, and the laws of tuples that stand one after the other.
 use mathlib.Core.Path.{_≡_}
 use Prim.Native.Nat.{suc, _+_, _-_, _*_, _≤_, _<_}
@@ -26,19 +26,19 @@ within c =
     let s = c .before .before .before in
     let l = c .before .loop in
     let i : l .g - s .args .start < s .args .end - s .args .start = omega (arith, l .inv .0, c .loop-test .taken) in
-    omega (arith, row-within (l .g - s .args .start) (s .args .end - s .args .start) (s .args .width) i, l .inv .1 .1 .0, s .pre .1 .1 .1 .1)
+    omega (arith, row-within (l .g - s .args .start) (s .args .end - s .args .start) (s .args .width) i, l .inv .1 .1 .0, s .pre .1 .1)
 
 loop-holds : tie.Need-loop-holds Inv-loop μ-loop
 loop-holds c =
     let s = c .before in
     let z : s .args .start - s .args .start ≡ 0 = omega arith in
-    (omega arith, (omega arith, (rw z (omega arith), (s .pre .0, (λ p e. e, λ h l k. absurd (omega arith))))))
+    (omega arith, (omega arith, (rw z (omega arith), (s .pre .0 .0, (λ p e. e, λ h l k. absurd (omega arith))))))
 
 index-tuple-requires : tie.Need-index-tuple-requires Inv-loop μ-loop
 index-tuple-requires c κs =
     let turn = c .before in
     let s = turn .before .before .before in
-    (turn .before .loop .inv .1 .1 .1 .0, (within turn, (s .pre .1 .1 .1 .0, omega (arith, turn .loop-test .taken, s .pre .1 .1 .0))))
+    (turn .before .loop .inv .1 .1 .1 .0, (within turn, (s .pre .1 .0, omega (arith, turn .loop-test .taken, s .pre .0 .1 .1))))
 
 add-p : tie.Need-add-p Inv-loop μ-loop
 add-p c = let w = within (c .before .before) in omega arith

@@ -3,7 +3,7 @@
 use mathlib.Core.Path.{_≡_, ap₂, _∙_}
 use mathlib.Core.Bool.{_&&_}
 use mathlib.Core.List.{List}
-use Prim.Native.Nat.{ℕ, _+_, _-_, _*_, _/_, _%_, _≤_, _<_}
+use Prim.Native.Nat.{ℕ, _+_, _-_, _*_, _/_, _≤_, _<_}
 use native.Mathlib.Omega.{arith}
 use borrow.Author.Needs.{needs}
 use Rattle.model.specs.LiveWords.{isLive}
@@ -12,7 +12,7 @@ use Rattle.narrowing.proofs.Words.{kept-on, kept-inner, kept-stays, sta
 use Rattle.narrowing.proofs.keep.Statement.{statement}
 use Rattle.narrowing.proofs.keep.Tie as tie
 
-module _ (w : tie.After-wide4) where
+module _ (w : tie.After-bucket-of) where
   abbrev start : tie.Start
   start = w .before .before .before .before .before
 
@@ -23,7 +23,7 @@ module _ (w : tie.After-wide4) where
   stop = w .before .before .before .wide2 .result
 
   abbrev first : ℕ
-  first = (w .before .wide3 .result * buckets + w .wide4 .result % buckets) * 64
+  first = (w .before .wide3 .result * buckets + w .bucket-of .result) * 64
 
   -- there are ids to narrow
   some : begin < stop
@@ -34,7 +34,7 @@ module _ (w : tie.After-wide4) where
   done n after h f g =
       let a = start .args in
       let l : 64 * (begin / 64) ≤ begin = omega arith in
-      kept-stays (a .index .now) first begin stop (a .column) (a .value) (begin / 64) n (a .words .now) after (ap₂ (λ (x y : ℕ). (x * buckets + y % buckets) * 64) (w .before .wide3 .ensures .0) (w .wide4 .ensures .0)) l h f g
+      kept-stays (a .index .now) first begin stop (a .column) (a .value) (begin / 64) n (a .words .now) after (ap₂ (λ (x y : ℕ). (x * buckets + y) * 64) (w .before .wide3 .ensures .0) (w .bucket-of .ensures)) l h f g
       ∙ ap₂ (λ (x y : ℕ). isLive (a .words .now) g && stays (isIndexed (a .index .now) (a .column) (bucketOf (a .value))) x y g) (w .before .before .before .before .wide .ensures .0) (w .before .before .before .wide2 .ensures .0)
 
 returns : tie.Need-returns

@@ -1,174 +1,82 @@
 -- `narrow` hands `narrow_columns` the parts of the lists where tuple x of relation r and the scope and ids of relation s lie.
--- From the laws of a network's tables, and the law of a relation narrowed for a tuple.
-use mathlib.Core.Path.{_≡_, sym, ap, subst, _∙_}
+-- From the laws of places, and the law of a relation narrowed for a tuple.
+use mathlib.Core.Path.{_≡_, sym, _∙_}
 use mathlib.Core.List.{List}
-use Prim.Native.Nat.{ℕ, _+_, _-_, _≤_}
+use Prim.Native.Nat.{ℕ, _-_, _≤_}
 use native.Mathlib.Omega.{arith}
-use lib.ListN.{length, getD, take, drop}
+use lib.ListN.{length, take, drop}
 use borrow.Author.Needs.{needs}
 use Rattle.model.specs.Network.{Network}
-use Rattle.model.specs.Agreement.{cells, agreeing}
+use Rattle.model.specs.Agreement.{cells}
 use Rattle.model.proofs.Agreement.{cellsOf-at}
-use Rattle.network.specs.declared.agreement.Place.{Place}
-use Rattle.network.specs.Layout.{tabled, placeAt}
-use Rattle.network.proofs.Places.{Within, below-limit, rises, place-within, place-lengths, place-cells}
-use Rattle.narrowing.specs.Index.{Narrows, Agreeing}
-use Rattle.narrowing.proofs.Tables.{first-at, end-at, scope-rises, ids-few, part-rises, part-within, part-scope, part-few}
+use Rattle.layout.specs.declared.Place.{Place}
+use Rattle.layout.specs.Setting.{Lists, networkIn}
+use Rattle.layout.proofs.Framed.{tuple-start, tuple-end, ids-few}
+use Rattle.layout.proofs.Places.{Within, below-limit, place-within, place-lengths, place-cells, place-rises, place-inside, place-scope, place-few}
 use Rattle.narrowing.proofs.Narrowing.{narrows-agreeing}
 use Rattle.narrowing.proofs.narrow.Statement.{statement}
 use Rattle.narrowing.proofs.narrow.Tie as tie
 
-abbrev network : tie.Start → Network
-network c = tabled (c .args .variables .now) (c .args .values .now) (c .args .variable-starts .now) (c .args .value-starts .now)
+abbrev given : tie.Start → Lists
+given s = record { variables = s .args .variables .now; values = s .args .values .now; starts = s .args .starts .now }
 
-first : (c : tie.After-place-of2) → Within (network (c .before .before .before .before)) (c .before .before .before .before .args .variable-starts .now) (c .before .before .before .before .args .value-starts .now) (c .before .before .before .before .pre .1 .0) (c .before .before .before .before .args .r) (c .before .before .before .before .args .x) (c .before .before .before .before .pre .1 .1 .1 .1 .0) (c .before .place-of .result)
-first c =
-    let start = c .before .before .before .before in
-    let a = start .args in
-    place-within (network start) (a .variable-starts .now) (a .value-starts .now) (start .pre .1 .0) (a .r) (a .x) (start .pre .1 .1 .1 .1 .0) (c .before .place-of .result) (c .before .place-of .ensures)
+abbrev start : tie.After-place-of2 → tie.Start
+start c = c .before .before .before .before
 
-second : (c : tie.After-place-of2) → (c .place-of2 .result .scope ≤ c .place-of2 .result .«scope_end») × (c .place-of2 .result .«scope_end» ≤ length (c .before .before .before .before .args .variables .now))
+first : (c : tie.After-place-of2) → Within (start c .pre .1 .0 .laid) (start c .args .r) (start c .args .x) (start c .pre .1 .0 .own) (c .before .place-of .result)
+first c = place-within (start c .pre .1 .0 .laid) (start c .args .r) (start c .args .x) (start c .pre .1 .0 .own) (c .before .place-of .result) (c .before .place-of .ensures)
+
+second : (c : tie.After-place-of2) → (c .place-of2 .result .scope ≤ c .place-of2 .result .«scope_end») × (c .place-of2 .result .«scope_end» ≤ length (start c .args .variables .now))
 second c =
-    let start = c .before .before .before .before in
-    let a = start .args in
-    let N = network start in
-    let vs = a .variable-starts .now in
-    let ts = a .tuple-starts .now in
-    let ws = a .value-starts .now in (
-      part-rises N vs ts ws (start .pre .1 .0) (start .pre .1 .1 .0) (a .s) (start .pre .1 .1 .1 .1 .1) (c .place-of2 .result) 0 (c .place-of2 .ensures),
-      part-within N vs ts ws (start .pre .1 .0) (start .pre .1 .1 .0) (a .s) (start .pre .1 .1 .1 .1 .1) (c .place-of2 .result) 0 (c .place-of2 .ensures),
+    let s = start c in (
+      place-rises (s .pre .1 .0 .laid) (s .args .s) (s .pre .1 .1) (c .place-of2 .result) 0 (c .place-of2 .ensures),
+      place-inside (s .pre .1 .0 .laid) (s .args .s) (s .pre .1 .1) (c .place-of2 .result) 0 (c .place-of2 .ensures),
     )
-
--- the parts narrowed are the relation narrowed for the tuple
-agreeing-narrowed : (start : tie.Start) →
-    let a = start .args in
-    let N = network start in
-    let vs = a .variable-starts .now in
-    let ts = a .tuple-starts .now in
-    let ws = a .value-starts .now in
-    (p : Place) → p ≡ placeAt vs ws (a .r) (a .x) → (q : Place) → q ≡ placeAt vs ws (a .s) 0 → (k : ℕ) → k ≡ a .s → (after : List ℕ) →
-    Narrows (λ (b : List ℕ). agreeing (cells (take (p .«scope_end» - p .scope) (drop (p .scope) (N .variables))) (take (p .«tuple_end» - p .tuple) (drop (p .tuple) (N .values)))) (cells (take (q .«scope_end» - q .scope) (drop (q .scope) (N .variables))) b)) (length (take (q .«scope_end» - q .scope) (drop (q .scope) (N .variables)))) (a .index .now) (getD ts k 0) (getD ts (k + 1) 0) (a .words .now) after →
-    Agreeing N (a .r) (a .x) (a .s) (a .words .now) after
-agreeing-narrowed start p e q f k h after n =
-    let a = start .args in
-    let N = network start in
-    let vs = a .variable-starts .now in
-    let ts = a .tuple-starts .now in
-    let ws = a .value-starts .now in
-    let laid = start .pre .1 .0 in
-    let tuples = start .pre .1 .1 .0 in
-    let x = start .pre .1 .1 .1 .1 .0 in
-    let s = start .pre .1 .1 .1 .1 .1 in
-    narrows-agreeing N vs ws laid (a .index .now) (start .pre .1 .1 .1 .0) (a .r) (a .x) (a .s) (getD ts k 0) (getD ts (k + 1) 0)
-    (ap (λ (i : ℕ). getD ts i 0) h ∙ first-at N vs ts ws laid tuples (a .s) s)
-    (ap (λ (i : ℕ). getD ts (i + 1) 0) h ∙ end-at N vs ts ws laid tuples (a .s) s)
-    (cells (take (p .«scope_end» - p .scope) (drop (p .scope) (N .variables))) (take (p .«tuple_end» - p .tuple) (drop (p .tuple) (N .values))))
-    (place-cells N vs ws laid (a .r) (a .x) x p e ∙ sym (cellsOf-at N (a .r) (a .x) x))
-    (take (q .«scope_end» - q .scope) (drop (q .scope) (N .variables)))
-    (part-scope N vs ts ws laid tuples (a .s) s q 0 f)
-    (a .words .now) after n
-
-place-of-requires : tie.Need-place-of-requires
-place-of-requires c κs =
-    let start = c .before .before in
-    let a = start .args in (
-      below-limit (network start) (a .variable-starts .now) (a .value-starts .now) (start .pre .1 .0) (a .r) (a .x) (start .pre .1 .1 .1 .1 .0),
-      rises (network start) (a .variable-starts .now) (a .value-starts .now) (start .pre .1 .0) (a .r) (a .x) (start .pre .1 .1 .1 .1 .0),
-    )
-
-place-of-requires-2 : tie.Need-place-of-requires-2
-place-of-requires-2 c κs =
-    let start = c .before .before .before in
-    let a = start .args in (
-      start .pre .1 .1 .1 .1 .1,
-      scope-rises (network start) (a .variable-starts .now) (a .tuple-starts .now) (a .value-starts .now) (start .pre .1 .0) (start .pre .1 .1 .0) (a .s) (start .pre .1 .1 .1 .1 .1),
-    )
-
-mul-narrow-columns : tie.Need-mul-narrow-columns
-mul-narrow-columns c = let l = first (c .before) in omega arith
-
-sub-narrow-columns : tie.Need-sub-narrow-columns
-sub-narrow-columns c = let l = first (c .before) in omega arith
-
-part-narrow-columns-start : tie.Need-part-narrow-columns-start
-part-narrow-columns-start c = let l = first (c .before) in omega arith
-
-part-narrow-columns-end : tie.Need-part-narrow-columns-end
-part-narrow-columns-end c = let l = first (c .before) in omega arith
-
-mul-narrow-columns-2 : tie.Need-mul-narrow-columns-2
-mul-narrow-columns-2 c = let l = first (c .before .before) in omega arith
-
-sub-narrow-columns-2 : tie.Need-sub-narrow-columns-2
-sub-narrow-columns-2 c = let l = first (c .before .before) in omega arith
-
-part-narrow-columns-start-2 : tie.Need-part-narrow-columns-start-2
-part-narrow-columns-start-2 c = let l = first (c .before .before) in omega arith
-
-part-narrow-columns-end-2 : tie.Need-part-narrow-columns-end-2
-part-narrow-columns-end-2 c = let l = first (c .before .before) in omega arith
-
-mul-narrow-columns-3 : tie.Need-mul-narrow-columns-3
-mul-narrow-columns-3 c = let l = second (c .before .before .before) in omega arith
-
-sub-narrow-columns-3 : tie.Need-sub-narrow-columns-3
-sub-narrow-columns-3 c = let l = second (c .before .before .before) in omega arith
-
-part-narrow-columns-start-3 : tie.Need-part-narrow-columns-start-3
-part-narrow-columns-start-3 c = let l = second (c .before .before .before) in omega arith
-
-part-narrow-columns-end-3 : tie.Need-part-narrow-columns-end-3
-part-narrow-columns-end-3 c = let l = second (c .before .before .before) in omega arith
 
 narrow-columns-requires : tie.Need-narrow-columns-requires
 narrow-columns-requires c κs =
-    let wide = c .before .before .before .before .before .before in
-    let places = wide .before in
-    let start = places .before .before .before .before in
-    let a = start .args in
-    let N = network start in
-    let vs = a .variable-starts .now in
-    let ts = a .tuple-starts .now in
-    let ws = a .value-starts .now in
-    let e = wide .wide .ensures .0 in (
-      start .pre .0,
+    let places = c .before .before .before .before .before .before in
+    let s = start places in (
+      s .pre .0,
       (
-        place-lengths N vs ws (start .pre .1 .0) (a .r) (a .x) (start .pre .1 .1 .1 .1 .0) (places .before .place-of .result) (places .before .place-of .ensures),
+        place-lengths (s .pre .1 .0 .laid) (s .args .r) (s .args .x) (s .pre .1 .0 .own) (places .before .place-of .result) (places .before .place-of .ensures),
         (
-          subst (λ (k : ℕ). getD ts (k + 1) 0 ≤ 4096) (sym e) (ids-few N vs ts ws (start .pre .1 .0) (start .pre .1 .1 .0) (a .s) (start .pre .1 .1 .1 .1 .1)),
-          part-few N vs ts ws (start .pre .1 .0) (start .pre .1 .1 .0) (a .s) (start .pre .1 .1 .1 .1 .1) (places .place-of2 .result) 0 (places .place-of2 .ensures),
+          omega (arith, c .before .before .before .before .tuple-start2 .ensures, ids-few (s .pre .1 .0 .laid .framed) (s .args .s) (s .pre .1 .1)),
+          place-few (s .pre .1 .0 .laid) (s .args .s) (s .pre .1 .1) (places .place-of2 .result) 0 (places .place-of2 .ensures),
         ),
       ),
     )
 
+-- the parts narrowed are the relation narrowed for the tuple
 returns : tie.Need-returns
 returns c =
-    let wide = c .before .before .before .before .before .before .before in
-    let places = wide .before in
-    let start = places .before .before .before .before in (
+    let ids = c .before .before .before .before .before in
+    let places = ids .before .before in
+    let s = start places in
+    let a = s .args in
+    let p = places .before .place-of .result in
+    let q = places .place-of2 .result in
+    let laid = s .pre .1 .0 .laid in (
       c .narrow-columns .ensures .0,
-      agreeing-narrowed start (places .before .place-of .result) (places .before .place-of .ensures) (places .place-of2 .result) (places .place-of2 .ensures) (wide .wide .result) (wide .wide .ensures .0) (c .narrow-columns .last .1 .1 .1 .1 .0) (c .narrow-columns .ensures .1),
+      narrows-agreeing laid (a .index .now) (s .pre .1 .0 .indexed) (a .r) (a .x) (a .s) (ids .before .tuple-start .result) (ids .tuple-start2 .result)
+          (ids .before .tuple-start .ensures ∙ tuple-start (laid .framed) (a .s) (omega (arith, s .pre .1 .1)))
+          (ids .tuple-start2 .ensures ∙ tuple-end (laid .framed) (a .s) (s .pre .1 .1))
+          (cells (take (p .«scope_end» - p .scope) (drop (p .scope) (a .variables .now))) (take (p .«tuple_end» - p .tuple) (drop (p .tuple) (a .values .now))))
+          (place-cells laid (a .r) (a .x) (s .pre .1 .0 .own) p (places .before .place-of .ensures) ∙ sym (cellsOf-at (networkIn (given s)) (a .r) (a .x) (s .pre .1 .0 .own)))
+          (take (q .«scope_end» - q .scope) (drop (q .scope) (a .variables .now)))
+          (place-scope laid (a .s) (s .pre .1 .1) q 0 (places .place-of2 .ensures))
+          (a .words .now) (c .narrow-columns .last .1 .1 .1 .1 .0) (c .narrow-columns .ensures .1),
     )
 
 pub narrow-spec : {M : Type 1} → statement M
 narrow-spec =
     tie.close
     (tie.spec
-    place-of-requires
-    place-of-requires-2
-    (λ c κs. search needs)
-    mul-narrow-columns
-    sub-narrow-columns
-    part-narrow-columns-start
-    part-narrow-columns-end
-    mul-narrow-columns-2
-    sub-narrow-columns-2
-    part-narrow-columns-start-2
-    part-narrow-columns-end-2
-    mul-narrow-columns-3
-    sub-narrow-columns-3
-    part-narrow-columns-start-3
-    part-narrow-columns-end-3
-    (λ c. search needs) (λ c. search needs) (λ c. search needs) (λ c. search needs) (λ c. search needs)
+    (λ c κs. let s = c .before .before in (s .pre .1 .0 .laid .framed, below-limit (s .pre .1 .0 .laid) (s .args .r) (s .args .x) (s .pre .1 .0 .own)))
+    (λ c κs. let s = c .before .before .before in (s .pre .1 .0 .laid .framed, s .pre .1 .1))
+    (λ c κs. search needs) (λ c. search needs) (λ c κs. search needs)
+    (λ c. omega (arith, first (c .before .before))) (λ c. omega (arith, first (c .before .before))) (λ c. omega (arith, first (c .before .before))) (λ c. omega (arith, first (c .before .before)))
+    (λ c. omega (arith, first (c .before .before .before))) (λ c. omega (arith, first (c .before .before .before))) (λ c. omega (arith, first (c .before .before .before))) (λ c. omega (arith, first (c .before .before .before)))
+    (λ c. omega (arith, second (c .before .before .before .before))) (λ c. omega (arith, second (c .before .before .before .before))) (λ c. omega (arith, second (c .before .before .before .before))) (λ c. omega (arith, second (c .before .before .before .before)))
     narrow-columns-requires
     returns)

@@ -1,12 +1,13 @@
 -- `narrow_column` narrows where scope a has the variable, and changes nothing where it does not.
--- From what `column_of` and `keep` ensure, and what a shared variable tells.
-use mathlib.Core.Path.{_∙_, sym}
+-- From what `column_of` and `keep` ensure, and that tuples which agree have fitting values under a shared variable.
+use mathlib.Core.Path.{_≡_, _∙_, sym, subst}
 use mathlib.Core.List.{List}
-use Prim.Native.Nat.{ℕ}
+use Prim.Native.Nat.{ℕ, _<_}
 use lib.ListN.{length, getD}
 use borrow.Author.Needs.{needs}
 use Rattle.model.specs.Agreement.{cells, agreeing}
-use Rattle.narrowing.proofs.Narrowing.{narrows-none, narrows-keep, same-value}
+use Rattle.layout.proofs.Columns.{column-found}
+use Rattle.narrowing.proofs.Narrowing.{narrows-none, narrows-keep, values-fit}
 use Rattle.narrowing.proofs.narrow_column.Statement.{statement}
 use Rattle.narrowing.proofs.narrow_column.Tie as tie
 
@@ -26,7 +27,7 @@ returns-2 c =
       c .keep .ensures .0,
       λ scope h e.
           narrows-keep (λ (b : List ℕ). agreeing (cells (a .scope-a .now) (a .a .now)) (cells scope b)) (length scope) (a .index .now) (a .start) (a .end) (a .column) (getD (a .a .now) i 0) (a .words .now) (c .keep .last .1 .0) h
-          (same-value (a .scope-a .now) (a .a .now) scope i (a .column) (s .pre .1 .0) (found .if1 .left) h (found .before .column-of .ensures (found .if1 .left) ∙ sym e))
+          (values-fit (a .scope-a .now) (a .a .now) scope i (a .column) (s .pre .1 .0) (found .if1 .left) h (subst (λ (k : ℕ). getD (a .scope-a .now) k 0 ≡ a .v) (sym (found .before .column-of .ensures)) (column-found (a .v) (a .scope-a .now) (subst (λ (k : ℕ). k < length (a .scope-a .now)) (found .before .column-of .ensures) (found .if1 .left))) ∙ sym e))
           (c .keep .ensures .1),
     )
 

@@ -10,26 +10,26 @@ use borrow.Author.Needs.{needs}
 use borrow.Author.Tests.{not-true}
 use Rattle.model.specs.Network.{Network, firstId}
 use Rattle.model.proofs.Bools.{not-both}
-use Rattle.network.specs.Layout.{tabled}
+use Rattle.layout.specs.Setting.{networkIn}
 use Rattle.narrowing.specs.Index.{Narrowed, Later}
 use Rattle.narrowing.proofs.Narrowing.{narrowed-none, narrowed-on, narrowed-one}
 use Rattle.narrowing.proofs.narrow_members.Statement.{statement}
 use Rattle.narrowing.proofs.narrow_members.Tie as tie
 
 abbrev Inv-loop : tie.InvT-loop
-Inv-loop variables values variable-starts tuple-starts value-starts index words₀ members place k r x j₀ words j =
-    let N = tabled variables values variable-starts value-starts in
+Inv-loop variables values starts index words₀ members place k r x j₀ words j =
+    let N = networkIn (record { variables = variables; values = values; starts = starts }) in
     (k ≤ j) × ((length words ≡ 64) × Narrowed N (firstId N r + x) words₀ words)
 
 abbrev μ-loop : tie.MeasureT-loop
-μ-loop variables values variable-starts tuple-starts value-starts index words₀ members place k r x j₀ words j =
+μ-loop variables values starts index words₀ members place k r x j₀ words j =
     length members - j
 
 abbrev start : tie.At-loop Inv-loop μ-loop → tie.Start Inv-loop μ-loop
 start c = c .before .before .before .before
 
 abbrev network : tie.Start Inv-loop μ-loop → Network
-network s = tabled (s .args .variables .now) (s .args .values .now) (s .args .variable-starts .now) (s .args .value-starts .now)
+network s = networkIn (record { variables = s .args .variables .now; values = s .args .values .now; starts = s .args .starts .now })
 
 -- the tuple that is narrowed for
 abbrev own : tie.Start Inv-loop μ-loop → ℕ
@@ -45,7 +45,7 @@ later c =
     }
 
 abbrev after : tie.After-narrow-member Inv-loop μ-loop → List ℕ
-after n = n .narrow-member .last .1 .1 .1 .1 .1 .1 .0
+after n = n .narrow-member .last .1 .1 .1 .1 .0
 
 -- .. and narrowed
 one-more : (n : tie.After-narrow-member Inv-loop μ-loop) → let l = n .before .before .before .before .before in Narrowed (network (start l)) (own (start l)) (start l .args .words .now) (after n)
@@ -55,7 +55,7 @@ one-more n =
     let s = start l in
     let N = network s in
     narrowed-on N (own s) (s .args .words .now) (l .loop .words) (after n) (l .loop .inv .1 .1)
-    (narrowed-one N (s .args .r) (s .args .x) (getD (s .args .members .now) (l .loop .j) 0) (s .pre .1 .1 .1 .1 .0) (s .pre .1 .1 .1 .1 .1 .other (l .loop .j) (later turn)) (l .loop .words) (after n) (n .narrow-member .ensures .1 .0))
+    (narrowed-one N (s .args .r) (s .args .x) (getD (s .args .members .now) (l .loop .j) 0) (s .pre .1 .0 .own) (s .pre .1 .1 .other (l .loop .j) (later turn)) (l .loop .words) (after n) (n .narrow-member .ensures .1 .0))
 
 loop-holds : tie.Need-loop-holds Inv-loop μ-loop
 loop-holds c =
@@ -66,16 +66,8 @@ narrow-member-requires : tie.Need-narrow-member-requires Inv-loop μ-loop
 narrow-member-requires c κs =
     let turn = c .before .before in
     let l = turn .before .before in
-    let s = start l in (
-      l .loop .inv .1 .0,
-      (
-        s .pre .1 .0,
-        (
-          s .pre .1 .1 .0,
-          (s .pre .1 .1 .1 .0, (s .pre .1 .1 .1 .1 .0, s .pre .1 .1 .1 .1 .1 .few (l .loop .j) (later turn))),
-        ),
-      ),
-    )
+    let s = start l in
+    (l .loop .inv .1 .0, (s .pre .1 .0, s .pre .1 .1 .few (l .loop .j) (later turn)))
 
 returns : tie.Need-returns Inv-loop μ-loop
 returns c =
