@@ -1,7 +1,7 @@
 -- Laws of the tuples chosen so far, and of the test of the next one.
 -- From the definitions of `chosenIds` and `fits`, and the laws of lists and of ids.
 use mathlib.Core.Path.{_≡_, refl, sym, _∙_, ap, ap₂}
-use mathlib.Core.Bool.{Bool, true, false, _&&_, and-false}
+use mathlib.Core.Bool.{Bool, true, false}
 use mathlib.Core.List.{List, [], _∷_, _++_, map, map-append, List·Memᴰ, Memᴰ·map}
 use Prim.Native.Nat.{ℕ, zero, suc, _+_, _≤_, _<_}
 use native.Mathlib.Nat.{zero-add}
@@ -9,10 +9,9 @@ use native.Mathlib.Numerals.{add-one}
 use native.Mathlib.Omega.{arith}
 use lib.ListN.{length, getD, take, set}
 use lib.Seq.{take-suc, getD-set-same, getD-set-other}
-use borrow.Author.Tests.{eq-eqb, ne-eqb}
 use Rattle.model.specs.Lists.{from, all}
 use Rattle.model.specs.Network.{Network, size, firstId, idsOf, indexOf}
-use Rattle.model.specs.Agreement.{Cell, cellsOf, agreeing, agree}
+use Rattle.model.specs.Agreement.{agree}
 use Rattle.model.specs.Combination.{Combination}
 use Rattle.model.proofs.Bools.{and-intro, not-both}
 use Rattle.model.proofs.Lists.{all-at, all-append, mem-from, from-append, map-from-same, Picks, done, pick, picks-append}
@@ -72,28 +71,30 @@ chosen-set N c chosen k x h =
 
 -- ---- The test
 
-module _ (N : Network) (c : Combination) (seeker : List Cell) (place k : ℕ) (chosen : List ℕ) (x : ℕ) where
-  pub fits-own : k ≡ place → fits N c seeker place k chosen x ≡ true
+module _ (N : Network) (c : Combination) (place own k : ℕ) (chosen : List ℕ) (x : ℕ) where
+  abbrev agrees : ℕ → Bool
+  agrees y = agree N y (idAt N c k x)
+
+  abbrev fixed : List ℕ
+  fixed = idAt N c place own ∷ chosenIds N c chosen k
+
+  -- one of them clashes
+  pub fits-clash : (y : ℕ) → List·Memᴰ y fixed → agrees y ≡ false → fits N c place own k chosen x ≡ false
   unfolding fits
-  fits-own e = rw (eq-eqb k place e)
+  fits-clash y m e = not-all (all agrees fixed) refl
+    where
+      not-all : (b : Bool) → all agrees fixed ≡ b → b ≡ false
+      not-all true q = absurd (not-both (all-at agrees fixed q m) e)
+      not-all false q = refl
 
-  module _ (d : k ≡ place → ⊥) where
-    pub fits-other : fits N c seeker place k chosen x ≡ (agreeing seeker (cellsOf N (idAt N c k x)) && all (λ (y : ℕ). agree N y (idAt N c k x)) (chosenIds N c chosen k))
-    unfolding fits
-    fits-other = rw (ne-eqb k place d)
+  pub fits-all : agrees (idAt N c place own) ≡ true → all agrees (chosenIds N c chosen k) ≡ true → fits N c place own k chosen x ≡ true
+  unfolding fits
+  fits-all e f = and-intro e f
 
-    pub fits-clash : agreeing seeker (cellsOf N (idAt N c k x)) ≡ false → fits N c seeker place k chosen x ≡ false
-    fits-clash e = fits-other ∙ ap (λ (b : Bool). b && all (λ (y : ℕ). agree N y (idAt N c k x)) (chosenIds N c chosen k)) e
+  pub fits-each : fits N c place own k chosen x ≡ true → all agrees fixed ≡ true
+  unfolding fits
+  fits-each e = e
 
-    pub fits-clash-chosen : (j : ℕ) → j < k → agree N (idAt N c j (getD chosen j 0)) (idAt N c k x) ≡ false → fits N c seeker place k chosen x ≡ false
-    fits-clash-chosen j h e =
-        fits-other
-        ∙ ap (λ (b : Bool). agreeing seeker (cellsOf N (idAt N c k x)) && b) (not-all (all (λ (y : ℕ). agree N y (idAt N c k x)) (chosenIds N c chosen k)) refl)
-        ∙ and-false (agreeing seeker (cellsOf N (idAt N c k x)))
-      where
-        not-all : (b : Bool) → all (λ (y : ℕ). agree N y (idAt N c k x)) (chosenIds N c chosen k) ≡ b → b ≡ false
-        not-all true q = absurd (not-both (all-at (λ (y : ℕ). agree N y (idAt N c k x)) (chosenIds N c chosen k) q (chosen-mem N c chosen k j h)) e)
-        not-all false q = refl
-
-    pub fits-all : agreeing seeker (cellsOf N (idAt N c k x)) ≡ true → all (λ (y : ℕ). agree N y (idAt N c k x)) (chosenIds N c chosen k) ≡ true → fits N c seeker place k chosen x ≡ true
-    fits-all e f = fits-other ∙ ap₂ (λ (a b : Bool). a && b) e f
+  pub fits-none : fits N c place own k chosen x ≡ false → all agrees fixed ≡ false
+  unfolding fits
+  fits-none e = e

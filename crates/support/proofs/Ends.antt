@@ -6,25 +6,25 @@ use mathlib.Core.Option.{Option, none, some}
 use mathlib.Core.List.{List, map, List·Memᴰ}
 use Prim.Native.Nat.{ℕ, _<_}
 use native.Mathlib.Omega.{arith}
-use lib.ListN.{length, take, drop}
+use lib.ListN.{length, take}
 use lib.Seq.{drop-length}
 use Rattle.model.specs.Lists.{earlier}
-use Rattle.model.specs.Network.{total, idsOf, indexOf}
+use Rattle.model.specs.Network.{total, indexOf}
 use Rattle.model.specs.TupleSet.{has}
-use Rattle.model.specs.Support.{supportFrom, completion}
+use Rattle.model.specs.Support.{supportFrom}
 use Rattle.model.proofs.Bools.{not-both}
 use Rattle.model.proofs.Lists.{all-at, earlier-take, later-earlier}
 use Rattle.model.proofs.Support.{isSupport-intro, isSupport-self, isSupport-live}
 use Rattle.model.proofs.Search.{completion-start, completion-done, supportFrom-some}
-use Rattle.support.specs.Search.{Search, network, live, idAt, seeker, Ready, chosenIds, Begun}
+use Rattle.support.specs.Search.{Search, netOf, liveOf, idAt, seeker, SoundSearch, chosenIds, Prefix, sought}
 use Rattle.support.proofs.Chosen.{chosen-mem, chosen-indices}
 use Rattle.support.proofs.Walk.{member-within}
 
 -- ---- No member has its tuple yet
 
-pub begun-none : (Q : Search) (chosen : List ℕ) → Begun Q 0 true chosen
+pub prefix-none : (Q : Search) (chosen : List ℕ) → Prefix Q 0 true chosen
 unfolding chosenIds
-begun-none Q chosen =
+prefix-none Q chosen =
     record {
       depth = omega arith;
       within = λ j l. absurd (omega arith);
@@ -37,42 +37,42 @@ begun-none Q chosen =
     }
 
 -- what there is to find then is the first support at or after the bound
-pub sought-first : (Q : Search) (chosen : List ℕ) → completion (network Q) (live Q) (seeker Q) (Q .low) (chosenIds (network Q) (Q .members) chosen 0) (map (idsOf (network Q)) (drop 0 (Q .members))) ≡ supportFrom (network Q) (live Q) (Q .members) (seeker Q) (Q .low)
+pub sought-first : (Q : Search) (chosen : List ℕ) → sought Q 0 chosen ≡ supportFrom (netOf Q) (liveOf Q) (Q .members) (seeker Q) (Q .low)
 unfolding chosenIds
-sought-first Q chosen = completion-start (network Q) (live Q) (seeker Q) (Q .low) (Q .members)
+sought-first Q chosen = completion-start (netOf Q) (liveOf Q) (seeker Q) (Q .low) (Q .members)
 
 -- ---- Every member has its tuple
 
-module _ (Q : Search) (R : Ready Q) (resumes : Bool) (chosen : List ℕ) (sized : length chosen ≡ 4) where
+module _ (Q : Search) (R : SoundSearch Q) (resumes : Bool) (chosen : List ℕ) (sized : length chosen ≡ 4) where
   abbrev all-ids : List ℕ
-  all-ids = chosenIds (network Q) (Q .members) chosen (length (Q .members))
+  all-ids = chosenIds (netOf Q) (Q .members) chosen (length (Q .members))
 
-  late : (b : Bool) → resumes ≡ b → Begun Q (length (Q .members)) resumes chosen → earlier (take (length (Q .members)) chosen) (Q .low) ≡ false
+  late : (b : Bool) → resumes ≡ b → Prefix Q (length (Q .members)) resumes chosen → earlier (take (length (Q .members)) chosen) (Q .low) ≡ false
   late true e B = ap (λ (is : List ℕ). earlier is (Q .low)) (B .at-low e) ∙ earlier-take (length (Q .members)) (Q .low)
   late false e B = later-earlier (take (length (Q .members)) chosen) (Q .low) (B .past-low e)
 
-  pub turn-done : (k : ℕ) → k ≡ length (Q .members) → Begun Q k resumes chosen → completion (network Q) (live Q) (seeker Q) (Q .low) (chosenIds (network Q) (Q .members) chosen k) (map (idsOf (network Q)) (drop k (Q .members))) ≡ some (take (length (Q .members)) chosen)
+  pub turn-done : (k : ℕ) → k ≡ length (Q .members) → Prefix Q k resumes chosen → sought Q k chosen ≡ some (take (length (Q .members)) chosen)
   turn-done k e B₀ =
-      let N = network Q in
+      let N = netOf Q in
       let c = Q .members in
-      let B : Begun Q (length c) resumes chosen = subst (λ (j : ℕ). Begun Q j resumes chosen) e B₀ in
+      let B : Prefix Q (length c) resumes chosen = subst (λ (j : ℕ). Prefix Q j resumes chosen) e B₀ in
       let names : map (indexOf N) all-ids ≡ take (length c) chosen = chosen-indices N c chosen (length c) (omega (arith, R .few)) (B .within) in
       let own-in : List·Memᴰ (seeker Q) all-ids = subst (λ (x : ℕ). List·Memᴰ (idAt N c (Q .place) x) all-ids) (B .own (R .place)) (chosen-mem N c chosen (length c) (Q .place) (R .place)) in
       rw (e, drop-length c)
-      (completion-done N (live Q) (seeker Q) (Q .low) all-ids (isSupport-intro N (live Q) (seeker Q) all-ids own-in (B .live) (B .pairs))
+      (completion-done N (liveOf Q) (seeker Q) (Q .low) all-ids (isSupport-intro N (liveOf Q) (seeker Q) all-ids own-in (B .live) (B .pairs))
       (ap (λ (is : List ℕ). earlier is (Q .low)) names ∙ late resumes refl B)
       ∙ ap {B = Option (List ℕ)} some names)
 
 -- ---- The seeking tuple is dead
 
-pub seeker-below : (Q : Search) → Ready Q → seeker Q < total (network Q)
+pub seeker-below : (Q : Search) → SoundSearch Q → seeker Q < total (netOf Q)
 seeker-below Q R = omega (arith, R .own, member-within Q R (Q .place) (R .place))
 
-pub sought-dead : (Q : Search) → has (live Q) (seeker Q) ≡ false → supportFrom (network Q) (live Q) (Q .members) (seeker Q) (Q .low) ≡ none
-sought-dead Q d = go (supportFrom (network Q) (live Q) (Q .members) (seeker Q) (Q .low)) refl
+pub sought-dead : (Q : Search) → has (liveOf Q) (seeker Q) ≡ false → supportFrom (netOf Q) (liveOf Q) (Q .members) (seeker Q) (Q .low) ≡ none
+sought-dead Q d = go (supportFrom (netOf Q) (liveOf Q) (Q .members) (seeker Q) (Q .low)) refl
   where
-    go : (o : Option (List ℕ)) → supportFrom (network Q) (live Q) (Q .members) (seeker Q) (Q .low) ≡ o → supportFrom (network Q) (live Q) (Q .members) (seeker Q) (Q .low) ≡ none
+    go : (o : Option (List ℕ)) → supportFrom (netOf Q) (liveOf Q) (Q .members) (seeker Q) (Q .low) ≡ o → supportFrom (netOf Q) (liveOf Q) (Q .members) (seeker Q) (Q .low) ≡ none
     go none e = e
     go (some is) e =
-        let S = supportFrom-some (network Q) (live Q) (seeker Q) (Q .low) (Q .members) is e in
-        absurd (not-both (all-at (has (live Q)) (S .0) (isSupport-live (network Q) (live Q) (seeker Q) (S .0) (S .2)) (isSupport-self (network Q) (live Q) (seeker Q) (S .0) (S .2))) d)
+        let S = supportFrom-some (netOf Q) (liveOf Q) (seeker Q) (Q .low) (Q .members) is e in
+        absurd (not-both (all-at (has (liveOf Q)) (S .0) (isSupport-live (netOf Q) (liveOf Q) (seeker Q) (S .0) (S .2)) (isSupport-self (netOf Q) (liveOf Q) (seeker Q) (S .0) (S .2))) d)

@@ -1,7 +1,8 @@
--- The laws of the crate's definitions, and of one member's turn in the search.
+-- The laws of the search.
 pub mod Chosen
+pub mod Prefix
 pub mod Walk
-pub mod Ends
-pub mod Turn
-pub mod Narrow
 pub mod Own
+pub mod Turn
+pub mod Ends
+pub mod Narrow

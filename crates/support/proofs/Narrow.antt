@@ -19,19 +19,17 @@ use Rattle.model.proofs.Network.{index-bounds, ids-below}
 use Rattle.model.proofs.LiveWords.{living-length, living-has}
 use Rattle.model.proofs.Search.{completion-bare}
 use Rattle.model.proofs.Narrowing.{Narrower, narrow-all, completion-narrow, supportFrom-narrow}
-use Rattle.narrowing.specs.Marks.{Later, Others, Narrowed, Bare}
-use Rattle.support.specs.Search.{Search, searching, network, live, seeker, Ready, chosenIds, Begun}
+use Rattle.narrowing.specs.Index.{Later, Others, Narrowed, Bare}
+use Rattle.support.specs.Search.{Search, netOf, liveOf, seeker, SoundSearch, chosenIds, Prefix, sought}
 use Rattle.support.proofs.Walk.{members-apart, few-tuples, member-below}
 use Rattle.support.proofs.Ends.{sought-first}
-use Rattle.support.proofs.Turn.{sought}
 
 -- the search on other words
 abbrev pub onWords : Search → List ℕ → Search
-onWords Q words =
-    searching (Q .variables) (Q .values) (Q .variableStarts) (Q .tupleStarts) (Q .valueStarts) words (Q .members) (Q .place) (Q .own) (Q .low)
+onWords Q words = record { lists = Q .lists; words = words; members = Q .members; place = Q .place; own = Q .own; low = Q .low }
 
 -- the members from k on, but the seeking tuple's own, are other relations than the member at i
-pub others : (Q : Search) → Ready Q → (i k : ℕ) → i < length (Q .members) → ((j : ℕ) → Later (Q .members) (Q .place) k j → i ≡ j → ⊥) → Others (Q .members) (Q .place) k (getD (Q .members) i 0)
+pub others : (Q : Search) → SoundSearch Q → (i k : ℕ) → i < length (Q .members) → ((j : ℕ) → Later (Q .members) (Q .place) k j → i ≡ j → ⊥) → Others (Q .members) (Q .place) k (getD (Q .members) i 0)
 others Q R i k h apart =
     record {
       few = λ j l. member-below Q R j (l .inside);
@@ -40,19 +38,19 @@ others Q R i k h apart =
 
 -- A search may go on over fewer words: those of its live tuples that agree with tuple y are all there.
 pub record Fewer (Q : Search) (y : ℕ) (words : List ℕ) : Type 0 where
-  pub ready : Ready Q
+  pub ready : SoundSearch Q
   pub sized : length words ≡ 64
-  pub narrower : Narrower (network Q) y (live Q) (live (onWords Q words))
+  pub narrower : Narrower (netOf Q) y (liveOf Q) (liveOf (onWords Q words))
 
 -- ---- Its own words narrowed
 
-module _ (Q : Search) (R : Ready Q) (y : ℕ) (after : List ℕ) (W : Narrowed (network Q) y (Q .words) after) where
-  id-below : (ws : List ℕ) (g : ℕ) → has (living (total (network Q)) ws) g ≡ true → g < total (network Q)
-  id-below ws g e = subst (λ (n : ℕ). g < n) (living-length (total (network Q)) ws) (has-below (living (total (network Q)) ws) g e)
+module _ (Q : Search) (R : SoundSearch Q) (y : ℕ) (after : List ℕ) (W : Narrowed (netOf Q) y (Q .words) after) where
+  id-below : (ws : List ℕ) (g : ℕ) → has (living (total (netOf Q)) ws) g ≡ true → g < total (netOf Q)
+  id-below ws g e = subst (λ (n : ℕ). g < n) (living-length (total (netOf Q)) ws) (has-below (living (total (netOf Q)) ws) g e)
 
-  keeps : (g : ℕ) → has (live Q) g ≡ true → agree (network Q) y g ≡ true → has (live (onWords Q after)) g ≡ true
+  keeps : (g : ℕ) → has (liveOf Q) g ≡ true → agree (netOf Q) y g ≡ true → has (liveOf (onWords Q after)) g ≡ true
   keeps g e a =
-      let N = network Q in
+      let N = netOf Q in
       let b = id-below (Q .words) g e in
       let first = firstId N (relationOf N g) in
       let i = index-bounds N g b in
@@ -64,7 +62,7 @@ module _ (Q : Search) (R : Ready Q) (y : ℕ) (after : List ℕ) (W : Narrowed (
 
   pub fewer-words : length after ≡ 64 → Fewer Q y after
   fewer-words sized =
-      let n = total (network Q) in
+      let n = total (netOf Q) in
       record {
         ready = R;
         sized = sized;
@@ -82,12 +80,11 @@ module _ {Q : Search} {y : ℕ} {words : List ℕ} (F : Fewer Q y words) where
   abbrev narrowed : Search
   narrowed = onWords Q words
 
-  pub ready-narrowed : Ready narrowed
+  pub ready-narrowed : SoundSearch narrowed
   ready-narrowed =
       let R = F .ready in
       record {
         laid = R .laid;
-        tuples = R .tuples;
         words = rw (F .sized) (few-tuples Q R);
         members = R .members;
         few = R .few;
@@ -98,9 +95,9 @@ module _ {Q : Search} {y : ℕ} {words : List ℕ} (F : Fewer Q y words) where
       }
 
   -- where a member has no live tuple left, there is nothing to find
-  pub sought-bare : (k : ℕ) (chosen : List ℕ) → Bare (network Q) (Q .members) (Q .place) k words → sought narrowed k chosen ≡ none
+  pub sought-bare : (k : ℕ) (chosen : List ℕ) → Bare (netOf Q) (Q .members) (Q .place) k words → sought narrowed k chosen ≡ none
   sought-bare k chosen E =
-      let N = network Q in
+      let N = netOf Q in
       let c = Q .members in
       let s = getD c (E .j) 0 in
       let later = map (idsOf N) (drop k c) in
@@ -110,7 +107,7 @@ module _ {Q : Search} {y : ℕ} {words : List ℕ} (F : Fewer Q y words) where
       getD-map-in (idsOf N) (drop k c) (E .j - k) 0 [] (omega (arith, length-drop k c, E .later .from-k, E .later .inside))
       ∙ ap (idsOf N) (getD-drop k c (E .j - k) 0 ∙ ap (λ (i : ℕ). getD c i 0) is-at)
       in
-      completion-bare N (live narrowed) (seeker Q) (Q .low) (chosenIds N c chosen k) later (E .j - k) (omega (arith, long, E .later .from-k, E .later .inside))
+      completion-bare N (liveOf narrowed) (seeker Q) (Q .low) (chosenIds N c chosen k) later (E .j - k) (omega (arith, long, E .later .from-k, E .later .inside))
       (λ x m.
       let i : List·Memᴰ x (idsOf N s) = subst (List·Memᴰ x) is-s m in
       let b = from-mem (firstId N s) (size N s) x i in
@@ -120,14 +117,14 @@ module _ {Q : Search} {y : ℕ} {words : List ℕ} (F : Fewer Q y words) where
 
   -- ---- Narrowed for a tuple chosen
 
-  module _ (k : ℕ) (chosen : List ℕ) (m : List·Memᴰ y (chosenIds (network Q) (Q .members) chosen k)) where
-    pub begun-narrowed : (resumes : Bool) → Begun Q k resumes chosen → Begun narrowed k resumes chosen
-    begun-narrowed resumes B =
+  module _ (k : ℕ) (chosen : List ℕ) (m : List·Memᴰ y (chosenIds (netOf Q) (Q .members) chosen k)) where
+    pub prefix-narrowed : (resumes : Bool) → Prefix Q k resumes chosen → Prefix narrowed k resumes chosen
+    prefix-narrowed resumes B =
         record {
           depth = B .depth;
           within = B .within;
           own = B .own;
-          live = narrow-all (network Q) y (live Q) (live narrowed) (F .narrower) (chosenIds (network Q) (Q .members) chosen k) m (B .pairs) (B .live);
+          live = narrow-all (netOf Q) y (liveOf Q) (liveOf narrowed) (F .narrower) (chosenIds (netOf Q) (Q .members) chosen k) m (B .pairs) (B .live);
           pairs = B .pairs;
           seeker = B .seeker;
           at-low = B .at-low;
@@ -136,16 +133,16 @@ module _ {Q : Search} {y : ℕ} {words : List ℕ} (F : Fewer Q y words) where
 
     pub sought-narrowed : sought narrowed k chosen ≡ sought Q k chosen
     sought-narrowed =
-        completion-narrow (network Q) y (live Q) (live narrowed) (F .narrower) (seeker Q) (Q .low) (chosenIds (network Q) (Q .members) chosen k) (map (idsOf (network Q)) (drop k (Q .members))) m
+        completion-narrow (netOf Q) y (liveOf Q) (liveOf narrowed) (F .narrower) (seeker Q) (Q .low) (chosenIds (netOf Q) (Q .members) chosen k) (map (idsOf (netOf Q)) (drop k (Q .members))) m
 
   -- ---- Narrowed for the seeking tuple
 
   module _ (is-seeker : y ≡ seeker Q) (chosen : List ℕ) where
-    pub sought-all : sought narrowed 0 chosen ≡ supportFrom (network Q) (live Q) (Q .members) (seeker Q) (Q .low)
+    pub sought-all : sought narrowed 0 chosen ≡ supportFrom (netOf Q) (liveOf Q) (Q .members) (seeker Q) (Q .low)
     sought-all =
         sought-first narrowed chosen
-        ∙ subst (λ (g : ℕ). supportFrom (network Q) (live narrowed) (Q .members) g (Q .low) ≡ supportFrom (network Q) (live Q) (Q .members) g (Q .low)) is-seeker
-        (supportFrom-narrow (network Q) y (live Q) (live narrowed) (F .narrower) (Q .members) (Q .low))
+        ∙ subst (λ (g : ℕ). supportFrom (netOf Q) (liveOf narrowed) (Q .members) g (Q .low) ≡ supportFrom (netOf Q) (liveOf Q) (Q .members) g (Q .low)) is-seeker
+        (supportFrom-narrow (netOf Q) y (liveOf Q) (liveOf narrowed) (F .narrower) (Q .members) (Q .low))
 
-    pub seeker-narrowed : has (live Q) (seeker Q) ≡ true → has (live narrowed) (seeker Q) ≡ true
-    seeker-narrowed = subst (λ (g : ℕ). has (live Q) g ≡ true → has (live narrowed) g ≡ true) is-seeker (F .narrower .itself)
+    pub seeker-narrowed : has (liveOf Q) (seeker Q) ≡ true → has (liveOf narrowed) (seeker Q) ≡ true
+    seeker-narrowed = subst (λ (g : ℕ). has (liveOf Q) g ≡ true → has (liveOf narrowed) g ≡ true) is-seeker (F .narrower .itself)

@@ -1,126 +1,139 @@
 -- Laws of the seeking tuple's own member: this tuple is chosen for it, and what there is to find stays.
--- From the laws of a member's turn, whose walk there goes over this tuple alone.
+-- From the law of one tuple more, and that no other tuple of this member leads to a support.
 use mathlib.Core.Path.{_≡_, refl, sym, _∙_, ap, subst}
 use mathlib.Core.Bool.{Bool, true, false, _&&_, and-true}
 use mathlib.Core.Option.{Option, none, some, orElse}
-use mathlib.Core.List.{List, map}
+use mathlib.Core.List.{List, [], _∷_, _++_, map, map-append, Memᴰ·append-right}
 use Prim.Native.Nat.{ℕ, suc, _+_, _-_, _≤_, _<_}
+use native.Mathlib.Numerals.{add-one}
 use native.Mathlib.Omega.{arith}
-use lib.Dec.{eqb}
-use lib.ListN.{length, getD, drop, set, length-set}
-use lib.Seq.{getD-set-other}
+use lib.Dec.{ltb, eqb}
+use lib.ListN.{length, getD, take, drop, set, length-set, take-append-drop}
+use lib.Seq.{getD-set-other, take-suc, drop-cons}
 use borrow.Author.Tests.{eq-eqb, eqb-true, eqb-false}
-use Rattle.model.specs.Network.{total, firstId, idsOf}
-use Rattle.model.specs.Agreement.{cellsOf}
+use Rattle.model.specs.Lists.{from, pairwise}
+use Rattle.model.specs.Network.{Network, size, firstId, idsOf, relationOf}
+use Rattle.model.specs.Agreement.{agree}
 use Rattle.model.specs.TupleSet.{has}
-use Rattle.model.specs.LiveWords.{isLive}
-use Rattle.model.proofs.LiveWords.{living-has}
-use Rattle.model.proofs.Search.{reach-step, reach-none}
+use Rattle.model.specs.Support.{completion}
+use Rattle.model.proofs.Lists.{here, all-at, mem-from, picks-append, pick, done}
+use Rattle.model.proofs.Network.{relationOf-at}
+use Rattle.model.proofs.Agreement.{agree-sym}
+use Rattle.model.proofs.Search.{completion-other, reach-cut, reach-skip, reach-step, reach-none}
 use Rattle.support.specs.declared.Stage.{Stage}
-use Rattle.support.specs.Search.{Search, network, live, seeker, Ready, chosenIds, Begun, pastOwn, fits}
-use Rattle.support.proofs.Chosen.{fits-own}
-use Rattle.support.proofs.Walk.{member-start, member-within, span, span-inside, walk-whole}
-use Rattle.support.proofs.Turn.{sought, onward, Turn, come-more, onward-more}
+use Rattle.support.specs.Search.{Search, netOf, liveOf, seeker, SoundSearch, chosenIds, Prefix, pastOwn, sought}
+use Rattle.support.proofs.Chosen.{chosen-picks}
+use Rattle.support.proofs.Prefix.{ids-more, prefix-next}
+use Rattle.support.proofs.Walk.{rises}
 
 or-else-none : (o : Option (List ℕ)) → orElse o none ≡ o
 unfolding orElse
 or-else-none none = refl
 or-else-none (some x) = refl
 
-module _ (Q : Search) (R : Ready Q) (resumes : Bool) (chosen : List ℕ) (sized : length chosen ≡ 4) (low-sized : length (Q .low) ≡ 4) (lively : has (live Q) (seeker Q) ≡ true) (k : ℕ) (e : k ≡ Q .place) (B : Begun Q k resumes chosen) where
-  inside : k < length (Q .members)
-  inside = rw e (R .place)
+module _ (Q : Search) (R : SoundSearch Q) (resumes : Bool) (chosen : List ℕ) (sized : length chosen ≡ 4) (low-sized : length (Q .low) ≡ 4) (lively : has (liveOf Q) (seeker Q) ≡ true) (k : ℕ) (e : k ≡ Q .place) (B : Prefix Q k resumes chosen) where
+  abbrev N : Network
+  N = netOf Q
+
+  abbrev c : List ℕ
+  c = Q .members
+
+  abbrev rel : ℕ
+  rel = getD c k 0
 
   abbrev first : ℕ
-  first = span Q k resumes .first
+  first = firstId N rel
 
-  abbrev begin : ℕ
-  begin = span Q k resumes .start
+  abbrev ids : List ℕ
+  ids = chosenIds N c chosen k
 
-  abbrev end : ℕ
-  end = span Q k resumes .end
+  abbrev later : List (List ℕ)
+  later = map (idsOf N) (drop (suc k) c)
 
-  turn : Turn Q k resumes chosen first begin end
-  turn = record { ready = R; begun = B; inside = inside; sized = sized; low-sized = low-sized; is-first = refl; is-begin = refl; is-end = refl }
+  inside : k < length c
+  inside = rw e (R .place)
 
-  -- the walk goes over this tuple alone
-  begin-is : begin ≡ first + Q .own
-  begin-is = rw (eq-eqb k (Q .place) e) refl
+  own-below : Q .own < size N rel
+  own-below = rw e (R .own)
 
-  end-is : end ≡ begin + 1
-  end-is = rw (eq-eqb k (Q .place) e) refl
+  seeker-is : seeker Q ≡ first + Q .own
+  seeker-is = ap (λ (j : ℕ). firstId N (getD c j 0) + Q .own) (sym e)
 
-  own-index : begin - first ≡ Q .own
-  own-index = let b = begin-is in omega arith
+  -- ---- The tuple chosen
 
-  alone : begin < end
-  alone = let n = end-is in omega arith
-
-  seeker-is : begin ≡ seeker Q
-  seeker-is =
-      begin-is
-      ∙ ap (λ (n : ℕ). n + Q .own) (member-start Q R k inside)
-      ∙ ap (λ (j : ℕ). firstId (network Q) (getD (Q .members) j 0) + Q .own) e
-
-  lives : isLive (Q .words) begin ≡ true
-  lives =
-      let i = span-inside Q k R inside resumes in
-      sym (living-has (total (network Q)) (Q .words) begin (omega (arith, alone, i .to-end, member-within Q R k inside)))
-      ∙ ap (has (live Q)) seeker-is
-      ∙ lively
-
-  -- and what there is to find is what is found onward from it
-  sought-onward : sought Q k chosen ≡ onward Q k chosen begin
-  sought-onward =
-      let later = map (idsOf (network Q)) (drop (suc k) (Q .members)) in
-      let ids = chosenIds (network Q) (Q .members) chosen k in
-      let n = end-is in
-      sym (walk-whole Q k R inside resumes chosen B sized low-sized)
-      ∙ reach-step (network Q) (live Q) (seeker Q) (Q .low) ids later begin end alone
-      ∙ ap (orElse (onward Q k chosen begin)) (reach-none (network Q) (live Q) (seeker Q) (Q .low) ids later (suc begin) end (omega arith))
-      ∙ or-else-none (onward Q k chosen begin)
-
-  own-fits : fits (network Q) (Q .members) (cellsOf (network Q) (seeker Q)) (Q .place) k chosen (begin - first) ≡ true
-  own-fits = fits-own (network Q) (Q .members) (cellsOf (network Q) (seeker Q)) (Q .place) k chosen (begin - first) e
-
-  goes-on : (resumes && eqb (begin - first) (getD (Q .low) k 0)) ≡ resumes
+  goes-on : (resumes && eqb (Q .own) (getD (Q .low) k 0)) ≡ resumes
   goes-on =
       let l : getD (Q .low) k 0 ≡ Q .own = ap (λ (j : ℕ). getD (Q .low) j 0) e ∙ R .low-own in
-      ap (λ (b : Bool). resumes && b) (eq-eqb (begin - first) (getD (Q .low) k 0) (own-index ∙ sym l)) ∙ and-true resumes
+      ap (λ (b : Bool). resumes && b) (eq-eqb (Q .own) (getD (Q .low) k 0) (sym l)) ∙ and-true resumes
 
-  own-begun : Begun Q (k + 1) resumes (set chosen k (Q .own))
-  own-begun =
-      subst (λ (x : ℕ). Begun Q (k + 1) resumes (set chosen k x)) own-index
-      (subst (λ (on : Bool). Begun Q (k + 1) on (set chosen k (begin - first))) goes-on
-      (come-more turn begin (omega arith) alone lives own-fits))
+  own-prefix : Prefix Q (k + 1) resumes (set chosen k (Q .own))
+  own-prefix =
+      rw add-one
+      (subst (λ (on : Bool). Prefix Q (suc k) on (set chosen k (Q .own))) goes-on
+      (prefix-next R B inside sized low-sized (Q .own)
+      (record {
+        below = own-below;
+        own = λ _. refl;
+        lives = ap (has (liveOf Q)) (sym seeker-is) ∙ lively;
+        agrees = λ y m. ap (agree N y) (sym seeker-is) ∙ agree-sym N y (seeker Q) ∙ all-at (agree N (seeker Q)) ids (B .seeker (omega arith)) m;
+        agrees-seeker = λ l. absurd (omega arith);
+        low = λ q. let l : getD (Q .low) k 0 ≡ Q .own = ap (λ (j : ℕ). getD (Q .low) j 0) e ∙ R .low-own in omega arith;
+      })))
+
+  -- ---- What there is to find
+
+  -- another tuple of the member leads to nothing
+  nowhere-other : (x : ℕ) → first ≤ x → x < first + size N rel → (x ≡ seeker Q → ⊥) → completion N (liveOf Q) (seeker Q) (Q .low) (ids ++ (x ∷ [])) later ≡ none
+  nowhere-other x l h d =
+      let i : x ≡ first + (x - first) = omega arith in
+      let rx : relationOf N x ≡ rel = ap (relationOf N) i ∙ relationOf-at N rel (x - first) (omega arith) in
+      let rg : relationOf N (seeker Q) ≡ rel = relationOf-at N (getD c (Q .place) 0) (Q .own) (R .own) ∙ ap (λ (j : ℕ). getD c j 0) (sym e) in
+      let p = picks-append (chosen-picks N c chosen k (B .depth) (B .within)) (pick (mem-from first (size N rel) x l h) done) in
+      completion-other N (liveOf Q) (seeker Q) (Q .low) (take (suc k) c) (drop (suc k) c) (ids ++ (x ∷ []))
+      (ap (pairwise ltb) (take-append-drop (suc k) c) ∙ rises Q R)
+      (rw (take-suc c k 0 inside, map-append (idsOf N) (take k c) (rel ∷ [])) p)
+      (Memᴰ·append-right ids here) (rx ∙ sym rg) d
 
   own-sought : sought Q (k + 1) (set chosen k (Q .own)) ≡ sought Q k chosen
   own-sought =
-      ap (λ (x : ℕ). sought Q (k + 1) (set chosen k x)) (sym own-index)
-      ∙ onward-more turn begin (omega arith) alone
-      ∙ sym sought-onward
+      let own = first + Q .own in
+      let end = first + size N rel in
+      let n : end - first ≡ size N rel = omega arith in
+      let b = own-below in
+      let s = seeker-is in
+      sym
+      (rw (drop-cons c k 0 inside)
+      (ap (λ (m : ℕ). completion N (liveOf Q) (seeker Q) (Q .low) ids (from first m ∷ later)) (sym n)
+      ∙ reach-cut N (liveOf Q) (seeker Q) (Q .low) ids later first (suc own) end (omega arith) (omega arith)
+      (λ x h. nowhere-other x (omega (arith, h .0)) (h .1) (λ d. omega (arith, h .0)))
+      ∙ reach-skip N (liveOf Q) (seeker Q) (Q .low) ids later first own (suc own) (omega arith) (omega arith)
+      (λ x h. nowhere-other x (h .0) (omega (arith, h .1)) (λ d. omega (arith, h .1)))
+      ∙ reach-step N (liveOf Q) (seeker Q) (Q .low) ids later own (suc own) (omega arith)
+      ∙ ap (orElse (completion N (liveOf Q) (seeker Q) (Q .low) (ids ++ (own ∷ [])) later)) (reach-none N (liveOf Q) (seeker Q) (Q .low) ids later (suc own) (suc own) (omega arith))
+      ∙ or-else-none (completion N (liveOf Q) (seeker Q) (Q .low) (ids ++ (own ∷ [])) later)
+      ∙ sym (rw (add-one, ids-more R B inside sized low-sized (Q .own)) refl)))
 
 -- ---- The next stage
 
 -- Stage s follows from the tuples chosen for the members before k: it is another member's turn, or all have their tuples.
-pub record Staged (Q : Search) (resumes : Bool) (k : ℕ) (chosen : List ℕ) (s : Stage) : Type 0 where
-  pub begun : Begun Q (s .k) resumes (s .chosen)
+pub record NextStage (Q : Search) (resumes : Bool) (k : ℕ) (chosen : List ℕ) (s : Stage) : Type 0 where
+  pub prefix : Prefix Q (s .k) resumes (s .chosen)
   pub same : sought Q (s .k) (s .chosen) ≡ sought Q k chosen
   pub other : s .k ≡ Q .place → ⊥
   pub forth : k ≤ s .k
   pub sized : length (s .chosen) ≡ 4
   pub kept : (j : ℕ) → j < k → getD (s .chosen) j 0 ≡ getD chosen j 0
 
-pub staged : (Q : Search) → Ready Q → (resumes : Bool) (k : ℕ) (chosen : List ℕ) → length chosen ≡ 4 → length (Q .low) ≡ 4 → has (live Q) (seeker Q) ≡ true → Begun Q k resumes chosen → (s : Stage) → s ≡ pastOwn (Q .place) (Q .own) k chosen → Staged Q resumes k chosen s
-staged Q R resumes k chosen sized low-sized lively B s e = go (eqb k (Q .place)) refl
+pub next-stage : (Q : Search) → SoundSearch Q → (resumes : Bool) (k : ℕ) (chosen : List ℕ) → length chosen ≡ 4 → length (Q .low) ≡ 4 → has (liveOf Q) (seeker Q) ≡ true → Prefix Q k resumes chosen → (s : Stage) → s ≡ pastOwn (Q .place) (Q .own) k chosen → NextStage Q resumes k chosen s
+next-stage Q R resumes k chosen sized low-sized lively B s e = go (eqb k (Q .place)) refl
   where
-    go : (b : Bool) → eqb k (Q .place) ≡ b → Staged Q resumes k chosen s
+    go : (b : Bool) → eqb k (Q .place) ≡ b → NextStage Q resumes k chosen s
     go true q =
         let p = eqb-true k (Q .place) q in
         let is : s ≡ record { k = k + 1; chosen = set chosen k (Q .own) } = rw q at e in
         rw is
         (record {
-          begun = own-begun Q R resumes chosen sized low-sized lively k p B;
+          prefix = own-prefix Q R resumes chosen sized low-sized lively k p B;
           same = own-sought Q R resumes chosen sized low-sized lively k p B;
           other = λ f. omega arith;
           forth = omega arith;
@@ -129,4 +142,4 @@ staged Q R resumes k chosen sized low-sized lively B s e = go (eqb k (Q .place))
         })
     go false q =
         let is : s ≡ record { k = k; chosen = chosen } = rw q at e in
-        rw is (record { begun = B; same = refl; other = eqb-false k (Q .place) q; forth = omega arith; sized = sized; kept = λ j l. refl })
+        rw is (record { prefix = B; same = refl; other = eqb-false k (Q .place) q; forth = omega arith; sized = sized; kept = λ j l. refl })

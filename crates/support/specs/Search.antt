@@ -1,59 +1,49 @@
 -- What the search for a support asks of its lists, what it knows of the tuples chosen so far, and what its answer stands for.
 use mathlib.Core.Path.{_≡_}
-use mathlib.Core.Bool.{Bool, true, false, _&&_, _||_, cond}
+use mathlib.Core.Bool.{Bool, true, false, cond}
 use mathlib.Core.Option.{Option, none, some}
-use mathlib.Core.List.{List, map}
+use mathlib.Core.List.{List, _∷_, map}
 use Prim.Native.Nat.{ℕ, _+_, _*_, _≤_, _<_}
 use lib.Dec.{eqb}
-use lib.ListN.{length, getD, take, set}
+use lib.ListN.{length, getD, take, drop, set}
 use Rattle.model.specs.Limits.{wordBits, maxMembers}
 use Rattle.model.specs.Lists.{from, all, pairwise, earlier}
-use Rattle.model.specs.Network.{Network, size, total, firstId, tuplesIn}
-use Rattle.model.specs.Agreement.{Cell, cellsOf, agreeing, agree}
+use Rattle.model.specs.Network.{Network, size, total, firstId, idsOf}
+use Rattle.model.specs.Agreement.{agree}
 use Rattle.model.specs.TupleSet.{TupleSet, has}
 use Rattle.model.specs.Combination.{Combination}
+use Rattle.model.specs.Support.{supportFrom, completion}
 use Rattle.model.specs.LiveWords.{living}
 use Rattle.model.specs.Fault.{properMembers}
-use Rattle.network.specs.Layout.{tabled, Laid, starts}
+use Rattle.layout.specs.Starts.{tupleStart}
+use Rattle.layout.specs.Setting.{Lists, lists, networkIn, Laid}
+use Rattle.narrowing.specs.Index.{Indexed}
+use Rattle.support.specs.declared.Found.{Found}
 use Rattle.support.specs.declared.Span.{Span}
 use Rattle.support.specs.declared.Stage.{Stage}
 
 -- ---- The search
 
--- A search: a network's lists and tables, the live words, the members, and the tuple `own` of the member at `place`,
--- which seeks a support at or after `low`.
+-- A search: a network's lists, the live words, the members, and the tuple `own` of the member at `place`, which seeks a support at or
+-- after `low`.
 pub record Search : Type 0 where
-  pub variables : List ℕ
-  pub values : List ℕ
-  pub variableStarts : List ℕ
-  pub tupleStarts : List ℕ
-  pub valueStarts : List ℕ
+  pub lists : Lists
   pub words : List ℕ
   pub members : Combination
   pub place : ℕ
   pub own : ℕ
   pub low : List ℕ
 
-abbrev pub searching : List ℕ → List ℕ → List ℕ → List ℕ → List ℕ → List ℕ → Combination → ℕ → ℕ → List ℕ → Search
-searching variables values variableStarts tupleStarts valueStarts words members place own low =
-    record {
-      variables = variables;
-      values = values;
-      variableStarts = variableStarts;
-      tupleStarts = tupleStarts;
-      valueStarts = valueStarts;
-      words = words;
-      members = members;
-      place = place;
-      own = own;
-      low = low;
-    }
+-- the search that references lend at a moment: `searching now ..` in a requires, `searching entry ..` in an ensures
+abbrev pub searching : {A : Type 0} → (A → List ℕ) → A → A → A → A → A → ℕ → ℕ → List ℕ → Search
+searching at variables values starts words members place own low =
+    record { lists = lists at variables values starts; words = at words; members = at members; place = place; own = own; low = low }
 
-abbrev pub network : Search → Network
-network Q = tabled (Q .variables) (Q .values) (Q .variableStarts) (Q .valueStarts)
+abbrev pub netOf : Search → Network
+netOf Q = networkIn (Q .lists)
 
-abbrev pub live : Search → TupleSet
-live Q = living (total (network Q)) (Q .words)
+abbrev pub liveOf : Search → TupleSet
+liveOf Q = living (total (netOf Q)) (Q .words)
 
 -- the id of tuple x of the member at place j
 abbrev pub idAt : Network → Combination → ℕ → ℕ → ℕ
@@ -61,20 +51,24 @@ idAt N c j x = firstId N (getD c j 0) + x
 
 -- the tuple that seeks a support
 abbrev pub seeker : Search → ℕ
-seeker Q = idAt (network Q) (Q .members) (Q .place) (Q .own)
+seeker Q = idAt (netOf Q) (Q .members) (Q .place) (Q .own)
 
--- What a search asks: the tables of a network without network faults, words for all its tuples, members that exist and
--- rise, the seeking tuple one of its member's, and a bound that has this tuple and otherwise indices, or a member's size.
-pub record Ready (Q : Search) : Type 0 where
-  pub laid : Laid (network Q) (Q .variableStarts) (Q .valueStarts)
-  pub tuples : Q .tupleStarts ≡ starts tuplesIn (network Q .relations)
-  pub words : total (network Q) ≤ wordBits * length (Q .words)
-  pub members : properMembers (network Q) (Q .members) ≡ true
+-- What a search asks: laid lists, words for all tuples, members that exist and rise, the seeking tuple one of its member's, and a bound
+-- that has this tuple and otherwise indices, or a member's size.
+pub record SoundSearch (Q : Search) : Type 0 where
+  pub laid : Laid (Q .lists)
+  pub words : total (netOf Q) ≤ wordBits * length (Q .words)
+  pub members : properMembers (netOf Q) (Q .members) ≡ true
   pub few : length (Q .members) ≤ maxMembers
   pub place : Q .place < length (Q .members)
-  pub own : Q .own < size (network Q) (getD (Q .members) (Q .place) 0)
+  pub own : Q .own < size (netOf Q) (getD (Q .members) (Q .place) 0)
   pub low-own : getD (Q .low) (Q .place) 0 ≡ Q .own
-  pub low-within : (j : ℕ) → j < length (Q .members) → getD (Q .low) j 0 ≤ size (network Q) (getD (Q .members) j 0)
+  pub low-within : (j : ℕ) → j < length (Q .members) → getD (Q .low) j 0 ≤ size (netOf Q) (getD (Q .members) j 0)
+
+-- .. with the value index
+pub record Seeking (Q : Search) (index : List ℕ) : Type 0 where
+  pub sound : SoundSearch Q
+  pub indexed : Indexed (netOf Q) index
 
 -- ---- One member's turn
 
@@ -82,20 +76,23 @@ pub record Ready (Q : Search) : Type 0 where
 unfoldable pub chosenIds : Network → Combination → List ℕ → ℕ → List ℕ
 chosenIds N c chosen k = map (λ (j : ℕ). idAt N c j (getD chosen j 0)) (from 0 k)
 
--- What is known once a tuple is chosen for each of the first k members: they are live and agree with each other, and up
--- to the seeking tuple's place with it; they begin `low` where the search resumes, and are later where it does not.
-pub record Begun (Q : Search) (k : ℕ) (resumes : Bool) (chosen : List ℕ) : Type 0 where
+-- What is known of the tuples chosen for the first k members: they are live and agree with each other, and up to the seeking tuple's
+-- place with it; they begin `low` where the search resumes, and are later where it does not.
+pub record Prefix (Q : Search) (k : ℕ) (resumes : Bool) (chosen : List ℕ) : Type 0 where
   pub depth : k ≤ length (Q .members)
-  pub within : (j : ℕ) → j < k → getD chosen j 0 < size (network Q) (getD (Q .members) j 0)
+  pub within : (j : ℕ) → j < k → getD chosen j 0 < size (netOf Q) (getD (Q .members) j 0)
   pub own : Q .place < k → getD chosen (Q .place) 0 ≡ Q .own
-  pub live : all (has (live Q)) (chosenIds (network Q) (Q .members) chosen k) ≡ true
-  pub pairs : pairwise (agree (network Q)) (chosenIds (network Q) (Q .members) chosen k) ≡ true
-  pub seeker : k ≤ Q .place → all (agree (network Q) (seeker Q)) (chosenIds (network Q) (Q .members) chosen k) ≡ true
+  pub live : all (has (liveOf Q)) (chosenIds (netOf Q) (Q .members) chosen k) ≡ true
+  pub pairs : pairwise (agree (netOf Q)) (chosenIds (netOf Q) (Q .members) chosen k) ≡ true
+  pub seeker : k ≤ Q .place → all (agree (netOf Q) (seeker Q)) (chosenIds (netOf Q) (Q .members) chosen k) ≡ true
   pub at-low : resumes ≡ true → take k chosen ≡ take k (Q .low)
   pub past-low : resumes ≡ false → earlier (Q .low) (take k chosen) ≡ true
 
--- It is the turn of member k, which is not the seeking tuple's own.
-pub record Due (Q : Search) (k : ℕ) : Type 0 where
+-- It is the turn of member k, which is not the seeking tuple's own; the seeking tuple is live.
+pub record SearchAt (Q : Search) (index : List ℕ) (k : ℕ) (resumes : Bool) (chosen : List ℕ) : Type 0 where
+  pub seeking : Seeking Q index
+  pub prefix : Prefix Q k resumes chosen
+  pub lives : has (liveOf Q) (seeker Q) ≡ true
   pub inside : k < length (Q .members)
   pub other : k ≡ Q .place → ⊥
 
@@ -104,31 +101,25 @@ abbrev pub pastOwn : ℕ → ℕ → ℕ → List ℕ → Stage
 pastOwn place own k chosen =
     cond (eqb k place) (record { k = k + 1; chosen = set chosen k own }) (record { k = k; chosen = chosen })
 
--- the ids that a member's walk goes over: the seeking tuple alone, or the relation's tuples from index `from` on where the search resumes
-abbrev pub spanAt : List ℕ → ℕ → Bool → ℕ → Bool → ℕ → Span
-spanAt tupleStarts r alone own resumes from =
-    let first = getD tupleStarts r 0 in
-    record {
-      first = first;
-      start = cond alone (first + own) (cond resumes (first + from) first);
-      end = cond alone (first + own + 1) (getD tupleStarts (r + 1) 0);
-    }
+-- the ids that a member's walk goes over: the relation's tuples, from index `from` on where the search resumes
+abbrev pub spanAt : List ℕ → ℕ → Bool → ℕ → Span
+spanAt starts r resumes from =
+    let first = tupleStart starts r in
+    record { first = first; start = cond resumes (first + from) first; end = tupleStart starts (r + 1) }
 
--- tuple x of member k may be chosen: it is the seeking tuple's own place, or it agrees with the seeking tuple and with all chosen before it
-unfoldable pub fits : Network → Combination → List Cell → ℕ → ℕ → List ℕ → ℕ → Bool
-fits N c seeker place k chosen x =
-    eqb k place
-    || (agreeing seeker (cellsOf N (idAt N c k x)) && all (λ (y : ℕ). agree N y (idAt N c k x)) (chosenIds N c chosen k))
+-- tuple x of member k agrees with the seeking tuple, and with all chosen before it
+unfoldable pub fits : Network → Combination → ℕ → ℕ → ℕ → List ℕ → ℕ → Bool
+fits N c place own k chosen x = all (λ (y : ℕ). agree N y (idAt N c k x)) (idAt N c place own ∷ chosenIds N c chosen k)
 
 -- What the test of tuple x of member k asks.
-pub record Trial (N : Network) (c : Combination) (place own k : ℕ) (chosen : List ℕ) (x : ℕ) : Type 0 where
-  pub other : k ≡ place → ⊥
+pub record Trial (L : Lists) (c : Combination) (place own k : ℕ) (chosen : List ℕ) (x : ℕ) : Type 0 where
+  pub laid : Laid L
   pub inside : k < length c
   pub few : length c ≤ maxMembers
   pub place-in : place < length c
-  pub own-in : own < size N (getD c place 0)
-  pub index : x < size N (getD c k 0)
-  pub within : (j : ℕ) → j < k → getD chosen j 0 < size N (getD c j 0)
+  pub own-in : own < size (networkIn L) (getD c place 0)
+  pub index : x < size (networkIn L) (getD c k 0)
+  pub within : (j : ℕ) → j < k → getD chosen j 0 < size (networkIn L) (getD c j 0)
   pub own-chosen : place < k → getD chosen place 0 ≡ own
 
 -- ---- The answer
@@ -136,3 +127,15 @@ pub record Trial (N : Network) (c : Combination) (place own k : ℕ) (chosen : L
 -- what `ok` and the first m indices stand for
 abbrev pub answer : Bool → List ℕ → Option (List ℕ)
 answer ok tuples = cond ok (some tuples) none
+
+-- what there is to find once the tuples before k are chosen
+abbrev pub sought : Search → ℕ → List ℕ → Option (List ℕ)
+sought Q k chosen =
+    completion (netOf Q) (liveOf Q) (seeker Q) (Q .low) (chosenIds (netOf Q) (Q .members) chosen k) (map (idsOf (netOf Q)) (drop k (Q .members)))
+
+abbrev pub Finds : Search → ℕ → List ℕ → Found → Type 0
+Finds Q k chosen f = answer (f .ok) (take (length (Q .members)) (f .tuples)) ≡ sought Q k chosen
+
+-- .. with nothing chosen yet
+abbrev pub FindsFirst : Search → Found → Type 0
+FindsFirst Q f = answer (f .ok) (take (length (Q .members)) (f .tuples)) ≡ supportFrom (netOf Q) (liveOf Q) (Q .members) (seeker Q) (Q .low)

@@ -17,14 +17,12 @@ use borrow.Fn.PlainCycle.{Measures, is, falls, and}
 use Rattle.model.specs.TupleSet.{has}
 use Rattle.support.specs.declared.Span.{Span}
 use Rattle.model.proofs.LiveWords.{nextLive-first}
-use Rattle.narrowing.specs.Marks.{Marks}
-use Rattle.support.specs.Search.{Search, searching, network, live, idAt, seeker, Ready, chosenIds, Begun, Due, answer}
+use Rattle.support.specs.Search.{Search, netOf, liveOf, idAt, seeker, SoundSearch, chosenIds, Prefix, SearchAt, sought, answer}
 use Rattle.support.proofs.Chosen.{chosen-mem}
 use Rattle.support.proofs.Ends.{turn-done}
-use Rattle.support.proofs.Walk.{span, span-other}
-use Rattle.support.proofs.Own.{Staged, staged}
-use Rattle.support.proofs.Turn.{sought, onward, Come, span-asks, Turn, walk-asks, walk-forward, come-first, come-from, come-none, come-found, come-next, come-lives, index-below, trial, come-clash, onward-more, come-more, agrees-own}
-use Rattle.support.proofs.Narrow.{others, onWords, Fewer, fewer-words, ready-narrowed, sought-bare, begun-narrowed, sought-narrowed}
+use Rattle.support.proofs.Own.{NextStage, next-stage}
+use Rattle.support.proofs.Turn.{onward, WalkAt, span-asks, Turn, walk-asks, walk-forward, come-first, come-from, come-none, come-found, come-next, come-lives, index-below, trial, come-clash, onward-more, come-more, agrees-own}
+use Rattle.support.proofs.Narrow.{others, onWords, Fewer, fewer-words, ready-narrowed, sought-bare, prefix-narrowed, sought-narrowed}
 use Rattle.live.proofs.next.Reads as next-reads
 use Rattle.narrowing.proofs.narrow_members.Reads as narrow-members-reads
 use Rattle.support.proofs.fits.Reads as fits-reads
@@ -38,25 +36,36 @@ use Rattle.support.proofs.+search.Tie.{close}
 
 -- ---- The measure, the invariant and the callees
 
-abbrev μ-search : Measures 8 search-kinds.ps ℕ
-μ-search κs a = length (a .1 .1 .1 .1 .1 .1 .1 .0 .now) - a .1 .1 .1 .1 .1 .1 .1 .1 .1 .1 .1 .0
+abbrev searchOn : List ℕ → List ℕ → List ℕ → List ℕ → List ℕ → ℕ → ℕ → List ℕ → Search
+searchOn variables values starts words members place own low =
+    record {
+      lists = record { variables = variables; values = values; starts = starts };
+      words = words;
+      members = members;
+      place = place;
+      own = own;
+      low = low;
+    }
 
-abbrev search-at : ℕ → In 8 search-kinds.ps
-search-at t = and 8 search-kinds.ps (is 8 search-kinds.ps μ-search t) search′.Pre
+abbrev μ-search : Measures 6 search-kinds.ps ℕ
+μ-search κs a = length (a .1 .1 .1 .1 .1 .0 .now) - a .1 .1 .1 .1 .1 .1 .1 .1 .1 .0
 
-abbrev search-below : ℕ → In 8 search-kinds.ps
-search-below t = and 8 search-kinds.ps (falls 8 search-kinds.ps _<_ μ-search t) search′.Pre
+abbrev search-at : ℕ → In 6 search-kinds.ps
+search-at t = and 6 search-kinds.ps (is 6 search-kinds.ps μ-search t) search′.Pre
+
+abbrev search-below : ℕ → In 6 search-kinds.ps
+search-below t = and 6 search-kinds.ps (falls 6 search-kinds.ps _<_ μ-search t) search′.Pre
 
 abbrev callees : ℕ → search-lts.Claims
 callees t =
     (span-of-reads.Asked, span-of-reads.Learnt, next-reads.Asked, next-reads.Learnt, fits-reads.Asked, fits-reads.Learnt, past-own-reads.Asked, past-own-reads.Learnt, narrow-members-reads.Asked, narrow-members-reads.Learnt, search-below t, search′.Post)
 
 abbrev search-Inv-loop : search-lts.InvT-loop
-search-Inv-loop variables values variable-starts tuple-starts value-starts table words members place own k resumes chosen low lowest r first end g₀ g =
-    Come (searching variables values variable-starts tuple-starts value-starts words members place own low) k resumes chosen g
+search-Inv-loop variables values starts index words members place own k resumes chosen low lowest r first end g₀ g =
+    WalkAt (searchOn variables values starts words members place own low) k resumes chosen g
 
 abbrev search-μ-loop : search-lts.MeasureT-loop
-search-μ-loop variables values variable-starts tuple-starts value-starts table words members place own k resumes chosen low lowest r first end g₀ g = end - g
+search-μ-loop variables values starts index words members place own k resumes chosen low lowest r first end g₀ g = end - g
 
 -- ---- Places on the way
 
@@ -72,64 +81,53 @@ entry t p = p .before .before .before .before .before
 -- what the search is called on
 abbrev searchOf : (t : ℕ) → Entry t → Search
 searchOf t a =
-    searching (a .args .variables .now) (a .args .values .now) (a .args .variable-starts .now) (a .args .tuple-starts .now) (a .args .value-starts .now) (a .args .words .now) (a .args .members .now) (a .args .place) (a .args .own) (a .args .t11)
+    searchOn (a .args .variables .now) (a .args .values .now) (a .args .starts .now) (a .args .words .now) (a .args .members .now) (a .args .place) (a .args .own) (a .args .t9)
 
-abbrev ready : (t : ℕ) (a : Entry t) → Ready (searchOf t a)
-ready t a = a .pre .1 .1 .0
+abbrev at : (t : ℕ) (a : Entry t) → SearchAt (searchOf t a) (a .args .index .now) (a .args .k) (a .args .resumes) (a .args .chosen)
+at t a = a .pre .1 .1
 
-abbrev marks : (t : ℕ) (a : Entry t) → Marks (network (searchOf t a)) (a .args .table .now)
-marks t a = a .pre .1 .1 .1 .0
-
--- the seeking tuple is live
-abbrev lives : (t : ℕ) (a : Entry t) → has (live (searchOf t a)) (seeker (searchOf t a)) ≡ true
-lives t a = a .pre .1 .1 .1 .1 .1 .0
-
-abbrev due : (t : ℕ) (a : Entry t) → Due (searchOf t a) (a .args .k)
-due t a = a .pre .1 .1 .1 .1 .1 .1
+abbrev ready : (t : ℕ) (a : Entry t) → SoundSearch (searchOf t a)
+ready t a = at t a .seeking .sound
 
 chosen-length : (t : ℕ) (a : Entry t) → length (a .args .chosen) ≡ 4
-chosen-length t a = good-length (eInt w16) 4 (a .args .chosen) _ (a .good .1 .1 .1 .1 .1 .1 .1 .1 .1 .1 .1 .1 .1 .0)
+chosen-length t a = good-length (eInt w16) 4 (a .args .chosen) _ (a .good .1 .1 .1 .1 .1 .1 .1 .1 .1 .1 .1 .0)
 
-low-length : (t : ℕ) (a : Entry t) → length (a .args .t11) ≡ 4
-low-length t a = good-length (eInt w16) 4 (a .args .t11) _ (a .good .1 .1 .1 .1 .1 .1 .1 .1 .1 .1 .0)
-
-spans : (t : ℕ) (p : Spanned t) → p .span-of .result ≡ span (searchOf t (entry t p)) (entry t p .args .k) (entry t p .args .resumes)
-spans t p =
-    let a = entry t p in
-    p .span-of .ensures ∙ span-other (searchOf t a) (a .args .k) (a .args .resumes) (due t a .other)
+low-length : (t : ℕ) (a : Entry t) → length (a .args .t9) ≡ 4
+low-length t a = good-length (eInt w16) 4 (a .args .t9) _ (a .good .1 .1 .1 .1 .1 .1 .1 .1 .0)
 
 turn : (t : ℕ) (p : Spanned t) → Turn (searchOf t (entry t p)) (entry t p .args .k) (entry t p .args .resumes) (entry t p .args .chosen) (p .span-of .result .first) (p .span-of .result .start) (p .span-of .result .end)
 turn t p =
     let a = entry t p in
     record {
       ready = ready t a;
-      begun = a .pre .1 .1 .1 .1 .0;
-      inside = due t a .inside;
+      begun = at t a .prefix;
+      inside = at t a .inside;
+      other = at t a .other;
       sized = chosen-length t a;
       low-sized = low-length t a;
-      is-first = ap (λ (s : Span). s .first) (spans t p);
-      is-begin = ap (λ (s : Span). s .start) (spans t p);
-      is-end = ap (λ (s : Span). s .end) (spans t p);
+      is-first = ap (λ (s : Span). s .first) (p .span-of .ensures);
+      is-begin = ap (λ (s : Span). s .start) (p .span-of .ensures);
+      is-end = ap (λ (s : Span). s .end) (p .span-of .ensures);
     }
 
 -- ---- The needs before the loop
 
 search-mul-lowest : (t : ℕ) → search-lts.Need-mul-lowest (callees t) (search-at t) search′.Post search-Inv-loop search-μ-loop
-search-mul-lowest t c = let a = c .before .before .before in omega (arith, ready t a .few, due t a .inside)
+search-mul-lowest t c = let a = c .before .before .before in omega (arith, ready t a .few, at t a .inside)
 
 search-array-read-lowest : (t : ℕ) → search-lts.Need-array-read-lowest (callees t) (search-at t) search′.Post search-Inv-loop search-μ-loop
-search-array-read-lowest t c = let a = c .before .before .before in omega (arith, ready t a .few, due t a .inside)
+search-array-read-lowest t c = let a = c .before .before .before in omega (arith, ready t a .few, at t a .inside)
 
 search-mul-r : (t : ℕ) → search-lts.Need-mul-r (callees t) (search-at t) search′.Post search-Inv-loop search-μ-loop
-search-mul-r t c = let a = c .before .before .before in omega (arith, ready t a .few, due t a .inside)
+search-mul-r t c = let a = c .before .before .before in omega (arith, ready t a .few, at t a .inside)
 
 search-shared-slice-read-r : (t : ℕ) → search-lts.Need-shared-slice-read-r (callees t) (search-at t) search′.Post search-Inv-loop search-μ-loop
-search-shared-slice-read-r t c = due t (c .before .before .before .before) .inside
+search-shared-slice-read-r t c = at t (c .before .before .before .before) .inside
 
 search-span-of-requires : (t : ℕ) → search-lts.Need-span-of-requires (callees t) (search-at t) search′.Post search-Inv-loop search-μ-loop
 search-span-of-requires t c κs =
     let a = c .before .before .before .before in
-    span-asks (searchOf t a) (a .args .k) (ready t a) (due t a .inside)
+    span-asks (searchOf t a) (a .args .k) (ready t a) (at t a .inside)
 
 search-next-requires : (t : ℕ) → search-lts.Need-next-requires (callees t) (search-at t) search′.Post search-Inv-loop search-μ-loop
 search-next-requires t c κs =
@@ -140,7 +138,7 @@ search-loop-holds : (t : ℕ) → search-lts.Need-loop-holds (callees t) (search
 search-loop-holds t c =
     let p = c .before .before in
     let a = entry t p in
-    subst (Come (searchOf t a) (a .args .k) (a .args .resumes) (a .args .chosen)) (sym (c .next .ensures)) (come-first (turn t p))
+    subst (WalkAt (searchOf t a) (a .args .k) (a .args .resumes) (a .args .chosen)) (sym (c .next .ensures)) (come-first (turn t p))
 
 -- ---- The tuple tried, at the loop's turn
 
@@ -158,7 +156,7 @@ search-fits-requires t c κs =
     let l = c .before in
     let p = spanned t l in
     let a = entry t p in
-    (ready t a .laid, trial (turn t p) (l .loop .g) (l .loop .inv .from-start) (c .loop-test .taken) (due t a .other))
+    trial (turn t p) (l .loop .g) (l .loop .inv .from-start) (c .loop-test .taken)
 
 abbrev Tried : ℕ → Type 0
 Tried t = search-lts.After-fits2 (callees t) (search-at t) search′.Post search-Inv-loop search-μ-loop
@@ -199,18 +197,18 @@ asked t c = entry t (spanned t (looping t (tried t c)))
 
 -- the search goes on resuming where it resumes here and the tuple has the bound's index
 abbrev resumed : (t : ℕ) → Chosen t → Bool
-resumed t c = let a = asked t c in a .args .resumes && eqb (indexOf t (tried t c)) (getD (a .args .t11) (a .args .k) 0)
+resumed t c = let a = asked t c in a .args .resumes && eqb (indexOf t (tried t c)) (getD (a .args .t9) (a .args .k) 0)
 
 abbrev more : (t : ℕ) → Chosen t → List ℕ
 more t c = let a = asked t c in set (a .args .chosen) (a .args .k) (indexOf t (tried t c))
 
-stage : (t : ℕ) (c : Chosen t) → let a = asked t c in Staged (searchOf t a) (resumed t c) (a .args .k + 1) (more t c) (c .past-own .result)
+stage : (t : ℕ) (c : Chosen t) → let a = asked t c in NextStage (searchOf t a) (resumed t c) (a .args .k + 1) (more t c) (c .past-own .result)
 stage t c =
     let u = tried t c in
     let l = looping t u in
     let p = spanned t l in
     let a = entry t p in
-    staged (searchOf t a) (ready t a) (resumed t c) (a .args .k + 1) (more t c) (length-set (a .args .chosen) (a .args .k) (indexOf t u) ∙ chosen-length t a) (low-length t a) (lives t a)
+    next-stage (searchOf t a) (ready t a) (resumed t c) (a .args .k + 1) (more t c) (length-set (a .args .chosen) (a .args .k) (indexOf t u) ∙ chosen-length t a) (low-length t a) (at t a .lives)
     (come-more (turn t p) (l .loop .g) (l .loop .inv .from-start) (within t u) (come-lives (turn t p) (l .loop .g) (l .loop .inv) (within t u)) (sym (u .fits2 .ensures) ∙ c .before .if1 .taken))
     (c .past-own .result) (c .past-own .ensures)
 
@@ -235,7 +233,7 @@ search-returns t c =
     let S = stage t b in
     sym
     (come-found (turn t p) (l .loop .g) (l .loop .inv) (within t u) (take (length (a .args .members .now)) (s .chosen))
-    (sym (stage-onward t b) ∙ turn-done (searchOf t a) (ready t a) (resumed t b) (s .chosen) (S .sized) (s .k) (c .if2 .taken) (S .begun)))
+    (sym (stage-onward t b) ∙ turn-done (searchOf t a) (ready t a) (resumed t b) (s .chosen) (S .sized) (s .k) (c .if2 .taken) (S .prefix)))
 
 -- ---- The members still to come, narrowed
 
@@ -249,17 +247,8 @@ search-narrow-members-requires t c κs =
     let S = stage t b in (
       a .pre .1 .0,
       (
-        ready t a .laid,
-        (
-          ready t a .tuples,
-          (
-            marks t a,
-            (
-              index-below (turn t p) (l .loop .g) (l .loop .inv .from-start) (within t u),
-              others (searchOf t a) (ready t a) (a .args .k) (b .past-own .result .k) (due t a .inside) (λ j h e. omega (arith, S .forth, h .from-k)),
-            ),
-          ),
-        ),
+        record { laid = ready t a .laid; indexed = at t a .seeking .indexed; own = index-below (turn t p) (l .loop .g) (l .loop .inv .from-start) (within t u) },
+        others (searchOf t a) (ready t a) (a .args .k) (b .past-own .result .k) (at t a .inside) (λ j h e. omega (arith, S .forth, h .from-k)),
       ),
     )
 
@@ -270,11 +259,11 @@ abbrev chosen : (t : ℕ) → Narrowing t → Chosen t
 chosen t n = n .before .before .before .before .before
 
 abbrev fewer : (t : ℕ) → Narrowing t → List ℕ
-fewer t n = n .narrow-members .last .1 .1 .1 .1 .1 .1 .0
+fewer t n = n .narrow-members .last .1 .1 .1 .1 .0
 
 -- the tuple chosen, for which they are narrowed
 abbrev latest : (t : ℕ) → Narrowing t → ℕ
-latest t n = let a = asked t (chosen t n) in idAt (network (searchOf t a)) (a .args .members .now) (a .args .k) (indexOf t (tried t (chosen t n)))
+latest t n = let a = asked t (chosen t n) in idAt (netOf (searchOf t a)) (a .args .members .now) (a .args .k) (indexOf t (tried t (chosen t n)))
 
 over : (t : ℕ) (n : Narrowing t) → Fewer (searchOf t (asked t (chosen t n))) (latest t n) (fewer t n)
 over t n =
@@ -284,16 +273,16 @@ over t n =
 latest-chosen : (t : ℕ) (n : Narrowing t) →
     let s = chosen t n .past-own .result in
     let a = asked t (chosen t n) in
-    List·Memᴰ (latest t n) (chosenIds (network (searchOf t a)) (a .args .members .now) (s .chosen) (s .k))
+    List·Memᴰ (latest t n) (chosenIds (netOf (searchOf t a)) (a .args .members .now) (s .chosen) (s .k))
 latest-chosen t n =
     let b = chosen t n in
     let s = b .past-own .result in
     let a = asked t b in
     let x = indexOf t (tried t b) in
     let S = stage t b in
-    let e : getD (s .chosen) (a .args .k) 0 ≡ x = S .kept (a .args .k) (omega arith) ∙ getD-set-same (a .args .chosen) (a .args .k) x 0 (omega (arith, chosen-length t a, ready t a .few, due t a .inside)) in
-    subst (λ (i : ℕ). List·Memᴰ (idAt (network (searchOf t a)) (a .args .members .now) (a .args .k) i) (chosenIds (network (searchOf t a)) (a .args .members .now) (s .chosen) (s .k))) e
-    (chosen-mem (network (searchOf t a)) (a .args .members .now) (s .chosen) (s .k) (a .args .k) (omega (arith, S .forth)))
+    let e : getD (s .chosen) (a .args .k) 0 ≡ x = S .kept (a .args .k) (omega arith) ∙ getD-set-same (a .args .chosen) (a .args .k) x 0 (omega (arith, chosen-length t a, ready t a .few, at t a .inside)) in
+    subst (λ (i : ℕ). List·Memᴰ (idAt (netOf (searchOf t a)) (a .args .members .now) (a .args .k) i) (chosenIds (netOf (searchOf t a)) (a .args .members .now) (s .chosen) (s .k))) e
+    (chosen-mem (netOf (searchOf t a)) (a .args .members .now) (s .chosen) (s .k) (a .args .k) (omega (arith, S .forth)))
 
 -- what there is to find among them is what there is to find onward
 narrowed-onward : (t : ℕ) (n : Narrowing t) →
@@ -322,30 +311,30 @@ Deeper t = search-lts.Joined4 (callees t) (search-at t) search′.Post search-In
 abbrev narrowing : (t : ℕ) → Deeper t → Narrowing t
 narrowing t c = c .before .before .before
 
-begun-on : (t : ℕ) (c : Deeper t) →
+prefix-on : (t : ℕ) (c : Deeper t) →
     let n = narrowing t c in
     let b = chosen t n in
-    Begun (onWords (searchOf t (asked t b)) (fewer t n)) (b .past-own .result .k) (c .if4 .search) (b .past-own .result .chosen)
-begun-on t c =
+    Prefix (onWords (searchOf t (asked t b)) (fewer t n)) (b .past-own .result .k) (c .if4 .search) (b .past-own .result .chosen)
+prefix-on t c =
     let n = narrowing t c in
     let b = chosen t n in
     let u = tried t b in
     let a = asked t b in
     let s = b .past-own .result in
-    let e = flag (a .args .resumes) (eqb (indexOf t u) (getD (a .args .t11) (a .args .k) 0)) (c .if4 .search) (⊎-elim (λ w. _⊎_.inl (w .0 .taken, w .1)) (λ w. _⊎_.inr (w .0 .left, w .1)) (c .if4 .came)) in
-    subst (λ (on : Bool). Begun (onWords (searchOf t a) (fewer t n)) (s .k) on (s .chosen)) e
-    (begun-narrowed (over t n) (s .k) (s .chosen) (latest-chosen t n) (resumed t b) (stage t b .begun))
+    let e = flag (a .args .resumes) (eqb (indexOf t u) (getD (a .args .t9) (a .args .k) 0)) (c .if4 .search) (⊎-elim (λ w. _⊎_.inl (w .0 .taken, w .1)) (λ w. _⊎_.inr (w .0 .left, w .1)) (c .if4 .came)) in
+    subst (λ (on : Bool). Prefix (onWords (searchOf t a) (fewer t n)) (s .k) on (s .chosen)) e
+    (prefix-narrowed (over t n) (s .k) (s .chosen) (latest-chosen t n) (resumed t b) (stage t b .prefix))
 
 -- the seeking tuple still lives
-lives-on : (t : ℕ) (n : Narrowing t) → let a = asked t (chosen t n) in has (live (onWords (searchOf t a) (fewer t n))) (seeker (searchOf t a)) ≡ true
+lives-on : (t : ℕ) (n : Narrowing t) → let a = asked t (chosen t n) in has (liveOf (onWords (searchOf t a) (fewer t n))) (seeker (searchOf t a)) ≡ true
 lives-on t n =
     let b = chosen t n in
     let u = tried t b in
     let l = looping t u in
     let p = spanned t l in
     let a = entry t p in
-    over t n .narrower .keeps (seeker (searchOf t a)) (lives t a)
-    (agrees-own (turn t p) (l .loop .g) (l .loop .inv .from-start) (within t u) (sym (u .fits2 .ensures) ∙ b .before .if1 .taken) (due t a .other))
+    over t n .narrower .keeps (seeker (searchOf t a)) (at t a .lives)
+    (agrees-own (turn t p) (l .loop .g) (l .loop .inv .from-start) (within t u) (sym (u .fits2 .ensures) ∙ b .before .if1 .taken))
 
 search-search-requires : (t : ℕ) → search-lts.Need-search-requires (callees t) (search-at t) search′.Post search-Inv-loop search-μ-loop
 search-search-requires t c κs =
@@ -353,19 +342,16 @@ search-search-requires t c κs =
     let b = chosen t n in
     let a = asked t b in
     let S = stage t b in (
-      omega (arith, a .pre .0, due t a .inside, S .forth),
+      omega (arith, a .pre .0, at t a .inside, S .forth),
       (
         n .narrow-members .ensures .0,
-        (
-          ready-narrowed (over t n),
-          (
-            marks t a,
-            (
-              begun-on t c,
-              (lives-on t n, record { inside = omega (arith, S .begun .depth, n .before .before .before .if2 .left); other = S .other }),
-            ),
-          ),
-        ),
+        record {
+          seeking = record { sound = ready-narrowed (over t n); indexed = at t a .seeking .indexed };
+          prefix = prefix-on t c;
+          lives = lives-on t n;
+          inside = omega (arith, S .prefix .depth, n .before .before .before .if2 .left);
+          other = S .other;
+        },
       ),
     )
 
@@ -438,7 +424,7 @@ search-loop-again t c =
     let l = looping t u in
     let p = spanned t l in
     let a = entry t p in
-    subst (Come (searchOf t a) (a .args .k) (a .args .resumes) (a .args .chosen)) (sym (c .next2 .ensures))
+    subst (WalkAt (searchOf t a) (a .args .k) (a .args .resumes) (a .args .chosen)) (sym (c .next2 .ensures))
     (come-next (turn t p) (l .loop .g) (l .loop .inv) (within t u) (nowhere t (c .before .before)))
 
 search-returns-3 : (t : ℕ) → search-lts.Need-returns-3 (callees t) (search-at t) search′.Post search-Inv-loop search-μ-loop
