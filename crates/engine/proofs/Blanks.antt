@@ -17,6 +17,8 @@ use Rattle.model.specs.Consistency.{supportStart}
 use Rattle.model.specs.LiveWords.{isLive}
 use Rattle.model.proofs.SupportList.{supportStart-suc, supportStart-mono}
 use Rattle.worklist.proofs.Stretch.{replaced, replaced-length, replaced-before, replaced-here, replaced-after}
+use Rattle.layout.specs.Starts.{outline}
+use Rattle.layout.specs.Setting.{Lists, networkIn}
 use Rattle.engine.specs.Blank.{BlankAt, Blank, Blanked}
 
 -- what is behind a later place is as before too
@@ -141,3 +143,9 @@ module _ (N : Network) (m : ℕ) (members words numbers : List ℕ) where
               ∙ ap (λ (n : ℕ). drop n numbers) (sym e);
           «at-each» = λ q x l k. below-more (At next) p earlier own q l x k;
         }
+
+-- ---- By the records alone
+
+pub blanked-network : (L : Lists) {m : ℕ} {members : List ℕ} {k : ℕ} {words numbers after : List ℕ} → Blanked (outline (L .starts)) m members k words numbers after → Blanked (networkIn L) m members k words numbers after
+unfolding supportStart
+blanked-network L b = record { long = b .long; after = b .after; at-each = b .at-each }

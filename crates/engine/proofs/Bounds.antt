@@ -24,21 +24,16 @@ use Rattle.model.proofs.Network.{ids-below}
 use Rattle.model.proofs.LiveWords.{living-has}
 use Rattle.model.proofs.Support.{isSupport-intro, isSupport-self, candidates-length, candidates-at, candidates-index, candidates-id, firstSupport-lowest}
 use Rattle.model.proofs.Search.{supportFrom-first, supportFrom-some, supportFrom-none}
-use Rattle.worklist.specs.Tables.{chosenId, Chosen}
+use Rattle.worklist.specs.Supports.{chosenId, Chosen, allLive}
 use Rattle.worklist.proofs.Stretch.{replaced, replaced-same}
-use Rattle.support.specs.Search.{Search, searching, seeker, Ready, answer}
-use Rattle.engine.specs.Setting.{Setting, network, Sound, liveIn, combinationOf, sizeOf, tupleId, placeOf, held}
-use Rattle.engine.specs.Work.{Candidate, Bound, Working, Renewed}
-use Rattle.engine.proofs.Pairing.{m-positive, combination-length, member-at, place-within}
-use Rattle.engine.proofs.Members.{starts-tuples, few-tuples, member-below, base-within, combination-proper, start-at-member, place-below, own-index, none-earlier}
-
--- A live tuple, with index x in pair p's member, while the filter works.
-pub record Seeker (G : Setting) (words numbers : List ℕ) (p x : ℕ) : Type 0 where
-  pub sound : Sound G
-  pub working : Working G words numbers
-  pub pair : p < length (G .members)
-  pub index : x < sizeOf G p
-  pub lives : has (liveIn G words) (tupleId G p x) ≡ true
+use Rattle.support.specs.Search.{Search, seeker, answer, SoundSearch}
+use Rattle.layout.specs.Setting.{Setting, network, liveIn}
+use Rattle.layout.specs.Pairs.{combinationOf, sizeOf, tupleId, placeOf, held}
+use Rattle.engine.specs.Work.{Candidate, Bound, Renewed, Seeker}
+use Rattle.layout.proofs.Pairs.{combination-length, member-at, place-within}
+use Rattle.layout.proofs.Framed.{tuples-few}
+use Rattle.layout.proofs.Pairs.{member-below, base-within, combination-proper, start-of-member, place-below}
+use Rattle.engine.proofs.Candidates.{own-index, none-earlier}
 
 module _ {G : Setting} {words numbers : List ℕ} {p x : ℕ} (A : Seeker G words numbers p x) where
   abbrev N : Network
@@ -60,7 +55,7 @@ module _ {G : Setting} {words numbers : List ℕ} {p x : ℕ} (A : Seeker G word
   start = p / G .m * G .m
 
   pub held-inside : placeOf G p x + G .m ≤ length numbers
-  held-inside = omega (arith, place-within G (A .sound) p x (A .pair) (A .index), A .working .room)
+  held-inside = omega (arith, place-within (A .sound) p x (A .pair) (A .index), A .working .space .room)
 
   held-length : length had ≡ G .m
   held-length = let i = held-inside in length-take-le (G .m) (drop (placeOf G p x) numbers) (omega (arith, length-drop (placeOf G p x) numbers))
@@ -80,13 +75,13 @@ module _ {G : Setting} {words numbers : List ℕ} {p x : ℕ} (A : Seeker G word
   lead-held =
       let e : placeOf G p x ≡ placeOf G p x + 0 = omega arith in
       ap (λ (i : ℕ). getD numbers i 0) e
-      ∙ sym (getD-take (G .m) (drop (placeOf G p x) numbers) 0 0 (m-positive G (A .sound)) ∙ getD-drop (placeOf G p x) numbers 0 0)
+      ∙ sym (getD-take (G .m) (drop (placeOf G p x) numbers) 0 0 (A .sound .paired .list .positive) ∙ getD-drop (placeOf G p x) numbers 0 0)
 
   bounded : Bound G S c g had
   bounded = A .working .bounds p x (A .pair) (A .index) (A .lives)
 
   member-count : length c ≡ G .m
-  member-count = combination-length G (A .sound) p (A .pair)
+  member-count = combination-length (A .sound .laid .framed) (A .sound .paired) p (A .pair)
 
   -- ---- Those of a candidate
 
@@ -100,8 +95,8 @@ module _ {G : Setting} {words numbers : List ℕ} {p x : ℕ} (A : Seeker G word
     index-within : (j : ℕ) → j < G .m → getD loaded j 0 < size N (getD c j 0)
     index-within j l = omega (arith, index-is j l, candidates-index N c (K .candidate) j (in-range j l))
 
-    id-is : (j : ℕ) → j < G .m → chosenId (G .tupleStarts) (G .members) start loaded j ≡ getD (K .tuples) j 0
-    id-is j l = ap₂ (λ (a b : ℕ). a + b) (start-at-member G (A .sound) p (A .pair) j l) (index-is j l) ∙ candidates-id N c (K .candidate) j (in-range j l)
+    id-is : (j : ℕ) → j < G .m → chosenId (G .lists .starts) (G .members) start loaded j ≡ getD (K .tuples) j 0
+    id-is j l = ap₂ (λ (a b : ℕ). a + b) (start-of-member (A .sound .laid .framed) (A .sound .paired) p (A .pair) j l) (index-is j l) ∙ candidates-id N c (K .candidate) j (in-range j l)
 
     id-below : (j : ℕ) → j < G .m → getD (K .tuples) j 0 < total N
     id-below j l = ids-below N (getD c j 0) (candidates-at N c (K .candidate) j (in-range j l) .1)
@@ -109,35 +104,35 @@ module _ {G : Setting} {words numbers : List ℕ} {p x : ℕ} (A : Seeker G word
     -- the first is an index
     some-first : lead ≡ noSupport → ⊥
     some-first e =
-        let l = m-positive G (A .sound) in
-        omega (arith, lead-held, loaded-at 0 l, index-is 0 l, candidates-id N c (K .candidate) 0 (in-range 0 l), id-below 0 l, few-tuples G (A .sound))
+        let l = (A .sound .paired .list .positive) in
+        omega (arith, lead-held, loaded-at 0 l, index-is 0 l, candidates-id N c (K .candidate) 0 (in-range 0 l), id-below 0 l, tuples-few (A .sound .laid .framed))
 
   -- where the first number is not 65,535
   candidate : (lead ≡ noSupport → ⊥) → Candidate G S c g had
   candidate d =
       ⊎-elim
-      (λ e. absurd (d (lead-held ∙ ap (λ (is : List ℕ). getD is 0 0) e ∙ getD-replicate (G .m) 0 noSupport 0 (m-positive G (A .sound)))))
+      (λ e. absurd (d (lead-held ∙ ap (λ (is : List ℕ). getD is 0 0) e ∙ getD-replicate (G .m) 0 noSupport 0 (A .sound .paired .list .positive))))
       (λ K. K)
       bounded
 
   -- what `all_live` asks
-  pub chosen : (lead ≡ noSupport → ⊥) → Chosen words (G .tupleStarts) (G .members) start (G .m) loaded
+  pub chosen : (lead ≡ noSupport → ⊥) → Chosen words (G .lists .starts) (G .members) start (G .m) loaded
   chosen d =
       let K = candidate d in
-      let b = base-within G (A .sound) p (A .pair) in
+      let b = base-within (A .sound .laid .framed) (A .sound .paired) p (A .pair) in
       record {
-        few = A .sound .few;
+        few = A .sound .paired .list .few;
         inside = b;
-        relations = λ j l. member-below G (A .sound) (start + j) (omega arith);
-        ids = λ j l. omega (arith, id-is K j l, id-below K j l, few-tuples G (A .sound));
-        bits = λ j l. omega (arith, id-is K j l, id-below K j l, A .working .enough);
+        relations = λ j l. member-below (A .sound .laid .framed) (A .sound .paired) (start + j) (omega arith);
+        ids = λ j l. omega (arith, id-is K j l, id-below K j l, tuples-few (A .sound .laid .framed));
+        bits = λ j l. omega (arith, id-is K j l, id-below K j l, A .working .space .enough);
       }
 
   -- all of them live as their ids do
-  tuples-live : (K : Candidate G S c g had) → all (λ (j : ℕ). isLive words (chosenId (G .tupleStarts) (G .members) start loaded j)) (from 0 (G .m)) ≡ true → all (has S) (K .tuples) ≡ true
+  tuples-live : (K : Candidate G S c g had) → allLive words (G .lists .starts) (G .members) start (G .m) loaded ≡ true → all (has S) (K .tuples) ≡ true
   tuples-live K e =
       let t = K .tuples in
-      let ids : ℕ → ℕ = λ j. chosenId (G .tupleStarts) (G .members) start loaded j in
+      let ids : ℕ → ℕ = λ j. chosenId (G .lists .starts) (G .members) start loaded j in
       let long : length t ≡ G .m = candidates-length N c (K .candidate) ∙ member-count in
       let same : map ids (from 0 (G .m)) ≡ t =
       map-from-same ids (λ j. getD t j 0) 0 (G .m) (λ j a b. id-is K j (omega arith))
@@ -153,7 +148,7 @@ module _ {G : Setting} {words numbers : List ℕ} {p x : ℕ} (A : Seeker G word
       living-has (total N) words (ids j) (omega (arith, id-is K j l, id-below K j l)) ∙ all-at (λ (j : ℕ). isLive words (ids j)) (from 0 (G .m)) e m)
 
   -- they live: they are the first support, and the list stays
-  pub renewed-held : (d : lead ≡ noSupport → ⊥) → all (λ (j : ℕ). isLive words (chosenId (G .tupleStarts) (G .members) start loaded j)) (from 0 (G .m)) ≡ true → Renewed G p x words numbers true words numbers
+  pub renewed-held : (d : lead ≡ noSupport → ⊥) → allLive words (G .lists .starts) (G .members) start (G .m) loaded ≡ true → Renewed G p x words numbers true words numbers
   renewed-held d e =
       let K = candidate d in
       let s = isSupport-intro N S g (K .tuples) (K .own) (tuples-live K e) (K .agreeing) in
@@ -190,7 +185,7 @@ module _ {G : Setting} {words numbers : List ℕ} {p x : ℕ} (A : Seeker G word
   bound-cases : (lowOf ≡ lowest) ⊎ (Candidate G S c g had × (lowOf ≡ loaded))
   bound-cases =
       ⊎-elim
-      (λ e. inl (low-none (lead-held ∙ ap (λ (is : List ℕ). getD is 0 0) e ∙ getD-replicate (G .m) 0 noSupport 0 (m-positive G (A .sound)))))
+      (λ e. inl (low-none (lead-held ∙ ap (λ (is : List ℕ). getD is 0 0) e ∙ getD-replicate (G .m) 0 noSupport 0 (A .sound .paired .list .positive))))
       (λ K. inr (K, low-held (some-first K)))
       bounded
 
@@ -211,16 +206,16 @@ module _ {G : Setting} {words numbers : List ℕ} {p x : ℕ} (A : Seeker G word
   -- ---- The search from the bound
 
   abbrev pub searched : Search
-  searched = searching (G .variables) (G .values) (G .variableStarts) (G .tupleStarts) (G .valueStarts) words c (p % G .m) x lowOf
+  searched = record { lists = G .lists; words = words; members = c; place = p % G .m; own = x; low = lowOf }
 
   size-is : size N (getD c (p % G .m) 0) ≡ sizeOf G p
-  size-is = ap (size N) (member-at G (A .sound) p (A .pair))
+  size-is = ap (size N) (member-at (A .sound .laid .framed) (A .sound .paired) p (A .pair))
 
   low-own : getD lowOf (p % G .m) 0 ≡ x
   low-own =
-      let l = place-below G (A .sound) p (A .pair) in
+      let l = place-below (A .sound .laid .framed) (A .sound .paired) p (A .pair) in
       ⊎-elim
-      (λ e. ap (λ (is : List ℕ). getD is (p % G .m) 0) e ∙ getD-set-same (replicate maxMembers 0) (p % G .m) x 0 (omega (arith, A .sound .few)))
+      (λ e. ap (λ (is : List ℕ). getD is (p % G .m) 0) e ∙ getD-set-same (replicate maxMembers 0) (p % G .m) x 0 (omega (arith, A .sound .paired .list .few)))
       (λ w. ap (λ (is : List ℕ). getD is (p % G .m) 0) (w .1) ∙ index-is (w .0) (p % G .m) l ∙ own-index G (A .sound) p (A .pair) x (A .index) (w .0 .tuples) (w .0 .candidate) (w .0 .own))
       bound-cases
 
@@ -236,18 +231,17 @@ module _ {G : Setting} {words numbers : List ℕ} {p x : ℕ} (A : Seeker G word
           let o = low-own in
           subst (λ (i : ℕ). getD lowOf i 0 ≤ size N (getD c i 0)) (sym q) (omega (arith, size-is))
       at e (no d) =
-          omega (arith, ap (λ (is : List ℕ). getD is j 0) e, getD-set-other (replicate maxMembers 0) (p % G .m) j x 0 d, getD-replicate {A = ℕ} maxMembers j 0 0 (omega (arith, A .sound .few)))
+          omega (arith, ap (λ (is : List ℕ). getD is j 0) e, getD-set-other (replicate maxMembers 0) (p % G .m) j x 0 d, getD-replicate {A = ℕ} maxMembers j 0 0 (omega (arith, A .sound .paired .list .few)))
 
   -- what `first_support` asks
-  pub ready : Ready searched
+  pub ready : SoundSearch searched
   ready =
-      let l = place-below G (A .sound) p (A .pair) in
+      let l = place-below (A .sound .laid .framed) (A .sound .paired) p (A .pair) in
       record {
         laid = A .sound .laid;
-        tuples = starts-tuples G (A .sound);
-        words = A .working .enough;
-        members = combination-proper G (A .sound) p (A .pair);
-        few = omega (arith, member-count, A .sound .few);
+        words = A .working .space .enough;
+        members = combination-proper (A .sound .laid .framed) (A .sound .paired) p (A .pair);
+        few = omega (arith, member-count, A .sound .paired .list .few);
         place = omega (arith, member-count);
         own = omega (arith, size-is);
         low-own = low-own;
@@ -261,7 +255,7 @@ module _ {G : Setting} {words numbers : List ℕ} {p x : ℕ} (A : Seeker G word
         sym
         (ap (λ (n : ℕ). answer ok (take n tuples)) (sym member-count)
         ∙ answers
-        ∙ ap (λ (r : ℕ). supportFrom N S c (firstId N r + x) lowOf) (member-at G (A .sound) p (A .pair)))
+        ∙ ap (λ (r : ℕ). supportFrom N S c (firstId N r + x) lowOf) (member-at (A .sound .laid .framed) (A .sound .paired) p (A .pair)))
 
     -- a support: it is the first
     pub renewed-found : ok ≡ true → Renewed G p x words numbers true words (take (placeOf G p x) numbers ++ take (G .m) tuples ++ drop (placeOf G p x + G .m) numbers)

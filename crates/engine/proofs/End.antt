@@ -20,11 +20,12 @@ use Rattle.model.proofs.Support.{Supported, firstSupport-dead}
 use Rattle.model.proofs.LiveWords.{living-length, living-has, nextLive-first}
 use Rattle.model.proofs.Work.{filtered-done}
 use Rattle.model.proofs.SupportList.{needed-pairs, supportList-ext}
-use Rattle.engine.specs.Setting.{Setting, network, listed, Sound, liveIn, combinationOf, sizeOf, tupleId, held}
+use Rattle.layout.specs.Setting.{Setting, network, listed, Sound, liveIn}
+use Rattle.layout.specs.Pairs.{combinationOf, sizeOf, tupleId, held}
 use Rattle.engine.specs.Work.{Done, Rest, Shrunk}
 use Rattle.engine.specs.Blank.{Blanked}
-use Rattle.engine.proofs.Pairing.{m-positive, whole, combination-length}
-use Rattle.engine.proofs.Members.{tuple-below}
+use Rattle.layout.proofs.Pairs.{combination-length}
+use Rattle.layout.proofs.Pairs.{tuple-below}
 
 -- ---- Where no pair waits
 
@@ -44,7 +45,7 @@ module _ (G : Setting) (sound : Sound G) (words numbers : List ℕ) where
   module _ (done : (q : ℕ) → q < length (G .members) → Done G words numbers q (sizeOf G q)) where
     supported-all : (c : Combination) → List·Memᴰ c (listed G) → (h : ℕ) → has S h ≡ true → List·Memᴰ (relationOf N h) c → Supported N S c h
     supported-all c n h e k =
-        let f = pair-of (G .m) (G .members) (m-positive G sound) n k in
+        let f = pair-of (G .m) (G .members) (sound .paired .list .positive) n k in
         let p = f .0 in
         let r = relationOf N h in
         let b = index-bounds N h (omega (arith, has-below S h e, living-length (total N) words)) in
@@ -71,18 +72,18 @@ module _ (G : Setting) (sound : Sound G) (words numbers : List ℕ) where
       held-first : (p x : ℕ) → p < length (G .members) → x < sizeOf G p → (b : Bool) → has S (tupleId G p x) ≡ b → cond b (held G numbers p x) (replicate (G .m) noSupport) ≡ firstSupport N S (combinationOf G p) (tupleId G p x)
       held-first p x h k true e = done p h x k e .1
       held-first p x h k false e =
-          sym (firstSupport-dead N S (combinationOf G p) (tupleId G p x) e ∙ ap (λ (n : ℕ). replicate n noSupport) (combination-length G sound p h))
+          sym (firstSupport-dead N S (combinationOf G p) (tupleId G p x) e ∙ ap (λ (n : ℕ). replicate n noSupport) (combination-length (sound .laid .framed) (sound .paired) p h))
 
       final-held : (p x : ℕ) → p < length (G .members) → x < sizeOf G p → held G final p x ≡ firstSupport N S (combinationOf G p) (tupleId G p x)
       final-held p x h k =
           let g = tupleId G p x in
-          blanked .at-each p x h k ∙ held-first p x h k (isLive words g) (living-has (total N) words g (tuple-below G sound p x h k))
+          blanked .at-each p x h k ∙ held-first p x h k (isLive words g) (living-has (total N) words g (tuple-below sound p x h k))
 
       pub numbers-end : (numbers₀ : List ℕ) → drop (needed N (listed G)) numbers ≡ drop (needed N (listed G)) numbers₀ → final ≡ supportList N (listed G) S ++ drop (needed N (listed G)) numbers₀
       numbers-end numbers₀ beyond =
           let n = needed N (listed G) in
-          let e : n ≡ supportStart N (G .m) (G .members) (length (G .members)) = needed-pairs N S (G .m) (G .members) (m-positive G sound) (whole G sound) in
+          let e : n ≡ supportStart N (G .m) (G .members) (length (G .members)) = needed-pairs N S (G .m) (G .members) (sound .paired .list .positive) (sound .paired .list .whole) in
           sym (take-append-drop n final)
-          ∙ ap (λ (xs : List ℕ). xs ++ drop n final) (supportList-ext N S (G .m) (G .members) final (m-positive G sound) (whole G sound) final-held)
+          ∙ ap (λ (xs : List ℕ). xs ++ drop n final) (supportList-ext N S (G .m) (G .members) final (sound .paired .list .positive) (sound .paired .list .whole) final-held)
           ∙ ap (λ (xs : List ℕ). supportList N (listed G) S ++ xs)
           (ap (λ (k : ℕ). drop k final) e ∙ blanked .after ∙ ap (λ (k : ℕ). drop k numbers) (sym e) ∙ beyond)

@@ -1,6 +1,5 @@
 -- The laws of the filter's work.
-pub mod Pairing
-pub mod Members
+pub mod Candidates
 pub mod Bounds
 pub mod Steps
 pub mod Visiting

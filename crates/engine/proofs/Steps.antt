@@ -28,9 +28,10 @@ use Rattle.model.proofs.LiveWords.{cleared-length, cleared-written, written-liv
 use Rattle.model.proofs.Work.{Unused, firstSupport-without, supported-without, unused-unsupported, unused-elsewhere, unused-sibling, filtered-remove}
 use Rattle.worklist.specs.Pairs.{queues}
 use Rattle.worklist.proofs.Stretch.{replaced, replaced-length, replaced-here, replaced-after, replaced-elsewhere}
-use Rattle.engine.specs.Setting.{Setting, network, listed, Sound, liveIn, combinationOf, sizeOf, tupleId, placeOf, held}
+use Rattle.layout.specs.Setting.{Setting, network, listed, Sound, liveIn}
+use Rattle.layout.specs.Pairs.{combinationOf, sizeOf, tupleId, placeOf, held}
 use Rattle.engine.specs.Work.{Supported, Bound, Working, Done, Rest, Shrunk}
-use Rattle.engine.proofs.Pairing.{combination-listed, combination-length, combination-rises, tuple-relation, tuple-in, place-within, places-apart}
+use Rattle.layout.proofs.Pairs.{combination-listed, combination-length, combination-rises, tuple-relation, tuple-in, place-within, places-apart}
 
 -- every word fits in 64 bits
 abbrev pub Small : List ℕ → Type 0
@@ -70,15 +71,15 @@ module _ (G : Setting) (sound : Sound G) where
     after = replaced numbers first (placeOf G p x) (G .m)
 
     first-long : length first ≡ G .m
-    first-long = firstSupport-length (network G) S (combinationOf G p) (tupleId G p x) ∙ combination-length G sound p hp
+    first-long = firstSupport-length (network G) S (combinationOf G p) (tupleId G p x) ∙ combination-length (sound .laid .framed) (sound .paired) p hp
 
     inside : placeOf G p x + G .m ≤ length numbers
-    inside = omega (arith, place-within G sound p x hp hx, working .room)
+    inside = omega (arith, place-within sound p x hp hx, working .space .room)
 
     -- what is held for other tuples stays
     held-other : (q y : ℕ) → (q ≡ p → y ≡ x → ⊥) → q < length (G .members) → y < sizeOf G q → held G after q y ≡ held G numbers q y
     held-other q y d hq hy =
-        replaced-elsewhere numbers first (placeOf G p x) (G .m) first-long inside (placeOf G q y) (G .m) (places-apart G sound q y p x d hq hp hy hx)
+        replaced-elsewhere numbers first (placeOf G p x) (G .m) first-long inside (placeOf G q y) (G .m) (places-apart sound q y p x d hq hp hy hx)
 
     held-own : held G after p x ≡ first
     held-own = replaced-here numbers first (placeOf G p x) (G .m) first-long inside
@@ -87,7 +88,7 @@ module _ (G : Setting) (sound : Sound G) where
     kept-length = replaced-length numbers first (placeOf G p x) (G .m) first-long inside
 
     pub kept-beyond : drop (needed (network G) (listed G)) after ≡ drop (needed (network G) (listed G)) numbers
-    kept-beyond = replaced-after numbers first (placeOf G p x) (G .m) first-long inside (needed (network G) (listed G)) (place-within G sound p x hp hx)
+    kept-beyond = replaced-after numbers first (placeOf G p x) (G .m) first-long inside (needed (network G) (listed G)) (place-within sound p x hp hx)
 
     -- for tuple y of pair q: the new numbers if it is this tuple, the old ones otherwise
     held-case : (P : ℕ → ℕ → List ℕ → Type 0) → P p x first → ((q y : ℕ) → P q y (held G numbers q y)) → (q y : ℕ) → q < length (G .members) → y < sizeOf G q → Dec (q ≡ p) → Dec (y ≡ x) → P q y (held G after q y)
@@ -106,8 +107,7 @@ module _ (G : Setting) (sound : Sound G) where
       pub kept-working : Working G words after
       kept-working =
           record {
-            enough = working .enough;
-            room = subst (λ (n : ℕ). needed (network G) (listed G) ≤ n) (sym kept-length) (working .room);
+            space = record { enough = working .space .enough; short = working .space .short; room = subst (λ (n : ℕ). needed (network G) (listed G) ≤ n) (sym kept-length) (working .space .room) };
             bounds = λ q y hq hy.
                 held-case
                 (λ q y ns. q < length (G .members) → y < sizeOf G q → has S (tupleId G q y) ≡ true → Bound G S (combinationOf G q) (tupleId G q y) ns)
@@ -176,7 +176,7 @@ module _ (G : Setting) (sound : Sound G) where
         ids-below (network G) r (mem-from (firstId (network G) r) (size (network G) r) g (omega arith) (omega arith))
 
     left-is : liveIn G fewer ≡ without (eqb g) before
-    left-is = living-cleared n g words small (working .enough)
+    left-is = living-cleared n g words small (working .space .enough)
 
     left-inside : Inside (liveIn G fewer) before
     left-inside h e = restrict-inside (λ y. not (eqb g y)) before h (subst (λ (X : TupleSet). has X h ≡ true) left-is e)
@@ -185,7 +185,7 @@ module _ (G : Setting) (sound : Sound G) where
     left-other h e q = not-both (restrict-test (λ y. not (eqb g y)) before h (subst (λ (X : TupleSet). has X h ≡ true) left-is e)) (ap not (eq-eqb g h q))
 
     pub removed-count : count (liveIn G fewer) < count before
-    removed-count = omega (arith, cleared-count n g words small (working .enough) below (sym (living-has n words g below) ∙ lives))
+    removed-count = omega (arith, cleared-count n g words small (working .space .enough) below (sym (living-has n words g below) ∙ lives))
 
     bound-stays : (c : Combination) (h : ℕ) (ns : List ℕ) → Bound G before c h ns → Bound G (liveIn G fewer) c h ns
     bound-stays c h ns (inl e) = inl e
@@ -203,8 +203,7 @@ module _ (G : Setting) (sound : Sound G) where
     pub removed-working : Working G fewer numbers
     removed-working =
         record {
-          enough = subst (λ (k : ℕ). n ≤ wordBits * k) (sym (cleared-length g words)) (working .enough);
-          room = working .room;
+          space = record { enough = subst (λ (k : ℕ). n ≤ wordBits * k) (sym (cleared-length g words)) (working .space .enough); short = working .space .short; room = working .space .room };
           bounds = λ q y hq hy e. bound-stays (combinationOf G q) (tupleId G q y) (held G numbers q y) (working .bounds q y hq hy (left-inside (tupleId G q y) e));
         }
 
@@ -215,7 +214,7 @@ module _ (G : Setting) (sound : Sound G) where
               ∙ cleared-written n before g words below
               ∙ ap (λ (X : TupleSet). written n X words) (sym left-is);
           same = ap (filtered (network G) (listed G)) left-is
-              ∙ filtered-remove (network G) (listed G) before g (combinationOf G p) (combination-listed G sound p hp) (tuple-in G sound p x hp hx) none;
+              ∙ filtered-remove (network G) (listed G) before g (combinationOf G p) (combination-listed (sound .laid .framed) (sound .paired) p hp) (tuple-in sound p x hp hx) none;
         }
 
     -- a tuple that is done stays so where g is in none of its supports
@@ -238,9 +237,9 @@ module _ (G : Setting) (sound : Sound G) where
         ⊎-elim
         (λ f. unused-unsupported (network G) before g (combinationOf G q) (tupleId G q y) (subst (λ (k : ℕ). Supported G before (take (G .m) (drop (k * G .m) (G .members))) g → ⊥) (sym (eqb-true (q / G .m) (p / G .m) f)) none))
         (⊎-elim
-        (λ f. unused-elsewhere (network G) before g (combinationOf G q) (tupleId G q y) (λ mem. not-both (mem-elem (combinationOf G q) (Memᴰ·cast (sym (tuple-relation G sound p x hx)) mem)) f))
-        (λ f. unused-sibling (network G) before g (combinationOf G q) (tupleId G q y) (combination-rises G sound q hq)
-        (tuple-relation G sound q y hy ∙ eqb-true (pairMember (G .members) q) (pairMember (G .members) p) f ∙ sym (tuple-relation G sound p x hx))
+        (λ f. unused-elsewhere (network G) before g (combinationOf G q) (tupleId G q y) (λ mem. not-both (mem-elem (combinationOf G q) (Memᴰ·cast (sym (tuple-relation sound p x hx)) mem)) f))
+        (λ f. unused-sibling (network G) before g (combinationOf G q) (tupleId G q y) (combination-rises (sound .laid .framed) (sound .paired) q hq)
+        (tuple-relation sound q y hy ∙ eqb-true (pairMember (G .members) q) (pairMember (G .members) p) f ∙ sym (tuple-relation sound p x hx))
         d))
         (not-queued (eqb (q / G .m) (p / G .m)) (elem (pairMember (G .members) p) (combinationOf G q)) (eqb (pairMember (G .members) q) (pairMember (G .members) p)) e)
 

@@ -16,12 +16,12 @@ use Rattle.model.specs.Consistency.{needed}
 use Rattle.model.specs.LiveWords.{isLive, living, nextLive, cleared}
 use Rattle.model.proofs.LiveWords.{nextLive-first, written-length, written-below, cleared-count, living-count}
 use Rattle.worklist.proofs.Waiting.{Words, take-waits}
-use Rattle.engine.specs.Setting.{Setting, network, listed, Sound, liveIn}
+use Rattle.layout.specs.Setting.{Setting, network, listed, Sound, liveIn}
 use Rattle.engine.specs.Work.{WordArray, Working, Rest, Shrunk, Visited}
 use Rattle.engine.proofs.Steps.{shrunk-trans}
 
 -- What holds whenever a pair is taken, of the queue, the words and the numbers; words₀ and numbers₀ are those of the start.
-pub record Underway (G : Setting) (words₀ numbers₀ queue words numbers : List ℕ) : Type 0 where
+pub record Progress (G : Setting) (words₀ numbers₀ queue words numbers : List ℕ) : Type 0 where
   pub sixteen : Words queue
   pub working : Working G words numbers
   pub shrunk : Shrunk G words₀ words
@@ -45,7 +45,7 @@ shrunk-array G words after s w =
 
 module _ (G : Setting) (sound : Sound G) (queue : List ℕ) (sixteen : Words queue) (pair : ℕ) (first : pair ≡ nextLive queue 0 maxPairs) (below : pair < length (G .members)) (rest : List ℕ) (takes : rest ≡ cond (ltb pair maxPairs) (cleared pair queue) queue) where
   few : pair < maxPairs
-  few = omega (arith, sound .tables .pairs .few)
+  few = omega (arith, sound .paired .list .short)
 
   waits : isLive queue pair ≡ true
   waits =
@@ -61,7 +61,7 @@ module _ (G : Setting) (sound : Sound G) (queue : List ℕ) (sixteen : Words que
       let e : isLive queue q ≡ isLive rest q =
       sym
       (ap (λ (ws : List ℕ). isLive ws q) clears
-      ∙ take-waits queue sixteen pair q (omega (arith, sound .tables .pairs .few))
+      ∙ take-waits queue sixteen pair q (omega (arith, sound .paired .list .short))
       ∙ ap (λ (b : Bool). isLive queue q && not b) (ne-eqb pair q (λ e. other (sym e)))
       ∙ and-true (isLive queue q))
       in
@@ -86,7 +86,7 @@ module _ (G : Setting) (sound : Sound G) (queue : List ℕ) (sixteen : Words que
         (λ l. omega (arith, l, living-count maxPairs queue′))
         (seen .progress)
 
-    pub underway : Words queue′ → Underway G words₀ numbers₀ queue words numbers → Underway G words₀ numbers₀ queue′ words′ numbers′
+    pub underway : Words queue′ → Progress G words₀ numbers₀ queue words numbers → Progress G words₀ numbers₀ queue′ words′ numbers′
     underway next u =
         record {
           sixteen = next;

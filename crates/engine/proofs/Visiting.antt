@@ -15,13 +15,14 @@ use Rattle.model.specs.LiveWords.{isLive, cleared}
 use Rattle.model.proofs.Bools.{not-both}
 use Rattle.model.proofs.LiveWords.{cleared-below, cleared-length}
 use Rattle.worklist.specs.Pairs.{queues}
-use Rattle.engine.specs.Setting.{Setting, network, listed, Sound, liveIn, sizeOf, tupleId}
+use Rattle.layout.specs.Setting.{Setting, network, listed, Sound, liveIn}
+use Rattle.layout.specs.Pairs.{sizeOf, tupleId}
 use Rattle.engine.specs.Work.{Working, Done, Rest, Shrunk, Renewed, Visited}
 use Rattle.engine.proofs.Steps.{Small, kept-length, kept-beyond, kept-rest, kept-working, kept-done, shrunk-refl, shrunk-trans, done-skip, removed-count, removed-working, removed-shrunk, removed-rest, removed-done}
 
 -- The visit of pair p has done the first k tuples of its member: what it has kept, and what it has made of the queue, words
 -- and numbers that it began with.
-pub record Going (G : Setting) (p : ℕ) (queue words numbers queue′ words′ numbers′ : List ℕ) (shrunk : Bool) (k : ℕ) : Type 0 where
+pub record VisitOf (G : Setting) (p : ℕ) (queue words numbers queue′ words′ numbers′ : List ℕ) (shrunk : Bool) (k : ℕ) : Type 0 where
   pub small : Small words′
   pub working : Working G words′ numbers′
   pub shrinks : Shrunk G words words′
@@ -34,7 +35,7 @@ pub record Going (G : Setting) (p : ℕ) (queue words numbers queue′ words′ 
 
 module _ {G : Setting} (sound : Sound G) {p : ℕ} (hp : p < length (G .members)) where
   -- nothing is done yet
-  pub going-start : {queue words numbers : List ℕ} → Small words → Working G words numbers → Going G p queue words numbers queue words numbers false 0
+  pub going-start : {queue words numbers : List ℕ} → Small words → Working G words numbers → VisitOf G p queue words numbers queue words numbers false 0
   going-start {words = words} small work =
       record {
         small = small;
@@ -48,9 +49,9 @@ module _ {G : Setting} (sound : Sound G) {p : ℕ} (hp : p < length (G .members)
         less = λ e. absurd (true≢false (sym e));
       }
 
-  module _ {queue words numbers queue′ words′ numbers′ : List ℕ} {shrunk : Bool} {k : ℕ} (I : Going G p queue words numbers queue′ words′ numbers′ shrunk k) where
+  module _ {queue words numbers queue′ words′ numbers′ : List ℕ} {shrunk : Bool} {k : ℕ} (I : VisitOf G p queue words numbers queue′ words′ numbers′ shrunk k) where
     -- dead tuples are passed over
-    pub going-skip : (j : ℕ) → ((x : ℕ) → k ≤ x → x < j → has (liveIn G words′) (tupleId G p x) ≡ false) → Going G p queue words numbers queue′ words′ numbers′ shrunk j
+    pub going-skip : (j : ℕ) → ((x : ℕ) → k ≤ x → x < j → has (liveIn G words′) (tupleId G p x) ≡ false) → VisitOf G p queue words numbers queue′ words′ numbers′ shrunk j
     going-skip j dead =
         record {
           small = I .small;
@@ -66,11 +67,11 @@ module _ {G : Setting} (sound : Sound G) {p : ℕ} (hp : p < length (G .members)
 
     module _ (hk : k < sizeOf G p) {found : Bool} {words″ numbers″ : List ℕ} (R : Renewed G p k words′ numbers′ found words″ numbers″) where
       -- the tuple has its first support
-      pub going-kept : found ≡ true → Going G p queue words numbers queue′ words″ numbers″ shrunk (suc k)
+      pub going-kept : found ≡ true → VisitOf G p queue words numbers queue′ words″ numbers″ shrunk (suc k)
       going-kept e =
           let r = R .kept e in
-          subst (λ (ws : List ℕ). Going G p queue words numbers queue′ ws numbers″ shrunk (suc k)) (sym (r .0))
-          (subst (λ (ns : List ℕ). Going G p queue words numbers queue′ words′ ns shrunk (suc k)) (sym (r .1))
+          subst (λ (ws : List ℕ). VisitOf G p queue words numbers queue′ ws numbers″ shrunk (suc k)) (sym (r .0))
+          (subst (λ (ns : List ℕ). VisitOf G p queue words numbers queue′ words′ ns shrunk (suc k)) (sym (r .1))
           (record {
             small = I .small;
             working = kept-working G sound words′ numbers′ p k (I .working) hp hk (r .2);
@@ -93,12 +94,12 @@ module _ {G : Setting} (sound : Sound G) {p : ℕ} (hp : p < length (G .members)
         queued q l e true w = w
         queued q l e false w = absurd (not-both e (waits q l w .1))
 
-        pub going-removed : found ≡ false → Going G p queue words numbers queue″ words″ numbers″ true (suc k)
+        pub going-removed : found ≡ false → VisitOf G p queue words numbers queue″ words″ numbers″ true (suc k)
         going-removed e =
             let r = R .removed e in
             let none = r .2 in
-            subst (λ (ws : List ℕ). Going G p queue words numbers queue″ ws numbers″ true (suc k)) (sym (r .0))
-            (subst (λ (ns : List ℕ). Going G p queue words numbers queue″ (cleared (tupleId G p k) words′) ns true (suc k)) (sym (r .1))
+            subst (λ (ws : List ℕ). VisitOf G p queue words numbers queue″ ws numbers″ true (suc k)) (sym (r .0))
+            (subst (λ (ns : List ℕ). VisitOf G p queue words numbers queue″ (cleared (tupleId G p k) words′) ns true (suc k)) (sym (r .1))
             (record {
               small = λ i h. cleared-below (tupleId G p k) words′ (I .small) i (omega (arith, cleared-length (tupleId G p k) words′));
               working = removed-working G sound words′ numbers′ (I .small) p k (I .working) hp hk lives none;
@@ -145,7 +146,7 @@ module _ {G : Setting} (sound : Sound G) {p : ℕ} (hp : p < length (G .members)
 -- the pairs that wait once those that a removal queues are put
 pub requeued-waits : {G : Setting} (sound : Sound G) (p : ℕ) (queue queue′ : List ℕ) → ((q : ℕ) → q < maxPairs → isLive queue′ q ≡ (isLive queue q || queues (G .m) (G .members) p q)) → (q : ℕ) → q < length (G .members) → isLive queue′ q ≡ false → (isLive queue q ≡ false) × (queues (G .m) (G .members) p q ≡ false)
 requeued-waits {G} sound p queue queue′ f q l w =
-    let e = sym (f q (omega (arith, sound .tables .pairs .few))) ∙ w in
+    let e = sym (f q (omega (arith, sound .paired .list .short))) ∙ w in
     neither (isLive queue q) (queues (G .m) (G .members) p q) e
   where
     neither : (a b : Bool) → (a || b) ≡ false → (a ≡ false) × (b ≡ false)

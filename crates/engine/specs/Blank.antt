@@ -2,13 +2,16 @@
 use mathlib.Core.Path.{_≡_}
 use mathlib.Core.Bool.{cond}
 use mathlib.Core.List.{List}
-use Prim.Native.Nat.{ℕ, _+_, _*_, _<_}
+use Prim.Native.Nat.{ℕ, _+_, _-_, _*_, _≤_, _<_}
 use lib.ListN.{length, take, drop, replicate}
-use Rattle.model.specs.Limits.{noSupport}
-use Rattle.model.specs.Network.{Network, size, firstId}
-use Rattle.model.specs.Combination.{pairMember}
-use Rattle.model.specs.Consistency.{supportStart}
+use Rattle.model.specs.Limits.{noSupport, maxMembers, wordBits}
+use Rattle.model.specs.Network.{Network, size, total, firstId}
+use Rattle.model.specs.Combination.{combinations, pairMember}
+use Rattle.model.specs.Consistency.{needed, supportStart}
 use Rattle.model.specs.LiveWords.{isLive}
+use Rattle.layout.specs.Starts.{outline, Framed}
+use Rattle.layout.specs.Setting.{Paired}
+use Rattle.worklist.specs.Supports.{PairsBegin}
 
 -- The m numbers at a place are as before where tuple g lives, and 65,535 each where it is dead.
 abbrev pub BlankAt : ℕ → ℕ → ℕ → List ℕ → List ℕ → List ℕ → Type 0
@@ -26,3 +29,20 @@ pub record Blanked (N : Network) (m : ℕ) (members : List ℕ) (k : ℕ) (words
   pub long : length numbers′ ≡ length numbers
   pub after : drop (supportStart N m members k) numbers′ ≡ drop (supportStart N m members k) numbers
   pub at-each : (p x : ℕ) → p < k → x < size N (pairMember members p) → BlankAt m (supportStart N m members p + x * m) (firstId N (pairMember members p) + x) words numbers numbers′
+
+-- ---- Contracts
+
+-- What the numbers of n tuples with ids from first on ask, which begin at `start`, m each.
+pub record BlankAsks (m start first end : ℕ) (words numbers : List ℕ) : Type 0 where
+  pub few : m ≤ maxMembers
+  pub rises : first ≤ end
+  pub bits : end ≤ wordBits * length words
+  pub inside : start + (end - first) * m ≤ length numbers
+
+-- What the numbers of all pairs ask.
+pub record BlankAllAsks (starts : List ℕ) (m : ℕ) (members begins words numbers : List ℕ) : Type 0 where
+  pub framed : Framed starts
+  pub paired : Paired starts m members
+  pub places : PairsBegin starts m members begins
+  pub enough : total (outline starts) ≤ wordBits * length words
+  pub room : needed (outline starts) (combinations m members) ≤ length numbers

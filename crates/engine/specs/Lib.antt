@@ -1,4 +1,3 @@
 -- The definitions that the contracts cite.
-pub mod Setting
 pub mod Work
 pub mod Blank

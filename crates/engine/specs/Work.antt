@@ -1,25 +1,50 @@
--- What the filter keeps true while it works, and what each of its steps does.
+-- What the filter prepares, what it keeps true while it works, and what each of its steps does.
 use mathlib.Core.Path.{_≡_}
 use mathlib.Core.Bool.{Bool, true, false}
 use mathlib.Core.Logic.{_⊎_}
 use mathlib.Core.List.{List, _++_, map, List·Memᴰ}
 use Prim.Native.Nat.{ℕ, _+_, _*_, _^_, _≤_, _<_}
 use lib.ListN.{length, getD, take, drop, replicate}
-use Rattle.model.specs.Limits.{wordBits, noSupport}
+use Rattle.model.specs.Limits.{wordBits, noSupport, maxSupportNumbers}
 use Rattle.model.specs.Lists.{pairwise, earlier}
 use Rattle.model.specs.TupleSet.{TupleSet, has, count}
 use Rattle.model.specs.Network.{total, indexOf}
 use Rattle.model.specs.Agreement.{agree}
 use Rattle.model.specs.Combination.{Combination}
 use Rattle.model.specs.Support.{candidates, isSupport, firstSupport}
-use Rattle.model.specs.Consistency.{filtered, needed}
+use Rattle.model.specs.Consistency.{filtered, supportList, needed}
 use Rattle.model.specs.LiveWords.{isLive, cleared, written}
-use Rattle.engine.specs.Setting.{Setting, network, listed, liveIn, combinationOf, sizeOf, tupleId, placeOf, held}
+use Rattle.narrowing.specs.Index.{Indexed, Long}
+use Rattle.worklist.specs.Supports.{SupportsFit, PairsBegin}
+use Rattle.layout.specs.Lent.{Loan, entry, exit}
+use Rattle.layout.specs.Setting.{Setting, network, listed, liveIn, Sound}
+use Rattle.layout.specs.Pairs.{combinationOf, sizeOf, tupleId, placeOf, held}
 
 -- An array of 64 words.
 pub record WordArray (words : List ℕ) : Type 0 where
-  pub long : length words ≡ 64
+  pub long : Long words
   pub small : (i : ℕ) → i < length words → getD words i 0 < 2 ^ 64
+
+-- Words for every tuple, and numbers for every pair, which are not too many: no fault 11 or 12.
+pub record Room (G : Setting) (words numbers : List ℕ) : Type 0 where
+  pub enough : total (network G) ≤ wordBits * length words
+  pub short : needed (network G) (listed G) ≤ maxSupportNumbers
+  pub room : needed (network G) (listed G) ≤ length numbers
+
+-- ---- What is prepared once
+
+-- What the preparation asks.
+pub record SoundShort (G : Setting) : Type 0 where
+  pub sound : Sound G
+  pub short : SupportsFit (G .lists .starts) (G .m) (G .members)
+
+-- The value index, and where each pair's numbers begin.
+pub record Prepared (G : Setting) (index begins : List ℕ) : Type 0 where
+  pub sound : Sound G
+  pub indexed : Indexed (network G) index
+  pub places : PairsBegin (G .lists .starts) (G .m) (G .members) begins
+
+-- ---- What holds while the filter works
 
 -- tuple g has a support in combination c while S lives
 abbrev pub Supported : Setting → TupleSet → Combination → ℕ → Type 0
@@ -40,8 +65,7 @@ Bound G S c g numbers = (numbers ≡ replicate (G .m) noSupport) ⊎ Candidate G
 
 -- What holds all the while: words for every tuple, numbers for every pair, and a bound for every live tuple.
 pub record Working (G : Setting) (words numbers : List ℕ) : Type 0 where
-  pub enough : total (network G) ≤ wordBits * length words
-  pub room : needed (network G) (listed G) ≤ length numbers
+  pub space : Room G words numbers
   pub bounds : (p x : ℕ) → p < length (G .members) → x < sizeOf G p → has (liveIn G words) (tupleId G p x) ≡ true → Bound G (liveIn G words) (combinationOf G p) (tupleId G p x) (held G numbers p x)
 
 -- The first k tuples of pair p's member are done: those that live have their first support in the list.
@@ -64,12 +88,32 @@ pub record Shrunk (G : Setting) (words after : List ℕ) : Type 0 where
 
 -- ---- One tuple
 
+-- A live tuple, with index x in pair p's member, whose numbers begin at `at`.
+pub record Seeker (G : Setting) (words numbers : List ℕ) (p x : ℕ) : Type 0 where
+  pub sound : Sound G
+  pub working : Working G words numbers
+  pub pair : p < length (G .members)
+  pub index : x < sizeOf G p
+  pub lives : has (liveIn G words) (tupleId G p x) ≡ true
+
+-- What its renewal asks.
+pub record RenewAt (G : Setting) (index words numbers : List ℕ) (p x at : ℕ) : Type 0 where
+  pub seeker : Seeker G words numbers p x
+  pub indexed : Indexed (network G) index
+  pub place : at ≡ placeOf G p x
+
 -- The tuple with id g has its first support in the list, or has none and is dead; nothing else changes.
 pub record Renewed (G : Setting) (p x : ℕ) (words numbers : List ℕ) (found : Bool) (words′ numbers′ : List ℕ) : Type 0 where
   pub kept : found ≡ true → (words′ ≡ words) × (numbers′ ≡ take (placeOf G p x) numbers ++ firstSupport (network G) (liveIn G words) (combinationOf G p) (tupleId G p x) ++ drop (placeOf G p x + G .m) numbers) × Supported G (liveIn G words) (combinationOf G p) (tupleId G p x)
   pub removed : found ≡ false → (words′ ≡ cleared (tupleId G p x) words) × (numbers′ ≡ numbers) × (Supported G (liveIn G words) (combinationOf G p) (tupleId G p x) → ⊥)
 
 -- ---- One pair
+
+-- What a visit of pair p asks.
+pub record VisitAt (G : Setting) (index begins words numbers : List ℕ) (p : ℕ) : Type 0 where
+  pub prepared : Prepared G index begins
+  pub working : Working G words numbers
+  pub pair : p < length (G .members)
 
 -- Pair p is visited: where every pair was done but p and those that wait, every pair is that does not wait now. Either nothing
 -- was removed, and the same pairs wait, or fewer tuples live.
@@ -80,3 +124,16 @@ pub record Visited (G : Setting) (p : ℕ) (queue words numbers queue′ words�
   pub long : length numbers′ ≡ length numbers
   pub done : Rest G queue words numbers (λ q. q ≡ p) → Rest G queue′ words′ numbers′ (λ q. ⊥)
   pub progress : ((queue′ ≡ queue) × (words′ ≡ words)) ⊎ (count (liveIn G words′) < count (liveIn G words))
+
+-- ---- The filter
+
+-- the live tuples are the largest consistent set of those that lived, and the list holds their first supports; every other bit and
+-- number is as it was
+abbrev pub Filtered : Setting → List ℕ → List ℕ → List ℕ → List ℕ → Type 0
+Filtered G words numbers words′ numbers′ =
+    let L = filtered (network G) (listed G) (liveIn G words) in
+    (words′ ≡ written (total (network G)) L words)
+    × (numbers′ ≡ supportList (network G) (listed G) L ++ drop (needed (network G) (listed G)) numbers)
+
+abbrev pub Filters : Setting → Loan → Loan → Type 0
+Filters G words numbers = Filtered G (entry words) (entry numbers) (exit words) (exit numbers)

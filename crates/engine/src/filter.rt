@@ -1,50 +1,58 @@
 // Visits until no pair waits: what lives then is the largest consistent set.
-ghost use mathlib.Core.Path.{_≡_};
-ghost use mathlib.Core.List.{_++_};
-ghost use Prim.Native.Nat.{_*_, _≤_};
-ghost use lib.ListN.{length, drop};
-ghost use Rattle.model.specs.Limits.{wordBits};
-ghost use Rattle.model.specs.Network.{total};
-ghost use Rattle.model.specs.Consistency.{filtered, supportList, needed};
-ghost use Rattle.model.specs.LiveWords.{written};
-ghost use Rattle.engine.specs.Setting.{setting, network, listed, liveIn, Sound};
-ghost use Rattle.engine.specs.Work.{WordArray};
+ghost use Rattle.layout.specs.Lent.{entry, exit};
+ghost use Rattle.layout.specs.Setting.{setting, Sound};
+ghost use Rattle.narrowing.specs.Index.{Full};
+ghost use Rattle.engine.specs.Work.{WordArray, Room, Prepared, SoundShort, Filters};
 use super::blank::blank_all;
 use super::visit::visit;
+use layout::Starts;
 use layout::wide;
+use live::Words;
 use live::copied;
 use live::put_back;
-use narrowing::mark_all;
+use model::Value;
+use narrowing::INDEX;
+use narrowing::Index;
+use narrowing::index_all;
+use worklist::list::PairStarts;
 use worklist::list::fill;
 use worklist::list::pair_starts;
 use worklist::queue::Queue;
 
-// What `filter` does, in an array of 64 words.
-fn settle(
+// What is prepared once for a network and its combinations, whatever lives: the value index, in the noughts lent, and where each
+// pair's numbers begin.
+pub fn prepare(
     variables: &[u16],
-    values: &[u16],
-    variable_starts: &[u16; 65],
-    tuple_starts: &[u16; 65],
-    value_starts: &[u16; 65],
+    values: &[Value],
+    starts: &Starts,
     members: &[u16],
     m: u16,
-    wanted: usize,
-    words: &mut [u64; 64],
+    index: &mut Index,
+) -> PairStarts
+    requires { ⌜ Full (now index) × SoundShort (setting now variables values starts members m) ⌝ }
+    ensures { λ r. ⌜ Prepared (setting entry variables values starts members m) (exit index) r ⌝ }
+{
+    index_all(variables, values, starts, index);
+    pair_starts(starts, members, m)
+}
+
+// What `filter` does, on what is prepared and in an array of 64 words.
+pub fn settle(
+    variables: &[u16],
+    values: &[Value],
+    starts: &Starts,
+    members: &[u16],
+    m: u16,
+    index: &Index,
+    pair_starts: &PairStarts,
+    words: &mut Words,
     numbers: &mut [u16],
 )
-    requires { ⌜ WordArray (now words) × (let G = setting (now variables) (now values) (now «variable_starts») (now «tuple_starts») (now «value_starts») (now members) m in Sound G × ((total (network G) ≤ wordBits * length (now words)) × ((wanted ≡ needed (network G) (listed G)) × (wanted ≤ length (now numbers))))) ⌝ }
-    ensures { λ _. ⌜ (let G = setting (now (variables .entry)) (now (values .entry)) (now («variable_starts» .entry)) (now («tuple_starts» .entry)) (now («value_starts» .entry)) (now (members .entry)) m in let L = filtered (network G) (listed G) (liveIn G (now (words .entry))) in (now (words .exit) ≡ written (total (network G)) L (now (words .entry))) × (now (numbers .exit) ≡ supportList (network G) (listed G) L ++ drop (needed (network G) (listed G)) (now (numbers .entry)))) ⌝ }
+    requires { ⌜ WordArray (now words) × Prepared (setting now variables values starts members m) (now index) (now «pair_starts») ⌝ }
+    requires { ⌜ Room (setting now variables values starts members m) (now words) (now numbers) ⌝ }
+    ensures { λ _. ⌜ Filters (setting entry variables values starts members m) words numbers ⌝ }
 {
-    let mut table = [0u64; 8704];
-    mark_all(
-        values,
-        variable_starts,
-        tuple_starts,
-        value_starts,
-        &mut table,
-    );
-    let starts = pair_starts(tuple_starts, members, m);
-    fill(numbers, wanted);
+    fill(numbers, wide(pair_starts[members.len()]));
     let mut waiting = Queue::full(members.len() as u16);
     loop {
         let taken = waiting.take();
@@ -57,48 +65,44 @@ fn settle(
             rest,
             variables,
             values,
-            variable_starts,
-            tuple_starts,
-            value_starts,
-            &table,
+            starts,
+            index,
             members,
             m,
-            &starts,
+            pair_starts,
             words,
             numbers,
             pair,
         );
     }
-    blank_all(tuple_starts, members, m, &starts, words, numbers);
+    blank_all(starts, members, m, pair_starts, words, numbers);
 }
 
 // The live tuples are the largest consistent set of those that lived, and the support list holds their first supports; every
 // other bit and number stays.
 pub fn filter(
     variables: &[u16],
-    values: &[u16],
-    variable_starts: &[u16; 65],
-    tuple_starts: &[u16; 65],
-    value_starts: &[u16; 65],
+    values: &[Value],
+    starts: &Starts,
     members: &[u16],
     m: u16,
-    wanted: usize,
     words: &mut [u64],
     numbers: &mut [u16],
 )
-    requires { ⌜ (let G = setting (now variables) (now values) (now «variable_starts») (now «tuple_starts») (now «value_starts») (now members) m in Sound G × ((total (network G) ≤ wordBits * length (now words)) × ((wanted ≡ needed (network G) (listed G)) × (wanted ≤ length (now numbers))))) ⌝ }
-    ensures { λ _. ⌜ (let G = setting (now (variables .entry)) (now (values .entry)) (now («variable_starts» .entry)) (now («tuple_starts» .entry)) (now («value_starts» .entry)) (now (members .entry)) m in let L = filtered (network G) (listed G) (liveIn G (now (words .entry))) in (now (words .exit) ≡ written (total (network G)) L (now (words .entry))) × (now (numbers .exit) ≡ supportList (network G) (listed G) L ++ drop (needed (network G) (listed G)) (now (numbers .entry)))) ⌝ }
+    requires { ⌜ Sound (setting now variables values starts members m) × Room (setting now variables values starts members m) (now words) (now numbers) ⌝ }
+    ensures { λ _. ⌜ Filters (setting entry variables values starts members m) words numbers ⌝ }
 {
+    let mut index = [0u64; INDEX];
+    let begins = prepare(variables, values, starts, members, m, &mut index);
     let mut live = copied(words);
     settle(
         variables,
         values,
-        variable_starts,
-        tuple_starts,
-        value_starts,
+        starts,
         members,
         m,
-        wanted,
+        &index,
+        &begins,
         &mut live,
         numbers,
     );

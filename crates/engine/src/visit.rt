@@ -1,17 +1,20 @@
 // A visit of one pair of combination and member: each live tuple of the member gets its first support, or is removed.
-ghost use mathlib.Core.Path.{_≡_};
-ghost use mathlib.Core.Bool.{true};
-ghost use Prim.Native.Nat.{_<_};
-ghost use lib.ListN.{length, getD};
-ghost use Rattle.model.specs.TupleSet.{has};
-ghost use Rattle.narrowing.specs.Marks.{Marks};
-ghost use Rattle.engine.specs.Setting.{setting, network, Sound, liveIn, sizeOf, tupleId, placeOf};
-ghost use Rattle.engine.specs.Work.{WordArray, Working, Renewed, Visited};
+ghost use Rattle.layout.specs.Lent.{entry, exit};
+ghost use Rattle.layout.specs.Setting.{setting};
+ghost use Rattle.narrowing.specs.Index.{Long};
+ghost use Rattle.engine.specs.Work.{WordArray, RenewAt, Renewed, VisitAt, Visited};
+use layout::Starts;
+use layout::tuple_start;
 use layout::wide;
+use live::Words;
 use live::clear;
 use live::next;
+use model::MAX_MEMBERS;
 use model::NO_SUPPORT;
+use model::Value;
+use narrowing::Index;
 use support::first_support;
+use worklist::list::PairStarts;
 use worklist::list::all_live;
 use worklist::list::load;
 use worklist::list::store;
@@ -21,31 +24,29 @@ use worklist::queue::requeue;
 // Whether tuple x of pair p's member has a support: its first one is in the list then, and otherwise the tuple is dead.
 pub fn renew(
     variables: &[u16],
-    values: &[u16],
-    variable_starts: &[u16; 65],
-    tuple_starts: &[u16; 65],
-    value_starts: &[u16; 65],
-    table: &[u64; 8704],
+    values: &[Value],
+    starts: &Starts,
+    index: &Index,
     members: &[u16],
     m: u16,
-    words: &mut [u64; 64],
+    words: &mut Words,
     numbers: &mut [u16],
     p: u16,
     x: u16,
     at: usize,
 ) -> bool
-    requires { ⌜ (length (now words) ≡ 64) × (let G = setting (now variables) (now values) (now «variable_starts») (now «tuple_starts») (now «value_starts») (now members) m in Sound G × (Marks (network G) (now table) × (Working G (now words) (now numbers) × ((p < length (now members)) × ((x < sizeOf G p) × ((has (liveIn G (now words)) (tupleId G p x) ≡ true) × (at ≡ placeOf G p x))))))) ⌝ }
-    ensures { λ r. ⌜ Renewed (setting (now (variables .entry)) (now (values .entry)) (now («variable_starts» .entry)) (now («tuple_starts» .entry)) (now («value_starts» .entry)) (now (members .entry)) m) p x (now (words .entry)) (now (numbers .entry)) r (now (words .exit)) (now (numbers .exit)) ⌝ }
+    requires { ⌜ Long (now words) × RenewAt (setting now variables values starts members m) (now index) (now words) (now numbers) p x at ⌝ }
+    ensures { λ r. ⌜ Renewed (setting entry variables values starts members m) p x (entry words) (entry numbers) r (exit words) (exit numbers) ⌝ }
 {
     let each = wide(m);
     let pair = wide(p);
     let base = pair / each * each;
     let end = base + each;
     let place = pair % each;
-    let mut low = [0u16; 4];
+    let mut low = [0u16; MAX_MEMBERS];
     if numbers[at] != NO_SUPPORT {
         low = load(numbers, at, each);
-        if all_live(words, tuple_starts, members, base, each, low) {
+        if all_live(words, starts, members, base, each, low) {
             return true;
         }
     } else {
@@ -54,10 +55,8 @@ pub fn renew(
     let found = first_support(
         variables,
         values,
-        variable_starts,
-        tuple_starts,
-        value_starts,
-        table,
+        starts,
+        index,
         words,
         &members[base..end],
         place,
@@ -69,8 +68,7 @@ pub fn renew(
         store(numbers, at, each, tuples);
         return true;
     }
-    let r = wide(members[pair]);
-    clear(words, tuple_starts[r] + x);
+    clear(words, tuple_start(starts, members[pair]) + x);
     false
 }
 
@@ -78,24 +76,22 @@ pub fn renew(
 pub fn visit(
     queue: Queue,
     variables: &[u16],
-    values: &[u16],
-    variable_starts: &[u16; 65],
-    tuple_starts: &[u16; 65],
-    value_starts: &[u16; 65],
-    table: &[u64; 8704],
+    values: &[Value],
+    starts: &Starts,
+    index: &Index,
     members: &[u16],
     m: u16,
-    pair_starts: &[u16; 1024],
-    words: &mut [u64; 64],
+    pair_starts: &PairStarts,
+    words: &mut Words,
     numbers: &mut [u16],
     p: u16,
 ) -> Queue
-    requires { ⌜ WordArray (now words) × (let G = setting (now variables) (now values) (now «variable_starts») (now «tuple_starts») (now «value_starts») (now members) m in Sound G × (Marks (network G) (now table) × (Working G (now words) (now numbers) × ((p < length (now members)) × (getD (now «pair_starts») p 0 ≡ placeOf G p 0))))) ⌝ }
-    ensures { λ r. ⌜ Visited (setting (now (variables .entry)) (now (values .entry)) (now («variable_starts» .entry)) (now («tuple_starts» .entry)) (now («value_starts» .entry)) (now (members .entry)) m) p (queue .words) (now (words .entry)) (now (numbers .entry)) (r .words) (now (words .exit)) (now (numbers .exit)) ⌝ }
+    requires { ⌜ WordArray (now words) × VisitAt (setting now variables values starts members m) (now index) (now «pair_starts») (now words) (now numbers) p ⌝ }
+    ensures { λ r. ⌜ Visited (setting entry variables values starts members m) p (queue .words) (entry words) (entry numbers) (r .words) (exit words) (exit numbers) ⌝ }
 {
-    let r = wide(members[wide(p)]);
-    let first = tuple_starts[r];
-    let end = tuple_starts[r + 1];
+    let r = members[wide(p)];
+    let first = tuple_start(starts, r);
+    let end = tuple_start(starts, r + 1);
     let start = wide(pair_starts[wide(p)]);
     let mut waiting = queue;
     let mut shrunk = false;
@@ -106,10 +102,8 @@ pub fn visit(
         if !renew(
             variables,
             values,
-            variable_starts,
-            tuple_starts,
-            value_starts,
-            table,
+            starts,
+            index,
             members,
             m,
             words,

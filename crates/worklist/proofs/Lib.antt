@@ -1,4 +1,4 @@
--- The laws of the waiting list, of the support list, and of the tables.
+-- The laws of the queue and of the support list.
 pub mod Waiting
 pub mod Stretch
-pub mod Starts
+pub mod ForLayout

@@ -1,13 +1,16 @@
--- Laws of a list in which the m elements from one place on were replaced: what those hold now, and every other stretch.
+-- Laws of a list in which the m elements from one place on were replaced: what those hold now, and every other stretch; and of
+-- replacing them one by one.
 -- From the logic's laws of lists.
 use mathlib.Core.Path.{_≡_, refl, sym, _∙_, ap}
 use mathlib.Core.List.{List, _∷_, _++_, append-assoc}
 use mathlib.Core.Logic.{_⊎_, ⊎-elim}
-use Prim.Native.Nat.{ℕ, zero, suc, _+_, _-_, _≤_}
+use Prim.Native.Nat.{ℕ, zero, suc, _+_, _-_, _≤_, _<_}
 use native.Mathlib.Nat.{sub-zero, zero-sub, suc-sub-suc}
+use native.Mathlib.Numerals.{add-one}
 use native.Mathlib.Omega.{arith}
-use lib.ListN.{length, take, drop, replicate, length-append, length-drop, take-append-drop}
-use lib.Seq.{length-take-le, take-at, drop-at, take-append-le, drop-append-le, take-add, drop-drop}
+use lib.ListN.{length, getD, set, take, drop, replicate, length-set, length-append, length-drop, take-append-drop}
+use lib.Seq.{length-take-le, take-at, drop-at, take-append-le, drop-append-le, take-add, drop-drop, paste, paste-zero, paste-suc}
+pub use Rattle.worklist.specs.Supports.{replaced}
 
 pub take-replicate {ℓ} : {A : Type ℓ} (m n : ℕ) (x : A) → m ≤ n → take m (replicate n x) ≡ replicate m x
 take-replicate zero n x h = refl
@@ -19,9 +22,25 @@ drop-replicate zero n x = rw (sub-zero n)
 drop-replicate (suc m) zero x = rw (zero-sub (suc m))
 drop-replicate (suc m) (suc n) x = drop-replicate m n x ∙ ap (λ (k : ℕ). replicate k x) (sym (suc-sub-suc n m))
 
--- the list with `new` in place of the m elements from `at` on
-abbrev pub replaced {ℓ} : {A : Type ℓ} → List A → List A → ℕ → ℕ → List A
-replaced list new at m = take at list ++ new ++ drop (at + m) list
+-- ---- One by one
+
+-- `after` is the list with the first j elements of `new` in place of those from `at` on
+abbrev pub Copied : List ℕ → ℕ → List ℕ → ℕ → List ℕ → Type 0
+Copied list at new j after = (length after ≡ length list) × (after ≡ paste list at new j)
+
+pub copied-none : (list : List ℕ) (at : ℕ) (new : List ℕ) → Copied list at new 0 list
+copied-none list at new = (refl, paste-zero list at new)
+
+pub copied-more : (list : List ℕ) (at : ℕ) (new : List ℕ) (j v : ℕ) (after : List ℕ) → at + j < length list → j < length new → v ≡ getD new j 0 → Copied list at new j after → Copied list at new (j + 1) (set after (at + j) v)
+copied-more list at new j v after d h e c = (
+  length-set after (at + j) v ∙ c .0,
+  ap (λ (xs : List ℕ). set xs (at + j) v) (c .1)
+      ∙ ap (set (paste list at new j) (at + j)) e
+      ∙ paste-suc list at new j 0 d h
+      ∙ ap (paste list at new) (sym (add-one j)),
+)
+
+-- ---- The list with the elements replaced
 
 -- by themselves
 pub replaced-same {ℓ} : {A : Type ℓ} (list : List A) (at m : ℕ) → replaced list (take m (drop at list)) at m ≡ list

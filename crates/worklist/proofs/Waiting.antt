@@ -1,10 +1,10 @@
--- Laws of the waiting list: which pairs wait once a pair is put, and which pairs a combination adds.
+-- Laws of the queue: which pairs wait once one is put or taken, and which pairs a removal adds.
 -- From the model's laws of live words, and the definitions of `others` and `queues`.
-use mathlib.Core.Path.{_≡_, refl, sym, _∙_, ap}
-use mathlib.Core.Bool.{Bool, false, not, _&&_, _||_, or-false, and-true, and-false}
+use mathlib.Core.Path.{_≡_, refl, sym, _∙_, ap, subst}
+use mathlib.Core.Bool.{Bool, true, false, not, _&&_, _||_, or-false, or-assoc, and-true, and-false}
 use mathlib.Core.List.{List, _∷_}
 use Prim.Native.Nat.{ℕ, suc, _+_, _-_, _*_, _/_, _^_, _≤_, _<_}
-use native.Mathlib.Nat.{div-eq-of-lt-le, div-lt-iff-lt-mul, le-div-iff-mul-le, zero-div, zero-mul, add-div-right, mul-div-cancel, mul-le-mul-right}
+use native.Mathlib.Nat.{div-eq-of-lt-le, le-div-iff-mul-le, zero-div, zero-mul, add-div-right, mul-div-cancel, mul-le-mul-right}
 use native.Mathlib.Numerals.{add-one}
 use native.Mathlib.Decide.{ℕ-discrete, decLt}
 use native.Mathlib.Omega.{arith}
@@ -19,9 +19,10 @@ use Rattle.model.specs.Lists.{elem}
 use Rattle.model.specs.Combination.{pairMember}
 use Rattle.model.specs.LiveWords.{isLive, cleared, raised}
 use Rattle.model.proofs.LiveWords.{cleared-isLive, raised-length, raised-isLive, raised-below}
-use Rattle.worklist.specs.Pairs.{Pairs, others, queues}
+use Rattle.layout.specs.Setting.{Whole}
+use Rattle.worklist.specs.Pairs.{WaitToo, others, queues}
 
--- ---- The words of a waiting list
+-- ---- The words of a queue
 
 pub record Words (ws : List ℕ) : Type 0 where
   pub sixteen : length ws ≡ 16
@@ -38,7 +39,7 @@ pub put-words : (ws : List ℕ) → Words ws → (p : ℕ) → Words (raised p w
 put-words ws w p = record { sixteen = raised-length p ws ∙ w .sixteen; small = λ i h. raised-below p ws (w .small) i (omega (arith, raised-length p ws)) }
 
 -- pair p waits too, and every other pair is as before
-pub put-waits : (ws : List ℕ) → Words ws → (p q : ℕ) → q < maxPairs → isLive (raised p ws) q ≡ (isLive ws q || eqb p q)
+pub put-waits : (ws : List ℕ) → Words ws → (p : ℕ) → WaitToo ws (eqb p) (raised p ws)
 put-waits ws w p q h = raised-isLive p ws (w .small) q (omega (arith, w .sixteen))
 
 -- pair p waits no more, and every other pair is as before
@@ -53,6 +54,27 @@ ltb-more p q = go (ℕ-discrete p q) (decLt q p)
     go d (yes h) = rw (lt-ltb q p h, lt-ltb q (p + 1) (omega arith))
     go (yes e) (no h) = rw (le-ltb q p (omega arith), eq-eqb p q e, lt-ltb q (p + 1) (omega arith))
     go (no d) (no h) = rw (le-ltb q p (omega arith), ne-eqb p q d, le-ltb q (p + 1) (omega arith))
+
+-- ---- Pairs that wait too
+
+pub wait-none : (ws : List ℕ) (f : ℕ → Bool) → ((q : ℕ) → f q ≡ false) → WaitToo ws f ws
+wait-none ws f e q h = sym (ap (λ (b : Bool). isLive ws q || b) (e q) ∙ or-false (isLive ws q))
+
+-- under a condition
+module _ (f : ℕ → Bool) (v : Bool) where
+  pub wait-if : (us ws : List ℕ) → v ≡ true → WaitToo us f ws → WaitToo us (λ (q : ℕ). v && f q) ws
+  wait-if us ws e w = subst (λ (b : Bool). WaitToo us (λ (q : ℕ). b && f q) ws) (sym e) w
+
+  pub wait-not : (ws : List ℕ) → v ≡ false → WaitToo ws (λ (q : ℕ). v && f q) ws
+  wait-not ws e = wait-none ws (λ (q : ℕ). v && f q) (λ q. ap (λ (b : Bool). b && f q) e)
+
+-- one test after the other
+pub wait-then : (us vs ws : List ℕ) (f g both : ℕ → Bool) → WaitToo us f vs → WaitToo vs g ws → ((q : ℕ) → both q ≡ (f q || g q)) → WaitToo us both ws
+wait-then us vs ws f g both a b e q h =
+    b q h
+    ∙ ap (λ (x : Bool). x || g q) (a q h)
+    ∙ or-assoc (isLive us q) (f q) (g q)
+    ∙ ap (λ (x : Bool). isLive us q || x) (sym (e q))
 
 -- ---- The members of one combination
 
@@ -72,24 +94,19 @@ module _ (base : ℕ) (members : List ℕ) (r : ℕ) where
       go (yes l) = rw (lt-leb base h l)
       go (no l) = rw (le-leb base h (omega arith), le-ltb h base (omega arith))
 
-  module _ (q h : ℕ) (from : base ≤ q) where
-    others-next : Dec (h ≡ q) → others base (q + 1) members r h ≡ (others base q members r h || (eqb q h && not (eqb (pairMember members q) r)))
-    unfolding others
-    others-next (yes e) =
-        let a : q ≡ h = sym e in
-        rw (eq-eqb q h a, e, le-leb base q from, le-ltb q q (omega arith), lt-ltb q (q + 1) (omega arith))
-    others-next (no d) =
-        rw (ne-eqb q h (λ e. d (sym e)), or-false, ← ltb-more q h, ne-eqb q h (λ e. d (sym e)), or-false)
+  -- one pair more
+  pub others-next : (q : ℕ) → base ≤ q → (h : ℕ) → others base (q + 1) members r h ≡ (others base q members r h || (not (eqb (pairMember members q) r) && eqb q h))
+  unfolding others
+  others-next q from h = go (ℕ-discrete h q)
+    where
+      go : Dec (h ≡ q) → (leb base h && ltb h (q + 1) && not (eqb (pairMember members h) r)) ≡ (leb base h && ltb h q && not (eqb (pairMember members h) r) || (not (eqb (pairMember members q) r) && eqb q h))
+      go (yes e) =
+          let a : q ≡ h = sym e in
+          rw (eq-eqb q h a, e, le-leb base q from, le-ltb q q (omega arith), lt-ltb q (q + 1) (omega arith), and-true)
+      go (no d) =
+          rw (ne-eqb q h (λ e. d (sym e)), and-false, or-false, ← ltb-more q h, ne-eqb q h (λ e. d (sym e)), or-false)
 
-    -- pair q's member is another relation
-    pub others-more : (getD members q 0 ≡ r → ⊥) → others base (q + 1) members r h ≡ (others base q members r h || eqb q h)
-    others-more d = others-next (ℕ-discrete h q) ∙ rw (ne-eqb (getD members q 0) r d, and-true)
-
-    -- pair q's member is r itself
-    pub others-same : getD members q 0 ≡ r → others base (q + 1) members r h ≡ others base q members r h
-    others-same e = others-next (ℕ-discrete h q) ∙ rw (eq-eqb (getD members q 0) r e, and-false, or-false)
-
--- ---- The pairs that a strike queues
+-- ---- The pairs that a removal queues
 
 -- the test of the pairs of one combination and of those before it, by the parts of the range
 block-more : (test : ℕ → Bool) (base end h : ℕ) (v : Bool) (members : List ℕ) (r : ℕ) → base ≤ end → (base ≤ h → h < end → test h ≡ (v && not (eqb (pairMember members h) r))) → (ltb h end && test h) ≡ (ltb h base && test h || (v && others base end members r h))
@@ -101,7 +118,7 @@ block-more test base end h v members r l same = go (decLt h base) (decLt h end)
     go (no a) (yes b) = rw (lt-ltb h end b, le-ltb h base (omega arith), le-leb base h (omega arith)) (same (omega arith) b)
     go (no a) (no b) = rw (le-ltb h end (omega arith), le-ltb h base (omega arith), le-leb base h (omega arith), and-false)
 
--- a strike in pair p's combination queues pairs of the combination from base on
+-- a removal in pair p's combination queues pairs of the combination from base on
 abbrev pub visits : ℕ → List ℕ → ℕ → ℕ → Bool
 visits m members p base = not (eqb (base / m) (p / m)) && elem (pairMember members p) (take m (drop base members))
 
@@ -109,11 +126,14 @@ visits m members p base = not (eqb (base / m) (p / m)) && elem (pairMember membe
 abbrev pub adds : ℕ → List ℕ → ℕ → ℕ → ℕ → Bool
 adds m members p base h = visits m members p base && others base (base + m) members (pairMember members p) h
 
--- the first combination begins at nought
-pub first-base : (m : ℕ) → 0 / m * m ≡ 0
-first-base m = ap (λ (k : ℕ). k * m) (zero-div m) ∙ zero-mul m
+-- a combination begins at a multiple of m: nought is one, and so is the next after each
+pub multiple-first : (m : ℕ) → 0 / m * m ≡ 0
+multiple-first m = ap (λ (k : ℕ). k * m) (zero-div m) ∙ zero-mul m
 
-module _ (m : ℕ) (members : List ℕ) (p : ℕ) (pairs : Pairs m members) where
+pub multiple-next : (m base : ℕ) → 0 < m → base / m * m ≡ base → (base + m) / m * m ≡ base + m
+multiple-next m base pos e = let q = add-div-right base pos in rw q (omega arith)
+
+module _ (m : ℕ) (members : List ℕ) (p : ℕ) (pairs : Whole m members) where
   -- p's own combination is not visited
   pub visits-own : (base : ℕ) → base ≡ p / m * m → visits m members p base ≡ false
   visits-own base e =
@@ -125,16 +145,6 @@ module _ (m : ℕ) (members : List ℕ) (p : ℕ) (pairs : Pairs m members) wher
   visits-other base e d =
       let n : base / m ≡ p / m → ⊥ = λ q. d (sym e ∙ ap (λ (k : ℕ). k * m) q) in
       rw (ne-eqb (base / m) (p / m) n)
-
-  -- the combination from base on, and where the next begins
-  pub inside : (base : ℕ) → base / m * m ≡ base → base < length members → base + m ≤ length members
-  inside base e l =
-      let b : base < length members / m * m = omega (arith, pairs .whole) in
-      let k : suc (base / m) ≤ length members / m = div-lt-iff-lt-mul (pairs .positive) .1 b in
-      omega (arith, mul-le-mul-right m k, pairs .whole)
-
-  pub next-base : (base : ℕ) → base / m * m ≡ base → (base + m) / m * m ≡ base + m
-  next-base base e = let q = add-div-right base (pairs .positive) in rw q (omega arith)
 
   queues-in : (base h : ℕ) → base / m * m ≡ base → base ≤ h → h < base + m → queues m members p h ≡ (visits m members p base && not (eqb (pairMember members h) (pairMember members p)))
   unfolding queues

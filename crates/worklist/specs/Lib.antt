@@ -1,3 +1,3 @@
 -- The definitions that the contracts cite.
 pub mod Pairs
-pub mod Tables
+pub mod Supports

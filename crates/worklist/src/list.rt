@@ -1,21 +1,32 @@
-// The support list as a lent list of 16-bit numbers, and the tuples that a support names.
+// The support list: for each tuple of each pair's member m numbers, which are the indices of its support's tuples. A dead tuple's
+// numbers are 65,535.
 ghost use mathlib.Core.Path.{_≡_};
 ghost use mathlib.Core.List.{_++_};
-ghost use Prim.Native.Nat.{ℕ, _+_, _-_, _≤_, _<_};
-ghost use lib.ListN.{length, getD, take, drop, replicate};
+ghost use Prim.Native.Nat.{_+_, _-_, _≤_};
+ghost use lib.ListN.{length, take, drop, replicate};
 ghost use Rattle.model.specs.Limits.{maxMembers, noSupport};
-ghost use Rattle.model.specs.Lists.{from, all};
-ghost use Rattle.model.specs.Network.{Network};
-ghost use Rattle.model.specs.LiveWords.{isLive};
-ghost use Rattle.model.specs.Consistency.{supportStart};
-ghost use Rattle.worklist.specs.Tables.{Tabled, chosenId, Chosen};
-use super::wide;
+ghost use Rattle.layout.specs.Lent.{entry, exit};
+ghost use Rattle.layout.specs.Starts.{Framed};
+ghost use Rattle.layout.specs.Setting.{Paired};
+ghost use Rattle.worklist.specs.Supports.{replaced, SupportsFit, PairsBegin, Chosen, allLive};
+use layout::Starts;
+use layout::tuple_start;
+use live::is_live;
+use model::MAX_MEMBERS;
 use model::NO_SUPPORT;
 
-// The first n numbers are 65,535, and all others stay.
+// The tuples of a support by their indices, one for each member.
+pub type Indices = [u16; MAX_MEMBERS];
+
+// An entry for each of 1,024 pairs, and one behind them.
+pub const PAIR_STARTS: usize = 1025;
+
+pub type PairStarts = [u16; PAIR_STARTS];
+
+// Sets the first n numbers to 65,535; all others stay.
 pub fn fill(numbers: &mut [u16], n: usize)
     requires { ⌜ n ≤ length (now numbers) ⌝ }
-    ensures { λ _. ⌜ now (numbers .exit) ≡ replicate n noSupport ++ drop n (now (numbers .entry)) ⌝ }
+    ensures { λ _. ⌜ exit numbers ≡ replicate n noSupport ++ drop n (entry numbers) ⌝ }
 {
     let mut i = 0;
     while i < n {
@@ -24,12 +35,12 @@ pub fn fill(numbers: &mut [u16], n: usize)
     }
 }
 
-// The m numbers from the given place on, and noughts behind them.
-pub fn load(numbers: &[u16], at: usize, m: usize) -> [u16; 4]
+// The m numbers from `at` on, and noughts behind them.
+pub fn load(numbers: &[u16], at: usize, m: usize) -> Indices
     requires { ⌜ (at + m ≤ length (now numbers)) × (m ≤ maxMembers) ⌝ }
-    ensures { λ r. ⌜ r ≡ take m (drop at (now (numbers .entry))) ++ replicate (maxMembers - m) 0 ⌝ }
+    ensures { λ r. ⌜ r ≡ take m (drop at (entry numbers)) ++ replicate (maxMembers - m) 0 ⌝ }
 {
-    let mut tuples = [0u16; 4];
+    let mut tuples = [0u16; MAX_MEMBERS];
     let mut j = 0;
     while j < m {
         tuples[j] = numbers[at + j];
@@ -38,10 +49,10 @@ pub fn load(numbers: &[u16], at: usize, m: usize) -> [u16; 4]
     tuples
 }
 
-// The m numbers from the given place on are the first m of those given, and all others stay.
-pub fn store(numbers: &mut [u16], at: usize, m: usize, tuples: [u16; 4])
+// Sets the m numbers from `at` on to the first m indices; all others stay.
+pub fn store(numbers: &mut [u16], at: usize, m: usize, tuples: Indices)
     requires { ⌜ (at + m ≤ length (now numbers)) × (m ≤ maxMembers) ⌝ }
-    ensures { λ _. ⌜ now (numbers .exit) ≡ take at (now (numbers .entry)) ++ take m tuples ++ drop (at + m) (now (numbers .entry)) ⌝ }
+    ensures { λ _. ⌜ exit numbers ≡ replaced (entry numbers) (take m tuples) at m ⌝ }
 {
     let mut j = 0;
     while j < m {
@@ -50,10 +61,10 @@ pub fn store(numbers: &mut [u16], at: usize, m: usize, tuples: [u16; 4])
     }
 }
 
-// The m numbers from the given place on are 65,535, and all others stay.
+// Sets the m numbers from `at` on to 65,535; all others stay.
 pub fn blank(numbers: &mut [u16], at: usize, m: usize)
     requires { ⌜ (at + m ≤ length (now numbers)) × (m ≤ maxMembers) ⌝ }
-    ensures { λ _. ⌜ now (numbers .exit) ≡ take at (now (numbers .entry)) ++ replicate m noSupport ++ drop (at + m) (now (numbers .entry)) ⌝ }
+    ensures { λ _. ⌜ exit numbers ≡ replaced (entry numbers) (replicate m noSupport) at m ⌝ }
 {
     let mut j = 0;
     while j < m {
@@ -62,39 +73,38 @@ pub fn blank(numbers: &mut [u16], at: usize, m: usize)
     }
 }
 
-// Where each pair's numbers begin, in the support list of any network that the tables belong to.
-pub fn pair_starts(tuple_starts: &[u16; 65], members: &[u16], m: u16) -> [u16; 1024]
-    requires { ⌜ ((N : Network) × Tabled N m (now «tuple_starts») (now members)) ⌝ }
-    ensures { λ r. ⌜ ((N : Network) → Tabled N m (now («tuple_starts» .entry)) (now (members .entry)) → (p : ℕ) → p < length (now (members .entry)) → getD r p 0 ≡ supportStart N m (now (members .entry)) p) ⌝ }
+// Where each pair's numbers begin in the support list, and behind the last pair how many numbers there are.
+pub fn pair_starts(starts: &Starts, members: &[u16], m: u16) -> PairStarts
+    requires { ⌜ Framed (now starts) × Paired (now starts) m (now members) × SupportsFit (now starts) m (now members) ⌝ }
+    ensures { λ r. ⌜ PairsBegin (entry starts) m (entry members) r ⌝ }
 {
-    let mut starts = [0u16; 1024];
-    let mut at: u16 = 0;
+    let mut begins = [0u16; PAIR_STARTS];
     let mut p = 0;
     while p < members.len() {
-        let r = wide(members[p]);
-        starts[p] = at;
-        at += (tuple_starts[r + 1] - tuple_starts[r]) * m;
+        let r = members[p];
+        let size = tuple_start(starts, r + 1) - tuple_start(starts, r);
+        begins[p + 1] = begins[p] + size * m;
         p += 1;
     }
-    starts
+    begins
 }
 
-// Whether the tuples given by their indices live, one for each of the m members from the given place on.
+// Whether the tuples with these indices are live, one of each of the m members from `base` on.
 pub fn all_live(
     words: &[u64],
-    tuple_starts: &[u16; 65],
+    starts: &Starts,
     members: &[u16],
     base: usize,
     m: usize,
-    tuples: [u16; 4],
+    tuples: Indices,
 ) -> bool
-    requires { ⌜ Chosen (now words) (now «tuple_starts») (now members) base m tuples ⌝ }
-    ensures { λ b. ⌜ b ≡ all (λ (j : ℕ). isLive (now (words .entry)) (chosenId (now («tuple_starts» .entry)) (now (members .entry)) base tuples j)) (from 0 m) ⌝ }
+    requires { ⌜ Chosen (now words) (now starts) (now members) base m tuples ⌝ }
+    ensures { λ b. ⌜ b ≡ allLive (entry words) (entry starts) (entry members) base m tuples ⌝ }
 {
     let mut k = 0;
     while k < m {
-        let r = wide(members[base + k]);
-        if !live::is_live(words, tuple_starts[r] + tuples[k]) {
+        let first = tuple_start(starts, members[base + k]);
+        if !is_live(words, first + tuples[k]) {
             return false;
         }
         k += 1;

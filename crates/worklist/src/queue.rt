@@ -1,33 +1,38 @@
-// The waiting list: which pairs of combination and member wait for a visit, each at most once.
+// The queue (document 01: the waiting list): the pairs of combination and member that wait for a visit, each at most once.
 ghost use mathlib.Core.Path.{_≡_};
-ghost use mathlib.Core.Bool.{_||_, cond};
+ghost use mathlib.Core.Bool.{cond};
 ghost use Prim.Native.Nat.{ℕ, _+_, _≤_, _<_};
 ghost use lib.Dec.{ltb};
 ghost use lib.ListN.{length, take, drop};
 ghost use Rattle.model.specs.Limits.{maxPairs};
 ghost use Rattle.model.specs.Lists.{elem};
 ghost use Rattle.model.specs.LiveWords.{isLive, nextLive, cleared, raised};
-ghost use Rattle.worklist.specs.Pairs.{Pairs, others, queues};
+ghost use Rattle.layout.specs.Lent.{entry};
+ghost use Rattle.layout.specs.Setting.{Whole};
+ghost use Rattle.worklist.specs.Pairs.{WaitToo, others, queues};
 use model::MAX_PAIRS;
 
-// A bit for each pair: 1 where it waits.
+// The words of 1,024 pairs.
+pub const QUEUE_WORDS: usize = 16;
+
+// A bit for each pair: 1 if it waits.
 pub struct Queue {
-    pub words: [u64; 16],
+    pub words: [u64; QUEUE_WORDS],
 }
 
-// The lowest pair that waits, or 1,024 where none does, and the list without it.
+// The lowest pair that waits, 1,024 if none does, and the queue without it.
 pub struct Taken {
     pub pair: u16,
     pub rest: Queue,
 }
 
 impl Queue {
-    // The list where every pair below the number given waits, and no other.
+    // A queue of the pairs below the number given.
     pub fn full(pairs: u16) -> Queue
         requires { ⌜ pairs ≤ maxPairs ⌝ }
         ensures { λ r. ⌜ ((q : ℕ) → q < maxPairs → isLive (r .words) q ≡ ltb q pairs) ⌝ }
     {
-        let mut words = [0u64; 16];
+        let mut words = [0u64; QUEUE_WORDS];
         let mut next: u16 = 0;
         while next < pairs {
             live::set(&mut words, next);
@@ -36,7 +41,7 @@ impl Queue {
         Queue { words }
     }
 
-    // The list where pair p waits too.
+    // Adds pair p.
     pub fn put(self, p: u16) -> Queue
         requires { ⌜ p < maxPairs ⌝ }
         ensures { λ r. ⌜ r .words ≡ raised p (self .words) ⌝ }
@@ -46,7 +51,7 @@ impl Queue {
         Queue { words }
     }
 
-    // The lowest pair that waits, and the list without it.
+    // Takes the lowest pair out.
     pub fn take(self) -> Taken
         ensures pair { λ r. ⌜ r .pair ≡ nextLive (self .words) 0 maxPairs ⌝ }
         ensures rest { λ r. ⌜ r .rest .words ≡ cond (ltb (r .pair) maxPairs) (cleared (r .pair) (self .words)) (self .words) ⌝ }
@@ -63,10 +68,10 @@ impl Queue {
     }
 }
 
-// Whether relation r is one of the m members from the given place on.
+// Whether relation r is one of the m members from `base` on.
 fn holds(members: &[u16], base: usize, m: usize, r: u16) -> bool
     requires { ⌜ base + m ≤ length (now members) ⌝ }
-    ensures { λ b. ⌜ b ≡ elem r (take m (drop base (now (members .entry)))) ⌝ }
+    ensures { λ b. ⌜ b ≡ elem r (take m (drop base (entry members))) ⌝ }
 {
     let end = base + m;
     let mut q = base;
@@ -79,10 +84,10 @@ fn holds(members: &[u16], base: usize, m: usize, r: u16) -> bool
     false
 }
 
-// The list where those of the m pairs from the given place on wait too whose member is not relation r.
+// Adds those of the m pairs from `base` on whose member is not relation r.
 fn put_others(queue: Queue, members: &[u16], base: usize, m: usize, r: u16) -> Queue
     requires { ⌜ (base + m ≤ length (now members)) × (length (now members) ≤ maxPairs) ⌝ }
-    ensures { λ s. ⌜ ((q : ℕ) → q < maxPairs → isLive (s .words) q ≡ (isLive (queue .words) q || others base (base + m) (now (members .entry)) r q)) ⌝ }
+    ensures { λ s. ⌜ WaitToo (queue .words) (others base (base + m) (entry members) r) (s .words) ⌝ }
 {
     let end = base + m;
     let mut queue = queue;
@@ -96,12 +101,12 @@ fn put_others(queue: Queue, members: &[u16], base: usize, m: usize, r: u16) -> Q
     queue
 }
 
-// The list once relation members[p] has shrunk in pair p's combination: in every other combination that holds the
-// relation the pairs of the other members wait too.
+// Adds the pairs to visit again once relation members[p] has shrunk in pair p's combination: those of the other members, in every
+// other combination that holds the relation.
 pub fn requeue(queue: Queue, members: &[u16], m: u16, p: u16) -> Queue
-    requires { ⌜ Pairs m (now members) ⌝ }
+    requires { ⌜ Whole m (now members) ⌝ }
     requires { ⌜ p < length (now members) ⌝ }
-    ensures { λ s. ⌜ ((q : ℕ) → q < maxPairs → isLive (s .words) q ≡ (isLive (queue .words) q || queues m (now (members .entry)) p q)) ⌝ }
+    ensures { λ s. ⌜ WaitToo (queue .words) (queues m (entry members) p) (s .words) ⌝ }
 {
     let m = m as usize;
     let p = p as usize;

@@ -12,28 +12,33 @@ use Rattle.model.specs.Network.{total}
 use Rattle.model.specs.Consistency.{filtered, supportList, needed}
 use Rattle.model.specs.LiveWords.{written}
 use Rattle.model.proofs.LiveWords.{living-same, written-length, written-copy}
-use Rattle.engine.specs.Setting.{Setting, setting, network, listed, liveIn}
+use Rattle.layout.specs.Setting.{Setting, network, listed, liveIn}
 use Rattle.engine.specs.Work.{WordArray}
-use Rattle.engine.proofs.Members.{few-tuples}
+use Rattle.layout.proofs.Framed.{tuples-few}
+use Rattle.layout.proofs.Outline.{needed-outline}
 use Rattle.engine.proofs.filter.filter.Statement.{statement}
 use Rattle.engine.proofs.filter.filter.Tie as tie
 
 -- the setting that the parameters make
 abbrev given : tie.Start → Setting
-given start =
-    let a = start .args in
-    setting (a .variables .now) (a .values .now) (a .variable-starts .now) (a .tuple-starts .now) (a .value-starts .now) (a .members .now) (a .m)
+given s =
+    let a = s .args in
+    record {
+      lists = record { variables = a .variables .now; values = a .values .now; starts = a .starts .now };
+      members = a .members .now;
+      m = a .m;
+    }
 
 abbrev entry : tie.After-copied → tie.Start
-entry c = c .before .before .before .before .before .before .before
+entry c = c .before .before .before .before .before .before .before .before .before
 
 -- ---- The copy
 
 few : (c : tie.After-copied) → total (network (given (entry c))) ≤ wordBits * 64
-few c = few-tuples (given (entry c)) (entry c .pre .0)
+few c = tuples-few (entry c .pre .0 .laid .framed)
 
 small : (c : tie.After-copied) (i : ℕ) → getD (entry c .args .words .now) i 0 < 2 ^ 64
-small c i = c .before .before .before .slice-known .given i .fits
+small c i = c .before .before .before .before .before .slice-known .given i .fits
 
 array : (c : tie.After-copied) → WordArray (c .copied .result)
 array c =
@@ -48,15 +53,17 @@ same : (c : tie.After-copied) → liveIn (given (entry c)) (c .copied .result) �
 same c = living-same (total (network (given (entry c)))) 64 (c .copied .result) (entry c .args .words .now) (few c) (c .copied .ensures .1)
 
 abbrev copying : tie.After-settle → tie.After-copied
-copying c = c .before .before .before
+copying c = c .before .before .before .before .before
 
 -- ---- The needs
 
 settle-requires : tie.Need-settle-requires
 settle-requires c κs =
-    let k = c .before .before in
-    let a = entry k in
-    (array k, (a .pre .0, (omega (arith, few k, k .copied .ensures .0), a .pre .1 .1)))
+    let k = c .before .before .before .before in
+    let s = entry k in (
+      (array k, k .before .before .prepare .ensures),
+      record { enough = omega (arith, few k, k .copied .ensures .0); short = s .pre .1 .short; room = s .pre .1 .room },
+    )
 
 put-back-requires : tie.Need-put-back-requires
 put-back-requires c κs =
@@ -87,6 +94,7 @@ pub filter-spec : {M : Type 1} → statement M
 filter-spec =
     tie.close
     (tie.spec
+    (λ c κs. let s = c .before .before .before .before .before .before in (search needs, record { sound = s .pre .0; short = omega (arith, needed-outline (given s .lists) (listed (given s)), s .pre .1 .short) }))
     (λ c κs. search needs)
     settle-requires
     put-back-requires

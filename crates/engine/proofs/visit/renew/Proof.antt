@@ -10,16 +10,19 @@ use native.Mathlib.Omega.{arith}
 use lib.ListN.{length, getD, take, drop, set, replicate}
 use borrow.Author.Needs.{needs}
 use Rattle.model.specs.Limits.{maxMembers, noSupport}
-use Rattle.model.specs.Lists.{from, all}
-use Rattle.model.specs.LiveWords.{isLive, cleared}
+use Rattle.model.specs.Network.{total}
+use Rattle.model.specs.LiveWords.{cleared}
 use Rattle.model.specs.Support.{supportFrom}
-use Rattle.worklist.specs.Tables.{chosenId, Chosen}
-use Rattle.support.specs.Search.{Search, searching, live, Ready, answer}
+use Rattle.worklist.specs.Supports.{Chosen, allLive}
+use Rattle.support.specs.Search.{Search, netOf, liveOf, SoundSearch, answer}
 use Rattle.support.specs.Search as support
-use Rattle.engine.specs.Setting.{Setting, setting, network, Sound, combinationOf, sizeOf, tupleId, placeOf}
-use Rattle.engine.specs.Work.{Renewed}
-use Rattle.engine.proofs.Members.{few-tuples, start-of, member-below, tuple-below, base-within}
-use Rattle.engine.proofs.Bounds.{Seeker, held-inside, loaded, lead, chosen, renewed-held, lowOf, low-none, low-held, searched, ready, renewed-found, renewed-none}
+use Rattle.layout.specs.Starts.{tupleStart}
+use Rattle.layout.specs.Setting.{Setting, network, Sound}
+use Rattle.layout.specs.Pairs.{combinationOf, tupleId, placeOf}
+use Rattle.engine.specs.Work.{Seeker, Renewed}
+use Rattle.layout.proofs.Framed.{tuples-few, tuple-start}
+use Rattle.layout.proofs.Pairs.{member-below, tuple-below, base-within}
+use Rattle.engine.proofs.Bounds.{held-inside, loaded, lead, chosen, renewed-held, lowOf, low-none, low-held, searched, ready, renewed-found, renewed-none}
 use Rattle.engine.proofs.visit.renew.Statement.{statement}
 use Rattle.engine.proofs.visit.renew.Tie as tie
 
@@ -27,29 +30,24 @@ use Rattle.engine.proofs.visit.renew.Tie as tie
 
 module _ (a : tie.Start) where
   abbrev G : Setting
-  G = setting (a .args .variables .now) (a .args .values .now) (a .args .variable-starts .now) (a .args .tuple-starts .now) (a .args .value-starts .now) (a .args .members .now) (a .args .m)
-
-  abbrev sound : Sound G
-  sound = a .pre .1 .0
-
-  abbrev in-members : a .args .p < length (a .args .members .now)
-  in-members = a .pre .1 .1 .1 .1 .0
-
-  abbrev in-size : a .args .x < sizeOf G (a .args .p)
-  in-size = a .pre .1 .1 .1 .1 .1 .0
-
-  abbrev seeker : Seeker G (a .args .words .now) (a .args .numbers .now) (a .args .p) (a .args .x)
-  seeker =
+  G =
       record {
-        sound = sound;
-        working = a .pre .1 .1 .1 .0;
-        pair = in-members;
-        index = in-size;
-        lives = a .pre .1 .1 .1 .1 .1 .1 .0;
+        lists = record { variables = a .args .variables .now; values = a .args .values .now; starts = a .args .starts .now };
+        members = a .args .members .now;
+        m = a .args .m;
       }
 
+  abbrev seeker : Seeker G (a .args .words .now) (a .args .numbers .now) (a .args .p) (a .args .x)
+  seeker = a .pre .1 .seeker
+
+  abbrev sound : Sound G
+  sound = seeker .sound
+
+  abbrev in-members : a .args .p < length (a .args .members .now)
+  in-members = seeker .pair
+
   abbrev is-at : a .args .at ≡ placeOf G (a .args .p) (a .args .x)
-  is-at = a .pre .1 .1 .1 .1 .1 .1 .1
+  is-at = a .pre .1 .place
 
   inside : a .args .at + a .args .m ≤ length (a .args .numbers .now)
   inside = omega (arith, is-at, held-inside seeker)
@@ -80,10 +78,10 @@ place-is c = ap₂ (λ (q n : ℕ). q % n) (pair-is c) (each-is c)
 place-small : (c : tie.After-wide2) → c .wide2 .result % c .before .wide .result < maxMembers
 place-small c =
     let a = entry c in
-    omega (arith, place-is c, mod-lt (a .args .p) (sound a .tables .pairs .positive), sound a .few)
+    omega (arith, place-is c, mod-lt (a .args .p) (sound a .paired .list .positive), sound a .paired .list .few)
 
 end-is : (c : tie.After-wide2) → c .wide2 .result / c .before .wide .result * c .before .wide .result + c .before .wide .result ≤ length (entry c .args .members .now)
-end-is c = omega (arith, base-is c, each-is c, base-within (G (entry c)) (sound (entry c)) (entry c .args .p) (in-members (entry c)))
+end-is c = omega (arith, base-is c, each-is c, base-within (sound (entry c) .laid .framed) (sound (entry c) .paired) (entry c .args .p) (in-members (entry c)))
 
 -- the numbers loaded
 loaded-is : (w : tie.After-wide2) {low : List ℕ} → (let a = entry w in let n = w .before .wide .result in low ≡ take n (drop (a .args .at) (a .args .numbers .now)) ++ replicate (maxMembers - n) 0) → low ≡ loadedOf (entry w)
@@ -120,7 +118,7 @@ part-is c =
 -- the search
 abbrev searchOf : tie.Start → List ℕ → ℕ → List ℕ → Search
 searchOf a members place low =
-    searching (a .args .variables .now) (a .args .values .now) (a .args .variable-starts .now) (a .args .tuple-starts .now) (a .args .value-starts .now) (a .args .words .now) members place (a .args .x) low
+    record { lists = G a .lists; words = a .args .words .now; members = members; place = place; own = a .args .x; low = low }
 
 search-is : (c : tie.Joined1) → (let w = c .before .before in let a = entry w in let n = w .before .wide .result in let b = w .wide2 .result / n * n in searchOf a (take (b + n - b) (drop b (a .args .members .now))) (w .wide2 .result % n) (c .if1 .low) ≡ searched (seeker a))
 search-is c =
@@ -130,50 +128,36 @@ search-is c =
     ∙ ap (searchOf a (combinationOf (G a) (a .args .p)) (a .args .p % a .args .m)) (low-is c)
 
 -- what it answers
-answer-is : (c : tie.After-first-support) → (let a = entry (c .before .before .before .before .before) in let Q = searched (seeker a) in answer (c .first-support .result .ok) (take (length (Q .members)) (c .first-support .result .tuples)) ≡ supportFrom (support.network Q) (live Q) (Q .members) (support.seeker Q) (Q .low))
+answer-is : (c : tie.After-first-support) → (let a = entry (c .before .before .before .before .before) in let Q = searched (seeker a) in answer (c .first-support .result .ok) (take (length (Q .members)) (c .first-support .result .tuples)) ≡ supportFrom (netOf Q) (liveOf Q) (Q .members) (support.seeker Q) (Q .low))
 answer-is c =
-    subst (λ (Q : Search). answer (c .first-support .result .ok) (take (length (Q .members)) (c .first-support .result .tuples)) ≡ supportFrom (support.network Q) (live Q) (Q .members) (support.seeker Q) (Q .low))
+    subst (λ (Q : Search). answer (c .first-support .result .ok) (take (length (Q .members)) (c .first-support .result .tuples)) ≡ supportFrom (netOf Q) (liveOf Q) (Q .members) (support.seeker Q) (Q .low))
     (search-is (c .before .before .before))
     (c .first-support .ensures)
 
 -- ---- The tuple's id
 
-abbrev looked : tie.After-wide3 → tie.After-wide2
-looked c = c .before .before .before .before .before .before .before .before
+abbrev looked : tie.After-tuple-start → tie.After-wide2
+looked c = c .before .before .before .before .before .before .before .before .before
 
-relation-is : (c : tie.After-wide3) → (let a = entry (looked c) in c .wide3 .result ≡ getD (a .args .members .now) (a .args .p) 0)
-relation-is c =
-    let a = entry (looked c) in
-    c .wide3 .ensures .0 ∙ ap (λ (q : ℕ). getD (a .args .members .now) q 0) (pair-is (looked c))
-
-id-is : (c : tie.After-wide3) → (let a = entry (looked c) in getD (a .args .tuple-starts .now) (c .wide3 .result) 0 + a .args .x ≡ tupleId (G a) (a .args .p) (a .args .x))
+id-is : (c : tie.After-tuple-start) → (let a = entry (looked c) in c .tuple-start .result + a .args .x ≡ tupleId (G a) (a .args .p) (a .args .x))
 id-is c =
     let a = entry (looked c) in
-    let b = member-below (G a) (sound a) (a .args .p) (in-members a) in
-    ap (λ (r : ℕ). getD (a .args .tuple-starts .now) r 0 + a .args .x) (relation-is c)
-    ∙ ap (λ (g : ℕ). g + a .args .x) (start-of (G a) (sound a) (getD (a .args .members .now) (a .args .p) 0) (omega arith))
+    let h = member-below (sound a .laid .framed) (sound a .paired) (a .args .p) (in-members a) in
+    ap (λ (g : ℕ). g + a .args .x)
+    (c .tuple-start .ensures
+    ∙ ap (λ (q : ℕ). tupleStart (a .args .starts .now) (getD (a .args .members .now) q 0)) (pair-is (looked c))
+    ∙ tuple-start (sound a .laid .framed) (getD (a .args .members .now) (a .args .p) 0) (omega arith))
+
+id-below : (c : tie.After-tuple-start) → (let a = entry (looked c) in c .tuple-start .result + a .args .x < total (network (G a)))
+id-below c = let a = entry (looked c) in omega (arith, id-is c, tuple-below (sound a) (a .args .p) (a .args .x) (in-members a) (seeker a .index))
 
 -- ---- The needs
-
-mul-base : tie.Need-mul-base
-mul-base c = omega (arith, div-mul-le-self (c .wide2 .result) (c .before .wide .result))
-
-add-end : tie.Need-add-end
-add-end c = omega (arith, div-mul-le-self (c .wide2 .result) (c .before .wide .result))
-
-mul-if1 : tie.Need-mul-if1
-mul-if1 c = let i = inside (entry c) in search needs
-
-slice-read-if1 : tie.Need-slice-read-if1
-slice-read-if1 c =
-    let a = entry (c .before) in
-    omega (arith, inside a, sound a .tables .pairs .positive)
 
 load-requires : tie.Need-load-requires
 load-requires c κs =
     let w = c .before .before .before in
     let a = entry w in
-    (omega (arith, each-is w, inside a), omega (arith, each-is w, sound a .few))
+    (omega (arith, each-is w, inside a), omega (arith, each-is w, sound a .paired .list .few))
 
 all-live-requires : tie.Need-all-live-requires
 all-live-requires c κs =
@@ -181,7 +165,7 @@ all-live-requires c κs =
     let w = l .before .before .before .before in
     let a = entry w in
     let ws = a .args .words .now in
-    let ts = a .args .tuple-starts .now in
+    let ts = a .args .starts .now in
     let ms = a .args .members .now in
     subst (λ (n : ℕ). Chosen ws ts ms (w .wide2 .result / w .before .wide .result * w .before .wide .result) n (l .load .result)) (sym (each-is w))
     (subst (λ (b : ℕ). Chosen ws ts ms b (a .args .m) (l .load .result)) (sym (base-is w))
@@ -193,7 +177,7 @@ returns c =
     let l = c .before .before .before .before in
     let w = l .before .before .before .before in
     let a = entry w in
-    let live : ℕ → ℕ → List ℕ → Bool = λ b n is. all (λ (j : ℕ). isLive (a .args .words .now) (chosenId (a .args .tuple-starts .now) (a .args .members .now) b is j)) (from 0 n) in
+    let live : ℕ → ℕ → List ℕ → Bool = λ b n is. allLive (a .args .words .now) (a .args .starts .now) (a .args .members .now) b n is in
     renewed-held (seeker a)
     (is-index (l .before .before))
     (sym
@@ -202,32 +186,18 @@ returns c =
     ∙ ap (live (baseOf a) (a .args .m)) (loaded-is w (l .load .ensures)))
     ∙ c .if2 .taken)
 
-mul-low : tie.Need-mul-low
-mul-low c = omega (arith, place-small (c .before .before))
-
-array-write-low : tie.Need-array-write-low
-array-write-low c = place-small (c .before .before)
-
-mul-first-support : tie.Need-mul-first-support
-mul-first-support c =
-    let w = c .before .before .before in
-    omega (arith, div-mul-le-self (w .wide2 .result) (w .before .wide .result))
-
-part-first-support-end : tie.Need-part-first-support-end
-part-first-support-end c = end-is (c .before .before .before)
-
 first-support-requires : tie.Need-first-support-requires
 first-support-requires c κs =
     let b = c .before .before in
     let w = b .before .before in
     let a = entry w in
-    (a .pre .0, (subst Ready (sym (search-is b)) (ready (seeker a)), a .pre .1 .1 .0))
+    (a .pre .0, record { sound = subst SoundSearch (sym (search-is b)) (ready (seeker a)); indexed = a .pre .1 .indexed })
 
 store-requires : tie.Need-store-requires
 store-requires c κs =
     let w = c .before .before .before .before .before .before .before .before in
     let a = entry w in
-    (omega (arith, each-is w, inside a), omega (arith, each-is w, sound a .few))
+    (omega (arith, each-is w, inside a), omega (arith, each-is w, sound a .paired .list .few))
 
 returns-2 : tie.Need-returns-2
 returns-2 c =
@@ -241,62 +211,42 @@ returns-2 c =
     (renewed-found (seeker a)
     (f .first-support .result .ok) (f .first-support .result .tuples) (answer-is f) (c .before .before .before .before .before .if3 .taken))
 
-shared-slice-read-wide : tie.Need-shared-slice-read-wide
-shared-slice-read-wide c =
-    let w = c .before .before .before .before .before .before .before in
-    omega (arith, pair-is w, in-members (entry w))
-
-element-copy-out-clear : tie.Need-element-copy-out-clear
-element-copy-out-clear c = let a = entry (looked (c .before)) in omega (arith, relation-is (c .before), member-below (G a) (sound a) (a .args .p) (in-members a))
-
-add-clear : tie.Need-add-clear
-add-clear c =
-    let a = entry (looked (c .before .before)) in
-    omega (arith, id-is (c .before .before), tuple-below (G a) (sound a) (a .args .p) (a .args .x) (in-members a) (in-size a), few-tuples (G a) (sound a))
-
-clear-requires : tie.Need-clear-requires
-clear-requires c κs =
-    let a = entry (looked (c .before .before)) in
-    omega (arith, id-is (c .before .before), tuple-below (G a) (sound a) (a .args .p) (a .args .x) (in-members a) (in-size a), seeker a .working .enough)
-
 returns-3 : tie.Need-returns-3
 returns-3 c =
-    let l = c .before .before .before in
-    let f = l .before .before .before in
-    let w = f .before .before .before .before .before in
-    let a = entry w in
+    let l = c .before in
+    let f = l .before .before .before .before in
+    let a = entry (looked l) in
     subst (λ (ws : List ℕ). Renewed (G a) (a .args .p) (a .args .x) (a .args .words .now) (a .args .numbers .now) false ws (a .args .numbers .now))
     (sym (c .clear .ensures ∙ ap (λ (g : ℕ). cleared g (a .args .words .now)) (id-is l)))
     (renewed-none (seeker a)
-    (f .first-support .result .ok) (f .first-support .result .tuples) (answer-is f) (l .before .before .if3 .left))
+    (f .first-support .result .ok) (f .first-support .result .tuples) (answer-is f) (l .before .before .before .if3 .left))
 
 pub renew-spec : {M : Type 1} → statement M
 renew-spec =
     tie.close
     (tie.spec
     (λ c κs. search needs) (λ c κs. search needs) (λ c. search needs)
-    mul-base
-    add-end
+    (λ c. omega (arith, div-mul-le-self (c .wide2 .result) (c .before .wide .result)))
+    (λ c. omega (arith, div-mul-le-self (c .wide2 .result) (c .before .wide .result)))
     (λ c. search needs)
-    mul-if1
-    slice-read-if1
+    (λ c. let i = inside (entry c) in search needs)
+    (λ c. let a = entry (c .before) in omega (arith, inside a, sound a .paired .list .positive))
     load-requires
     all-live-requires
     (λ c. search needs)
     returns
-    mul-low
-    array-write-low
-    mul-first-support
+    (λ c. omega (arith, place-small (c .before .before)))
+    (λ c. place-small (c .before .before))
+    (λ c. let w = c .before .before .before in omega (arith, div-mul-le-self (w .wide2 .result) (w .before .wide .result)))
     (λ c. search needs) (λ c. search needs)
-    part-first-support-end
+    (λ c. end-is (c .before .before .before))
     first-support-requires
     store-requires
     (λ c. search needs)
     returns-2
     (λ c. search needs)
-    shared-slice-read-wide
-    (λ c κs. search needs) (λ c. search needs)
-    element-copy-out-clear
-    add-clear
-    clear-requires
+    (λ c. let w = c .before .before .before .before .before .before .before .before in omega (arith, pair-is w, in-members (entry w)))
+    (λ c κs. let w = c .before .before .before .before .before .before .before .before in let a = entry w in let h = member-below (sound a .laid .framed) (sound a .paired) (a .args .p) (in-members a) in subst (λ (q : ℕ). getD (a .args .members .now) q 0 < 65) (sym (pair-is w)) (omega arith))
+    (λ c. let a = entry (looked c) in omega (arith, id-below c, tuples-few (sound a .laid .framed)))
+    (λ c κs. let a = entry (looked c) in omega (arith, id-below c, seeker a .working .space .enough))
     returns-3)

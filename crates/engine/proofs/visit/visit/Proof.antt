@@ -5,92 +5,103 @@ use mathlib.Core.Bool.{Bool, true, false}
 use mathlib.Core.Logic.{⊎-elim}
 use mathlib.Core.List.{List}
 use Prim.Native.Nat.{ℕ, suc, _+_, _-_, _*_, _≤_, _<_}
+use native.Mathlib.Nat.{zero-mul}
 use native.Mathlib.Omega.{arith}
 use lib.ListN.{length, getD}
 use borrow.Author.Needs.{needs}
 use borrow.Author.Tests.{not-true, not-false}
+use Rattle.model.specs.Combination.{pairMember}
 use Rattle.model.specs.LiveWords.{isLive}
 use Rattle.worklist.specs.Pairs.{queues}
 use Rattle.worklist.specs.declared.queue.Queue.{Queue}
-use Rattle.engine.specs.Setting.{Setting, setting, Sound, placeOf}
+use Rattle.layout.specs.Starts.{tupleStart}
+use Rattle.layout.specs.Setting.{Setting, Sound}
+use Rattle.layout.specs.Pairs.{placeOf}
 use Rattle.engine.specs.Work.{Working}
-use Rattle.engine.proofs.Members.{few-tuples, member-below}
-use Rattle.engine.proofs.Visiting.{Going, going-kept, going-removed, still-waits, requeued-waits}
-use Rattle.engine.proofs.Walking.{Row, row-of, Come, end-total, walk-asks, come-first, come-end, index-inside, index-lives, come-more, come-ahead, place-short}
+use Rattle.layout.proofs.Framed.{tuples-few}
+use Rattle.layout.proofs.Outline.{supportStart-outline}
+use Rattle.layout.proofs.Pairs.{member-below}
+use Rattle.engine.proofs.Visiting.{VisitOf, going-kept, going-removed, still-waits, requeued-waits}
+use Rattle.engine.proofs.Walking.{Row, row-of, WalkAt, end-total, walk-asks, come-first, come-end, index-inside, index-lives, come-more, come-ahead, place-short}
 use Rattle.engine.proofs.visit.visit.Statement.{statement}
 use Rattle.engine.proofs.visit.visit.Tie as tie
 
+abbrev settingOf : List ℕ → List ℕ → List ℕ → List ℕ → ℕ → Setting
+settingOf variables values starts members m =
+    record { lists = record { variables = variables; values = values; starts = starts }; members = members; m = m }
+
 abbrev Inv-loop : tie.InvT-loop
-Inv-loop variables values variable-starts tuple-starts value-starts table members m pair-starts words₀ numbers₀ p r first end start waiting₀ shrunk₀ g₀ words numbers waiting shrunk g =
-    Come (setting variables values variable-starts tuple-starts value-starts members m) p first end (waiting₀ .words) words₀ numbers₀ (waiting .words) words numbers shrunk g
+Inv-loop variables values starts index members m pair-starts words₀ numbers₀ p r first end start waiting₀ shrunk₀ g₀ words numbers waiting shrunk g =
+    WalkAt (settingOf variables values starts members m) p first end (waiting₀ .words) words₀ numbers₀ (waiting .words) words numbers shrunk g
 
 abbrev μ-loop : tie.MeasureT-loop
-μ-loop variables values variable-starts tuple-starts value-starts table members m pair-starts words₀ numbers₀ p r first end start waiting₀ shrunk₀ g₀ words numbers waiting shrunk g = end - g
+μ-loop variables values starts index members m pair-starts words₀ numbers₀ p r first end start waiting₀ shrunk₀ g₀ words numbers waiting shrunk g = end - g
 
 -- ---- What it is called on
 
 module _ (a : tie.Start Inv-loop μ-loop) where
   abbrev G : Setting
-  G = setting (a .args .variables .now) (a .args .values .now) (a .args .variable-starts .now) (a .args .tuple-starts .now) (a .args .value-starts .now) (a .args .members .now) (a .args .m)
+  G = settingOf (a .args .variables .now) (a .args .values .now) (a .args .starts .now) (a .args .members .now) (a .args .m)
 
   abbrev sound : Sound G
-  sound = a .pre .1 .0
+  sound = a .pre .1 .prepared .sound
 
   abbrev work : Working G (a .args .words .now) (a .args .numbers .now)
-  work = a .pre .1 .1 .1 .0
+  work = a .pre .1 .working
 
   abbrev in-members : a .args .p < length (a .args .members .now)
-  in-members = a .pre .1 .1 .1 .1 .0
-
-abbrev found : tie.After-wide2 Inv-loop μ-loop → tie.Start Inv-loop μ-loop
-found c = c .before .before .before .before .before .before .before
-
-abbrev entry : tie.After-wide4 Inv-loop μ-loop → tie.Start Inv-loop μ-loop
-entry c = found (c .before .before .before .before .before)
+  in-members = a .pre .1 .pair
 
 -- ---- The pair's row
 
-relation-is : (c : tie.After-wide2 Inv-loop μ-loop) → c .wide2 .result ≡ getD (found c .args .members .now) (found c .args .p) 0
-relation-is c = c .wide2 .ensures .0 ∙ ap (λ (q : ℕ). getD (found c .args .members .now) q 0) (c .before .before .wide .ensures .0)
+-- the relation read is the pair's member
+member-is : (c : tie.After-wide Inv-loop μ-loop) → (let a = c .before .before .before .before .before in getD (a .args .members .now) (c .wide .result) 0 ≡ pairMember (a .args .members .now) (a .args .p))
+member-is c = let a = c .before .before .before .before .before in ap (λ (q : ℕ). getD (a .args .members .now) q 0) (c .wide .ensures .0)
 
-relation-below : (c : tie.After-wide2 Inv-loop μ-loop) → c .wide2 .result < 64
-relation-below c = let a = found c in omega (arith, relation-is c, member-below (G a) (sound a) (a .args .p) (in-members a))
+member-few : (c : tie.After-wide Inv-loop μ-loop) → getD (c .before .before .before .before .before .args .members .now) (c .wide .result) 0 < 64
+member-few c = let a = c .before .before .before .before .before in omega (arith, member-is c, member-below (sound a .laid .framed) (sound a .paired) (a .args .p) (in-members a))
 
-row : (c : tie.After-wide4 Inv-loop μ-loop) → (let w = c .before .before .before .before .before in let a = entry c in Row (G a) (a .args .p) (getD (a .args .tuple-starts .now) (w .wide2 .result) 0) (getD (a .args .tuple-starts .now) (w .wide2 .result + 1) 0))
+abbrev entry : tie.After-wide3 Inv-loop μ-loop → tie.Start Inv-loop μ-loop
+entry c = c .before .before .before .before .before .before .before .before .before .before .before
+
+abbrev first : tie.After-wide3 Inv-loop μ-loop → ℕ
+first c = c .before .before .before .before .tuple-start .result
+
+abbrev end : tie.After-wide3 Inv-loop μ-loop → ℕ
+end c = c .before .before .before .tuple-start2 .result
+
+row : (c : tie.After-wide3 Inv-loop μ-loop) → Row (G (entry c)) (entry c .args .p) (first c) (end c)
 row c =
-    let w = c .before .before .before .before .before in
     let a = entry c in
-    row-of (sound a) (a .args .p) (w .wide2 .result) (in-members a) (relation-is w)
+    row-of (sound a) (a .args .p) (first c) (end c) (in-members a)
+    (c .before .before .before .before .tuple-start .ensures ∙ ap (tupleStart (a .args .starts .now)) (member-is (c .before .before .before .before .before .before)))
+    (c .before .before .before .tuple-start2 .ensures ∙ ap (λ (r : ℕ). tupleStart (a .args .starts .now) (r + 1)) (member-is (c .before .before .before .before .before .before)))
 
 -- where the pair's numbers begin
-start-is : (c : tie.After-wide4 Inv-loop μ-loop) → c .wide4 .result ≡ placeOf (G (entry c)) (entry c .args .p) 0
+start-is : (c : tie.After-wide3 Inv-loop μ-loop) → c .wide3 .result ≡ placeOf (G (entry c)) (entry c .args .p) 0
 start-is c =
     let a = entry c in
-    c .wide4 .ensures .0
-    ∙ ap (λ (q : ℕ). getD (a .args .pair-starts .now) q 0) (c .before .before .wide3 .ensures .0)
-    ∙ a .pre .1 .1 .1 .1 .1
-
-abbrev first : tie.After-wide4 Inv-loop μ-loop → ℕ
-first c = getD (entry c .args .tuple-starts .now) (c .before .before .before .before .before .wide2 .result) 0
-
-abbrev end : tie.After-wide4 Inv-loop μ-loop → ℕ
-end c = getD (entry c .args .tuple-starts .now) (c .before .before .before .before .before .wide2 .result + 1) 0
+    let s = c .wide3 .ensures .0
+    ∙ ap (λ (q : ℕ). getD (a .args .pair-starts .now) q 0) (c .before .before .wide2 .ensures .0)
+    ∙ a .pre .1 .prepared .places (a .args .p) (omega (arith, in-members a))
+    ∙ supportStart-outline (G a .lists) (a .args .m) (a .args .members .now) (a .args .p) in
+    omega (arith, s, zero-mul (a .args .m))
 
 -- ---- In the loop
 
-abbrev begun : tie.In-loop Inv-loop μ-loop → tie.After-wide4 Inv-loop μ-loop
+abbrev begun : tie.In-loop Inv-loop μ-loop → tie.After-wide3 Inv-loop μ-loop
 begun c = c .before .before .before .before .before
 
 -- the place of the tuple's numbers
-place-is : (c : tie.After-wide6 Inv-loop μ-loop) → (let i = c .before .before in let b = begun i in b .wide4 .result + c .before .wide5 .result * c .wide6 .result ≡ placeOf (G (entry b)) (entry b .args .p) (i .before .loop .g - first b))
+place-is : (c : tie.After-wide5 Inv-loop μ-loop) → (let i = c .before .before in let b = begun i in b .wide3 .result + c .before .wide4 .result * c .wide5 .result ≡ placeOf (G (entry b)) (entry b .args .p) (i .before .loop .g - first b))
 place-is c =
     let i = c .before .before in
     let b = begun i in
-    let e = ap₂ (λ (y n : ℕ). y * n) (c .before .wide5 .ensures .0) (c .wide6 .ensures .0) in
+    let e = ap₂ (λ (y n : ℕ). y * n) (c .before .wide4 .ensures .0) (c .wide5 .ensures .0) in
     omega (arith, start-is b, e)
 
 -- the numbers of the support list are few
-place-small : (c : tie.After-wide6 Inv-loop μ-loop) → (let b = begun (c .before .before) in b .wide4 .result + c .before .wide5 .result * c .wide6 .result ≤ 32768)
+place-small : (c : tie.After-wide5 Inv-loop μ-loop) → (let b = begun (c .before .before) in b .wide3 .result + c .before .wide4 .result * c .wide5 .result ≤ 32768)
 place-small c =
     let i = c .before .before in
     let b = begun i in
@@ -104,10 +115,10 @@ abbrev turning : tie.After-renew Inv-loop μ-loop → tie.In-loop Inv-loop μ-lo
 turning c = c .before .before .before .before .before
 
 abbrev words-after : tie.After-renew Inv-loop μ-loop → List ℕ
-words-after c = c .renew .last .1 .1 .1 .1 .1 .1 .1 .1 .0
+words-after c = c .renew .last .1 .1 .1 .1 .1 .1 .0
 
 abbrev numbers-after : tie.After-renew Inv-loop μ-loop → List ℕ
-numbers-after c = c .renew .last .1 .1 .1 .1 .1 .1 .1 .1 .1 .0
+numbers-after c = c .renew .last .1 .1 .1 .1 .1 .1 .1 .0
 
 -- the visit under way, once tuple g is done
 abbrev Turned : tie.After-renew Inv-loop μ-loop → Queue → Bool → Type 0
@@ -115,7 +126,7 @@ Turned c waiting shrunk =
     let i = turning c in
     let b = begun i in
     let a = entry b in
-    Going (G a) (a .args .p) (a .args .queue .words) (a .args .words .now) (a .args .numbers .now) (waiting .words) (words-after c) (numbers-after c) shrunk (suc (i .before .loop .g - first b))
+    VisitOf (G a) (a .args .p) (a .args .queue .words) (a .args .words .now) (a .args .numbers .now) (waiting .words) (words-after c) (numbers-after c) shrunk (suc (i .before .loop .g - first b))
 
 turned-kept : (c : tie.After-renew Inv-loop μ-loop) → c .renew .result ≡ true → (let l = turning c .before .loop in Turned c (l .waiting) (l .shrunk))
 turned-kept c e =
@@ -164,54 +175,18 @@ turned c =
 
 -- ---- The needs
 
-mul-wide : tie.Need-mul-wide Inv-loop μ-loop
-mul-wide c = omega (arith, c .wide .ensures .1)
-
-shared-slice-read-wide : tie.Need-shared-slice-read-wide Inv-loop μ-loop
-shared-slice-read-wide c = omega (arith, c .before .wide .ensures .0, in-members (c .before .before .before .before .before .before))
-
-mul-first : tie.Need-mul-first Inv-loop μ-loop
-mul-first c = omega (arith, relation-below c)
-
-element-copy-out-first : tie.Need-element-copy-out-first Inv-loop μ-loop
-element-copy-out-first c = omega (arith, relation-below c)
-
-add-end : tie.Need-add-end Inv-loop μ-loop
-add-end c = omega (arith, relation-below (c .before))
-
-mul-end : tie.Need-mul-end Inv-loop μ-loop
-mul-end c = omega (arith, relation-below (c .before))
-
-element-copy-out-end : tie.Need-element-copy-out-end Inv-loop μ-loop
-element-copy-out-end c = omega (arith, relation-below (c .before))
-
-mul-wide-2 : tie.Need-mul-wide-2 Inv-loop μ-loop
-mul-wide-2 c = omega (arith, c .wide3 .ensures .1)
-
-element-copy-out-wide : tie.Need-element-copy-out-wide Inv-loop μ-loop
-element-copy-out-wide c = let a = found (c .before .before .before) in omega (arith, c .wide3 .ensures .0, in-members a, sound a .tables .pairs .few)
-
 next-requires : tie.Need-next-requires Inv-loop μ-loop
 next-requires c κs =
     let b = c .before .before in
     let a = entry b in
-    walk-asks (row b) (a .args .words .now) (first b) (work a .enough) (omega (arith, row b .is-end))
+    walk-asks (row b) (a .args .words .now) (first b) (work a .space .enough) (omega (arith, row b .is-end))
 
 loop-holds : tie.Need-loop-holds Inv-loop μ-loop
 loop-holds c =
     let b = c .before .before .before in
     let a = entry b in
-    subst (Come (G a) (a .args .p) (first b) (end b) (a .args .queue .words) (a .args .words .now) (a .args .numbers .now) (a .args .queue .words) (a .args .words .now) (a .args .numbers .now) false) (sym (c .next .ensures))
+    subst (WalkAt (G a) (a .args .p) (first b) (end b) (a .args .queue .words) (a .args .words .now) (a .args .numbers .now) (a .args .queue .words) (a .args .words .now) (a .args .numbers .now) false) (sym (c .next .ensures))
     (come-first (row b) (a .pre .0 .small) (work a))
-
-sub-x : tie.Need-sub-x Inv-loop μ-loop
-sub-x c = c .before .loop .inv .from-first
-
-mul-at : tie.Need-mul-at Inv-loop μ-loop
-mul-at c = omega (arith, place-small c)
-
-add-at : tie.Need-add-at Inv-loop μ-loop
-add-at c = omega (arith, place-small c)
 
 renew-requires : tie.Need-renew-requires Inv-loop μ-loop
 renew-requires c κs =
@@ -219,23 +194,32 @@ renew-requires c κs =
     let i = w .before .before in
     let b = begun i in
     let a = entry b in
-    let l = i .before .loop in
-    let lives = index-lives (row b) (l .inv) (i .loop-test .taken) in (
+    let l = i .before .loop in (
       l .inv .going .wide ∙ a .pre .0 .long,
-      (sound a, (a .pre .1 .1 .0, (l .inv .going .working, (in-members a, (index-inside (row b) (l .inv) (i .loop-test .taken), (lives, place-is w)))))),
+      record {
+        seeker = record {
+          sound = sound a;
+          working = l .inv .going .working;
+          pair = in-members a;
+          index = index-inside (row b) (l .inv) (i .loop-test .taken);
+          lives = index-lives (row b) (l .inv) (i .loop-test .taken);
+        };
+        indexed = a .pre .1 .prepared .indexed;
+        place = place-is w;
+      },
     )
 
 requeue-requires : tie.Need-requeue-requires Inv-loop μ-loop
 requeue-requires c κs =
     let a = entry (begun (c .before .before .before .before .before .before .before .before .before)) in
-    (sound a .tables .pairs, in-members a)
+    (sound a .paired .list, in-members a)
 
 add-next : tie.Need-add-next Inv-loop μ-loop
 add-next c =
     let i = turning (renewed (c .before .before)) in
     let b = begun i in
     let a = entry b in
-    omega (arith, i .loop-test .taken, end-total (row b), few-tuples (G a) (sound a))
+    omega (arith, i .loop-test .taken, end-total (row b), tuples-few (sound a .laid .framed))
 
 next-requires-2 : tie.Need-next-requires-2 Inv-loop μ-loop
 next-requires-2 c κs =
@@ -243,7 +227,7 @@ next-requires-2 c κs =
     let i = turning n in
     let b = begun i in
     let a = entry b in
-    walk-asks (row b) (words-after n) (i .before .loop .g + 1) (turned (c .before .before) .working .enough) (omega (arith, i .loop-test .taken))
+    walk-asks (row b) (words-after n) (i .before .loop .g + 1) (turned (c .before .before) .working .space .enough) (omega (arith, i .loop-test .taken))
 
 loop-less : tie.Need-loop-less Inv-loop μ-loop
 loop-less c =
@@ -263,11 +247,8 @@ loop-again c =
     let b = begun i in
     let a = entry b in
     let l = i .before .loop in
-    subst (Come (G a) (a .args .p) (first b) (end b) (a .args .queue .words) (a .args .words .now) (a .args .numbers .now) (j .if1 .waiting .words) (words-after n) (numbers-after n) (j .if1 .shrunk)) (sym (c .next2 .ensures))
+    subst (WalkAt (G a) (a .args .p) (first b) (end b) (a .args .queue .words) (a .args .words .now) (a .args .numbers .now) (j .if1 .waiting .words) (words-after n) (numbers-after n) (j .if1 .shrunk)) (sym (c .next2 .ensures))
     (come-more (row b) (l .inv) (i .loop-test .taken) (turned j))
-
-same-length : tie.Need-same-length Inv-loop μ-loop
-same-length c = c .before .loop .inv .going .long
 
 returns : tie.Need-returns Inv-loop μ-loop
 returns c =
@@ -283,29 +264,26 @@ visit-spec =
     Inv-loop
     μ-loop
     (λ c κs. search needs)
-    mul-wide
-    shared-slice-read-wide
+    (λ c. omega (arith, c .wide .ensures .1))
+    (λ c. omega (arith, c .before .wide .ensures .0, in-members (c .before .before .before .before .before .before)))
+    (λ c κs. omega (arith, member-few (c .before)))
+    (λ c. omega (arith, member-few (c .before .before)))
+    (λ c κs. omega (arith, member-few (c .before .before)))
     (λ c κs. search needs)
-    mul-first
-    element-copy-out-first
-    add-end
-    mul-end
-    element-copy-out-end
-    (λ c κs. search needs)
-    mul-wide-2
-    element-copy-out-wide
+    (λ c. omega (arith, c .wide2 .ensures .1))
+    (λ c. let a = c .before .before .before .before .before .before .before .before .before in omega (arith, c .wide2 .ensures .0, in-members a, sound a .paired .list .short))
     (λ c κs. search needs)
     next-requires
     loop-holds
-    sub-x
+    (λ c. c .before .loop .inv .from-first)
     (λ c κs. search needs) (λ c κs. search needs)
-    mul-at
-    add-at
+    (λ c. omega (arith, place-small c))
+    (λ c. omega (arith, place-small c))
     renew-requires
     requeue-requires
     add-next
     next-requires-2
     loop-less
     loop-again
-    same-length
+    (λ c. c .before .loop .inv .going .long)
     returns)

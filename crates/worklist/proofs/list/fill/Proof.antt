@@ -28,9 +28,6 @@ loop-again c =
       (length-set (l .numbers) (l .i) noSupport ∙ l .inv .1 .0, search needs),
     )
 
-same-length : tie.Need-same-length Inv-loop μ-loop
-same-length c = c .before .loop .inv .1 .0
-
 returns : tie.Need-returns Inv-loop μ-loop
 returns c =
     let l = c .before .loop in
@@ -46,5 +43,5 @@ fill-spec =
     loop-holds
     (λ c. search needs) (λ c. search needs) (λ c. search needs) (λ c. search needs)
     loop-again
-    same-length
+    (λ c. c .before .loop .inv .1 .0)
     returns)

@@ -1,106 +1,96 @@
--- `list::pair_starts` meets its contract. The loop's invariant: the pairs before `p` have their starts, and `at` is p's.
--- From the laws of the tables of a network.
-use mathlib.Core.Path.{_≡_, refl, ap, _∙_}
+-- `list::pair_starts` meets its contract. The loop's invariant: the entries up to `p` are where those pairs' numbers begin.
+-- From the laws of pairs: where the next one's numbers begin, and that they lie within the support list.
+use mathlib.Core.Path.{_≡_, refl, sym, ap, _∙_}
+use mathlib.Core.List.{List}
 use Prim.Native.Nat.{ℕ, _+_, _-_, _*_, _≤_, _<_}
 use native.Mathlib.Omega.{arith}
 use lib.ListN.{length, getD, length-set}
 use lib.Seq.{getD-set-same, getD-set-other}
 use borrow.Author.Count.{below-more}
 use borrow.Author.Needs.{needs}
-use Rattle.model.specs.Network.{Network}
+use Rattle.model.specs.Combination.{pairMember}
 use Rattle.model.specs.Consistency.{supportStart}
-use Rattle.worklist.specs.Tables.{Tabled}
-use Rattle.worklist.proofs.Starts.{starts-none, relation-below, relation-ends, pair-next, pair-within}
+use Rattle.layout.specs.Starts.{tupleStart, outline}
+use Rattle.layout.proofs.Framed.{ids-rise}
+use Rattle.layout.proofs.Pairs.{member-below, pair-next, pair-within}
+use Rattle.worklist.proofs.ForLayout.{pair-first}
 use Rattle.worklist.proofs.list.pair_starts.Statement.{statement}
 use Rattle.worklist.proofs.list.pair_starts.Tie as tie
 
 abbrev Inv-loop : tie.InvT-loop
-Inv-loop tuple-starts members m starts₀ at₀ p₀ starts at p =
-    (p ≤ length members)
-    × ((length starts ≡ 1024)
-    × ((N : Network) → Tabled N m tuple-starts members → (at ≡ supportStart N m members p) × ((k : ℕ) → k < p → getD starts k 0 ≡ supportStart N m members k)))
+Inv-loop starts members m begins₀ p₀ begins p =
+    (p ≤ length members) × (length begins ≡ 1025) × ((k : ℕ) → k < p + 1 → getD begins k 0 ≡ supportStart (outline starts) m members k)
 
 abbrev μ-loop : tie.MeasureT-loop
-μ-loop tuple-starts members m starts₀ at₀ p₀ starts at p = length members - p
-
--- there is room for pair p
-room : (c : tie.After-wide Inv-loop μ-loop) → (let l = c .before .before .before .loop in l .p < length (l .starts))
-room c =
-    let l = c .before .before .before .loop in
-    let start = c .before .before .before .before .before in
-    omega (arith, l .inv .1 .0, start .pre .1 .pairs .few)
-
--- the relation of pair p
-relation : (c : tie.After-wide Inv-loop μ-loop) → c .wide .result < 64
-relation c =
-    let start = c .before .before .before .before .before in
-    let a = start .args in
-    relation-below (start .pre .0) (a .m) (a .tuple-starts .now) (a .members .now) (start .pre .1) (c .before .before .before .loop .p) (c .wide .result) (c .before .before .loop-test .taken) (c .wide .ensures .0)
-
--- .. begins before it ends
-ends : (c : tie.After-wide Inv-loop μ-loop) → (let a = c .before .before .before .before .before .args in getD (a .tuple-starts .now) (c .wide .result) 0 ≤ getD (a .tuple-starts .now) (c .wide .result + 1) 0)
-ends c =
-    let start = c .before .before .before .before .before in
-    let a = start .args in
-    omega (arith, relation-ends (start .pre .0) (a .m) (a .tuple-starts .now) (a .members .now) (start .pre .1) (c .before .before .before .loop .p) (c .wide .result) (c .before .before .loop-test .taken) (c .wide .ensures .0))
-
--- .. and has few numbers
-fits : (c : tie.After-wide Inv-loop μ-loop) → (let a = c .before .before .before .before .before .args in c .before .before .before .loop .at + (getD (a .tuple-starts .now) (c .wide .result + 1) 0 - getD (a .tuple-starts .now) (c .wide .result) 0) * a .m ≤ 32768)
-fits c =
-    let start = c .before .before .before .before .before in
-    let a = start .args in
-    let l = c .before .before .before .loop in
-    omega (
-      arith,
-      l .inv .1 .1 (start .pre .0) (start .pre .1) .0,
-      pair-within (start .pre .0) (a .m) (a .tuple-starts .now) (a .members .now) (start .pre .1) (l .p) (c .wide .result) (c .before .before .loop-test .taken) (c .wide .ensures .0),
-    )
+μ-loop starts members m begins₀ p₀ begins p = length members - p
 
 loop-holds : tie.Need-loop-holds Inv-loop μ-loop
-loop-holds c = (search needs, (refl, λ N t. (starts-none N (c .before .args .m) (c .before .args .members .now), λ k h. absurd (omega arith))))
+loop-holds c =
+    let a = c .before .args in
+    (search needs, refl, below-more _ 0 (λ k h. absurd (omega arith)) (sym (pair-first (a .starts .now) (a .m) (a .members .now))))
 
-array-write-starts : tie.Need-array-write-starts Inv-loop μ-loop
-array-write-starts c = let pairs = c .before .before .before .before .before .pre .1 .pairs in omega (arith, pairs .few)
+-- one turn: pair p's member r, and its numbers
+module _ (c : tie.In-loop Inv-loop μ-loop) where
+  abbrev xs : List ℕ
+  xs = c .before .before .before .args .starts .now
 
-element-copy-out-at : tie.Need-element-copy-out-at Inv-loop μ-loop
-element-copy-out-at c = omega (arith, relation c)
+  abbrev members : List ℕ
+  members = c .before .before .before .args .members .now
 
-element-copy-out-at-2 : tie.Need-element-copy-out-at-2 Inv-loop μ-loop
-element-copy-out-at-2 c = omega (arith, relation (c .before))
+  abbrev m : ℕ
+  m = c .before .before .before .args .m
 
-sub-at : tie.Need-sub-at Inv-loop μ-loop
-sub-at c = omega (arith, ends (c .before .before))
+  abbrev p : ℕ
+  p = c .before .loop .p
 
-mul-at-3 : tie.Need-mul-at-3 Inv-loop μ-loop
-mul-at-3 c = omega (arith, fits (c .before .before))
+  abbrev r : ℕ
+  r = pairMember members p
 
-add-at-2 : tie.Need-add-at-2 Inv-loop μ-loop
-add-at-2 c = omega (arith, fits (c .before .before))
+  -- how many tuples it has
+  abbrev size : ℕ
+  size = tupleStart xs (r + 1) - tupleStart xs r
+
+  room : p + 1 < 1025
+  room = omega (arith, c .before .before .before .pre .1 .list .short, c .loop-test .taken)
+
+  below : r < 64
+  below = member-below (c .before .before .before .pre .0) (c .before .before .before .pre .1) p (c .loop-test .taken)
+
+  rises : tupleStart xs r ≤ tupleStart xs (r + 1)
+  rises = ids-rise (c .before .before .before .pre .0) r below
+
+  next : getD (c .before .loop .begins) p 0 + size * m ≡ supportStart (outline xs) m members (p + 1)
+  next =
+      ap (λ (n : ℕ). n + size * m) (c .before .loop .inv .2 p (omega arith))
+      ∙ pair-next (c .before .before .before .pre .0) (c .before .before .before .pre .1) p (c .loop-test .taken)
+
+  few : supportStart (outline xs) m members (p + 1) ≤ 32768
+  few =
+      let framed = c .before .before .before .pre .0 in
+      let paired = c .before .before .before .pre .1 in
+      omega (arith, pair-next framed paired p (c .loop-test .taken), pair-within framed paired p (c .loop-test .taken), c .before .before .before .pre .2)
+
+-- the entry that is written
+written : (c : tie.After-tuple-start2 Inv-loop μ-loop) → (let turn = c .before .before .before in getD (turn .before .loop .begins) (p turn) 0 + (c .before .tuple-start .result - c .tuple-start2 .result) * m turn ≡ supportStart (outline (xs turn)) (m turn) (members turn) (p turn + 1))
+written c =
+    let turn = c .before .before .before in
+    let e : c .before .tuple-start .result - c .tuple-start2 .result ≡ size turn = omega (arith, c .before .tuple-start .ensures, c .tuple-start2 .ensures) in
+    ap (λ (n : ℕ). getD (turn .before .loop .begins) (p turn) 0 + n * m turn) e ∙ next turn
 
 loop-again : tie.Need-loop-again Inv-loop μ-loop
 loop-again c =
-    let turn = c .before .before in
-    let start = turn .before .before .before .before .before in
-    let a = start .args in
-    let l = turn .before .before .before .loop in (
+    let turn = c .before .before .before in
+    let l = turn .before .loop in
+    let inside : l .p + 1 < length (l .begins) = omega (arith, l .inv .1, room turn) in (
       search needs,
-      (
-        length-set (l .starts) (l .p) (l .at) ∙ l .inv .1 .0,
-        λ N t.
-            let i = l .inv .1 .1 N t in (
-              ap (λ (n : ℕ). n + (getD (a .tuple-starts .now) (turn .wide .result + 1) 0 - getD (a .tuple-starts .now) (turn .wide .result) 0) * a .m) (i .0)
-                  ∙ pair-next N (a .m) (a .tuple-starts .now) (a .members .now) t (l .p) (turn .wide .result) (turn .before .before .loop-test .taken) (turn .wide .ensures .0),
-              below-more _ (l .p)
-                  (λ k h. getD-set-other (l .starts) (l .p) k (l .at) 0 (λ q. omega arith) ∙ i .1 k h)
-                  (getD-set-same (l .starts) (l .p) (l .at) 0 (room turn) ∙ i .0),
-            ),
-      ),
+      length-set (l .begins) (l .p + 1) _ ∙ l .inv .1,
+      below-more _ (l .p + 1)
+          (λ k h. getD-set-other (l .begins) (l .p + 1) k _ 0 (λ q. omega arith) ∙ l .inv .2 k h)
+          (getD-set-same (l .begins) (l .p + 1) _ 0 inside ∙ written c),
     )
 
 returns : tie.Need-returns Inv-loop μ-loop
-returns c =
-    let l = c .before .loop in
-    λ N t p h. l .inv .1 .1 N t .1 p (omega arith)
+returns c = λ k h. c .before .loop .inv .2 k (omega arith)
 
 pub pair-starts-spec : {M : Type 1} → statement M
 pair-starts-spec =
@@ -109,15 +99,17 @@ pair-starts-spec =
     Inv-loop
     μ-loop
     loop-holds
-    (λ c. search needs) (λ c. search needs) (λ c κs. search needs) (λ c. search needs)
-    array-write-starts
     (λ c. search needs) (λ c. search needs)
-    element-copy-out-at
+    (λ c. omega (arith, below (c .before)))
+    (λ c κs. omega (arith, below (c .before)))
+    (λ c κs. omega (arith, below (c .before .before)))
+    (λ c. omega (arith, rises (c .before .before .before), c .before .tuple-start .ensures, c .tuple-start2 .ensures))
     (λ c. search needs)
-    element-copy-out-at-2
-    sub-at
-    mul-at-3
-    add-at-2
+    (λ c. omega (arith, room (c .before .before .before)))
+    (λ c. omega (arith, written c, few (c .before .before .before)))
+    (λ c. omega (arith, written c, few (c .before .before .before)))
+    (λ c. search needs) (λ c. search needs)
+    (λ c. omega (arith, room (c .before .before .before)))
     (λ c. search needs) (λ c. search needs)
     loop-again
     returns)

@@ -1,24 +1,23 @@
 -- `list::store` meets its contract. The loop's invariant: the first `j` numbers are copied, and all others are as at entry.
--- From the logic's laws of copying.
-use mathlib.Core.Path.{_≡_, sym, ap, _∙_}
-use mathlib.Core.List.{List}
-use Prim.Native.Nat.{ℕ, _+_, _-_, _≤_, _<_}
-use native.Mathlib.Numerals.{add-one}
+-- From the laws of a list whose elements are replaced one by one.
+use mathlib.Core.Path.{_≡_, refl, ap, _∙_}
+use Prim.Native.Nat.{_+_, _-_, _≤_, _<_}
 use native.Mathlib.Omega.{arith}
-use lib.ListN.{length, getD, set, length-set}
-use lib.Seq.{paste, paste-zero, paste-suc}
+use lib.ListN.{length}
+use lib.Seq.{paste}
 use borrow.Author.Needs.{needs}
+use Rattle.worklist.proofs.Stretch.{Copied, copied-none, copied-more}
 use Rattle.worklist.proofs.list.store.Statement.{statement}
 use Rattle.worklist.proofs.list.store.Tie as tie
 
 abbrev Inv-loop : tie.InvT-loop
-Inv-loop numbers₀ at m tuples j₀ numbers j = (j ≤ m) × ((length numbers ≡ length numbers₀) × (numbers ≡ paste numbers₀ at tuples j))
+Inv-loop numbers₀ at m tuples j₀ numbers j = (j ≤ m) × Copied numbers₀ at tuples j numbers
 
 abbrev μ-loop : tie.MeasureT-loop
 μ-loop numbers₀ at m tuples j₀ numbers j = m - j
 
 loop-holds : tie.Need-loop-holds Inv-loop μ-loop
-loop-holds c = (search needs, (search needs, paste-zero (c .args .numbers .now) (c .args .at) (c .args .t4)))
+loop-holds c = (search needs, copied-none (c .args .numbers .now) (c .args .at) (c .args .t4))
 
 loop-again : tie.Need-loop-again Inv-loop μ-loop
 loop-again c =
@@ -26,18 +25,7 @@ loop-again c =
     let l = c .before .loop in
     let four : length (a .t4) ≡ 4 = search needs in
     let d : a .at + l .j < length (a .numbers .now) = omega arith in
-    let h : l .j < length (a .t4) = omega arith in (
-      search needs,
-      (
-        length-set (l .numbers) (a .at + l .j) (getD (a .t4) (l .j) 0) ∙ l .inv .1 .0,
-        ap (λ (xs : List ℕ). set xs (a .at + l .j) (getD (a .t4) (l .j) 0)) (l .inv .1 .1)
-            ∙ paste-suc (a .numbers .now) (a .at) (a .t4) (l .j) 0 d h
-            ∙ ap (paste (a .numbers .now) (a .at) (a .t4)) (sym (add-one (l .j))),
-      ),
-    )
-
-same-length : tie.Need-same-length Inv-loop μ-loop
-same-length c = c .before .loop .inv .1 .0
+    (search needs, copied-more (a .numbers .now) (a .at) (a .t4) (l .j) _ (l .numbers) d (omega arith) refl (l .inv .1))
 
 returns : tie.Need-returns Inv-loop μ-loop
 returns c =
@@ -56,5 +44,5 @@ store-spec =
     (λ c. search needs) (λ c. search needs) (λ c. search needs) (λ c. search needs) (λ c. search needs)
     (λ c. search needs) (λ c. search needs)
     loop-again
-    same-length
+    (λ c. c .before .loop .inv .1 .0)
     returns)

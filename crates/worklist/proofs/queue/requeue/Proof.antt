@@ -1,143 +1,137 @@
--- `queue::requeue` meets its contract. The loop's invariant: of the pairs below `base`, those that the strike queues wait too.
--- From the laws of the pairs that a strike queues, and the contracts of `holds` and `put_others`.
+-- `queue::requeue` meets its contract. The loop's invariant: of the pairs below `base`, those that the removal queues wait too.
+-- From the laws of the pairs that a removal queues, and the contracts of `holds` and `put_others`.
 use mathlib.Core.Path.{_≡_, sym, ap, subst, _∙_}
-use mathlib.Core.Bool.{Bool, false, _&&_, _||_, or-false, or-assoc}
+use mathlib.Core.Bool.{Bool, true, false, _&&_, _||_}
 use mathlib.Core.List.{List}
 use mathlib.Core.Logic.{⊎-elim}
-use Prim.Native.Nat.{ℕ, _+_, _-_, _*_, _/_, _≤_, _<_}
+use Prim.Native.Nat.{ℕ, _+_, _-_, _*_, _/_, _≤_}
 use native.Mathlib.Nat.{div-mul-le-self}
 use native.Mathlib.Omega.{arith}
 use mir.Val.{Fits}
 use mir.Syntax.{w64}
 use lib.Dec.{ltb}
-use lib.ListN.{length, getD}
+use lib.ListN.{length, getD, take, drop}
 use borrow.Author.Needs.{needs}
 use borrow.Author.Tests.{le-ltb}
-use Rattle.model.specs.Limits.{maxPairs}
-use Rattle.model.specs.Combination.{pairMember}
+use Rattle.model.specs.Lists.{elem}
 use Rattle.model.specs.LiveWords.{isLive}
+use Rattle.model.specs.Combination.{pairMember}
+use Rattle.model.proofs.Combination.{pair-within}
+use Rattle.layout.specs.Setting.{Whole}
 use Rattle.worklist.specs.declared.queue.Queue.{Queue}
-use Rattle.worklist.specs.Pairs.{others, queues}
-use Rattle.worklist.proofs.Waiting.{Words, words-of, visits, adds, visits-own, visits-other, inside, first-base, next-base, queues-more, queues-all}
+use Rattle.worklist.specs.Pairs.{WaitToo, others, queues}
+use Rattle.worklist.proofs.Waiting.{Words, words-of, wait-none, wait-if, wait-not, wait-then, visits, adds, visits-own, visits-other, multiple-first, multiple-next, queues-more, queues-all}
 use Rattle.worklist.proofs.queue.requeue.Statement.{statement}
 use Rattle.worklist.proofs.queue.requeue.Tie as tie
 
 abbrev Inv-loop : tie.InvT-loop
 Inv-loop members m p m' p' r own queue₀ base₀ queue base =
-    ((h : ℕ) → h < maxPairs → isLive (queue .words) h ≡ (isLive (queue₀ .words) h || (ltb h base && queues m members p h)))
-    × (Words (queue .words) × ((base / m * m ≡ base) × (base ≤ length members)))
+    WaitToo (queue₀ .words) (λ (h : ℕ). ltb h base && queues m members p h) (queue .words)
+    × Words (queue .words)
+    × (base / m * m ≡ base)
+    × (base ≤ length members)
 
 abbrev μ-loop : tie.MeasureT-loop
 μ-loop members m p m' p' r own queue₀ base₀ queue base = length members - base
-
--- the combination from base on lies within the list
-within : (c : tie.In-loop Inv-loop μ-loop) → (let a = c .before .before .before .before .args in c .before .loop .base + a .m ≤ length (a .members .now))
-within c =
-    let a = c .before .before .before .before .args in
-    inside (a .m) (a .members .now) (a .p) (c .before .before .before .before .pre .0) (c .before .loop .base) (c .before .loop .inv .1 .1 .0) (c .loop-test .taken)
-
--- what holds of the list after a turn
-abbrev Turned : tie.Joined1 Inv-loop μ-loop → Type 0
-Turned c =
-    let a = c .before .before .before .before .before .args in
-    let l = c .before .before .loop in
-    let ws = c .if1 .queue .words in
-    Words ws × ((h : ℕ) → h < maxPairs → isLive ws h ≡ (isLive (l .queue .words) h || adds (a .m) (a .members .now) (a .p) (l .base) h))
-
--- the list is as before, and no pair is added
-unturned : (c : tie.Joined1 Inv-loop μ-loop) → (let a = c .before .before .before .before .before .args in let l = c .before .before .loop in c .if1 .queue ≡ l .queue → visits (a .m) (a .members .now) (a .p) (l .base) ≡ false → Turned c)
-unturned c e v =
-    let a = c .before .before .before .before .before .args in
-    let l = c .before .before .loop in
-    let more = others (l .base) (l .base + a .m) (a .members .now) (pairMember (a .members .now) (a .p)) in
-    let q = ap (λ (x : Queue). x .words) e in (
-      subst Words (sym q) (l .inv .1 .0),
-      λ h b.
-          ap (λ (vs : List ℕ). isLive vs h) q
-          ∙ sym (ap (λ (x : Bool). isLive (l .queue .words) h || (x && more h)) v ∙ or-false (isLive (l .queue .words) h)),
-    )
-
-put-others-words : (c : tie.After-put-others Inv-loop μ-loop) → Words (c .put-others .result .words)
-put-others-words c =
-    let f : (i : ℕ) → Fits w64 (getD (c .put-others .result .words) i 0) = λ i. search needs in
-    words-of (c .put-others .result .words) (search needs) f
-
-turned : (c : tie.Joined1 Inv-loop μ-loop) → Turned c
-turned c =
-    let a = c .before .before .before .before .before .args in
-    let pairs = c .before .before .before .before .before .pre .0 in
-    let l = c .before .before .loop in
-    let more = others (l .base) (l .base + a .m) (a .members .now) (pairMember (a .members .now) (a .p)) in
-    ⊎-elim
-    {C = Turned c}
-    (λ w.
-    let q = ap (λ (x : Queue). x .words) (w .4) in
-    let at : tie.After-put-others Inv-loop μ-loop =
-    record {
-      before = record { before = record { before = record { before = c .before; if1 = w .0 }; holds = w .1 }; if2 = w .2 };
-      «put-others» = w .3;
-    }
-    in
-    let v = visits-other (a .m) (a .members .now) (a .p) pairs (l .base) (l .inv .1 .1 .0) (w .0 .taken) ∙ sym (w .1 .ensures) ∙ w .2 .taken in (
-      subst Words (sym q) (put-others-words at),
-      λ h b. ap (λ (vs : List ℕ). isLive vs h) q ∙ w .3 .ensures h b ∙ sym (ap (λ (x : Bool). isLive (l .queue .words) h || (x && more h)) v),
-    ))
-    (λ w. ⊎-elim
-    {C = Turned c}
-    (λ u. unturned c (u .3) (visits-other (a .m) (a .members .now) (a .p) pairs (l .base) (l .inv .1 .1 .0) (u .0 .taken) ∙ sym (u .1 .ensures) ∙ u .2 .left))
-    (λ u. unturned c (u .1) (visits-own (a .m) (a .members .now) (a .p) pairs (l .base) (u .0 .left)))
-    w)
-    (c .if1 .came)
-
-div-own : tie.Need-div-own Inv-loop μ-loop
-div-own c = c .before .before .pre .0 .positive
-
-mul-own : tie.Need-mul-own Inv-loop μ-loop
-mul-own c = let a = c .before .before .args in omega (arith, div-mul-le-self (a .p) (a .m))
 
 loop-holds : tie.Need-loop-holds Inv-loop μ-loop
 loop-holds c =
     let a = c .before .before .args in
     let ws = a .queue .words in
-    let f : (i : ℕ) → Fits w64 (getD ws i 0) = λ i. search needs in
-    let none : (h : ℕ) → (isLive ws h || (ltb h 0 && queues (a .m) (a .members .now) (a .p) h)) ≡ isLive ws h =
-    λ h. ap (λ (b : Bool). isLive ws h || (b && queues (a .m) (a .members .now) (a .p) h)) (le-ltb h 0 (omega arith)) ∙ or-false (isLive ws h) in
-    (λ h l. sym (none h), (words-of ws (search needs) f, (first-base (a .m), search needs)))
+    let f : (i : ℕ) → Fits w64 (getD ws i 0) = λ i. search needs in (
+      wait-none ws (λ (h : ℕ). ltb h 0 && queues (a .m) (a .members .now) (a .p) h) (λ h. rw (le-ltb h 0 (omega arith))),
+      words-of ws (search needs) f,
+      multiple-first (a .m),
+      search needs,
+    )
 
-holds-requires : tie.Need-holds-requires Inv-loop μ-loop
-holds-requires c κs = within (c .before)
+-- one turn: the combination from base on
+module _ (c : tie.In-loop Inv-loop μ-loop) where
+  abbrev m : ℕ
+  m = c .before .before .before .before .args .m
 
-put-others-requires : tie.Need-put-others-requires Inv-loop μ-loop
-put-others-requires c κs = (within (c .before .before .before), c .before .before .before .before .before .before .before .pre .0 .few)
+  abbrev members : List ℕ
+  members = c .before .before .before .before .args .members .now
 
-add-base : tie.Need-add-base Inv-loop μ-loop
-add-base c = omega (arith, within (c .before))
+  abbrev p : ℕ
+  p = c .before .before .before .before .args .p
 
-loop-less : tie.Need-loop-less Inv-loop μ-loop
-loop-less c =
-    let pairs = c .before .before .before .before .before .pre .0 in
-    omega (arith, within (c .before), pairs .positive)
+  abbrev base : ℕ
+  base = c .before .loop .base
+
+  abbrev ws : List ℕ
+  ws = c .before .loop .queue .words
+
+  -- what holds of the queue after it
+  abbrev Turned : List ℕ → Type 0
+  Turned vs = Words vs × WaitToo ws (adds m members p base) vs
+
+  whole : Whole m members
+  whole = c .before .before .before .before .pre .0
+
+  inside : base + m ≤ length members
+  inside = omega (arith, pair-within m members (whole .positive) (whole .whole) base (c .loop-test .taken), c .before .loop .inv .2)
+
+  -- no pair is added
+  same : (vs : List ℕ) → vs ≡ ws → visits m members p base ≡ false → Turned vs
+  same vs e v =
+      subst Turned (sym e)
+      (c .before .loop .inv .1, wait-not (others base (base + m) members (pairMember members p)) (visits m members p base) ws v)
+
+  -- another combination than p's own is visited where it holds p's relation
+  met : (base ≡ p / m * m → ⊥) → (b : Bool) → b ≡ elem (pairMember members p) (take m (drop base members)) → visits m members p base ≡ b
+  met d b e = visits-other m members p whole base (c .before .loop .inv .2) d ∙ sym e
+
+-- the combination's pairs are added
+added : (c : tie.After-put-others Inv-loop μ-loop) → (let turn = c .before .before .before .before in Turned turn (c .put-others .result .words))
+added c =
+    let turn = c .before .before .before .before in
+    let vs = c .put-others .result .words in
+    let f : (i : ℕ) → Fits w64 (getD vs i 0) = λ i. search needs in
+    let v : visits (m turn) (members turn) (p turn) (base turn) ≡ true = met turn (c .before .before .before .if1 .taken) (c .before .before .holds .result) (c .before .before .holds .ensures) ∙ c .before .if2 .taken in (
+      words-of vs (search needs) f,
+      wait-if (others (base turn) (base turn + m turn) (members turn) (pairMember (members turn) (p turn))) (visits (m turn) (members turn) (p turn) (base turn)) (ws turn) vs v (c .put-others .ensures),
+    )
+
+turned : (c : tie.Joined1 Inv-loop μ-loop) → Turned (c .before) (c .if1 .queue .words)
+turned c =
+    let turn = c .before in
+    let words : Queue → List ℕ = λ x. x .words in
+    ⊎-elim
+    {C = Turned turn (c .if1 .queue .words)}
+    (λ w.
+    let at : tie.After-put-others Inv-loop μ-loop =
+    record {
+      before = record { before = record { before = record { before = turn; if1 = w .0 }; holds = w .1 }; if2 = w .2 };
+      «put-others» = w .3;
+    }
+    in
+    subst (Turned turn) (sym (ap words (w .4))) (added at))
+    (λ w. ⊎-elim
+    {C = Turned turn (c .if1 .queue .words)}
+    (λ u. same turn _ (ap words (u .3)) (met turn (u .0 .taken) (u .1 .result) (u .1 .ensures) ∙ u .2 .left))
+    (λ u. same turn _ (ap words (u .1)) (visits-own (m turn) (members turn) (p turn) (whole turn) (base turn) (u .0 .left)))
+    w)
+    (c .if1 .came)
 
 loop-again : tie.Need-loop-again Inv-loop μ-loop
 loop-again c =
-    let a = c .before .before .before .before .before .args in
-    let pairs = c .before .before .before .before .before .pre .0 in
-    let l = c .before .before .loop in
+    let turn = c .before in
+    let l = turn .before .loop in
     let t = turned c in (
-      λ h b.
-          t .1 h b
-          ∙ ap (λ (x : Bool). x || adds (a .m) (a .members .now) (a .p) (l .base) h) (l .inv .0 h b)
-          ∙ or-assoc (isLive (a .queue .words) h) (ltb h (l .base) && queues (a .m) (a .members .now) (a .p) h) (adds (a .m) (a .members .now) (a .p) (l .base) h)
-          ∙ ap (λ (x : Bool). isLive (a .queue .words) h || x) (sym (queues-more (a .m) (a .members .now) (a .p) pairs (l .base) h (l .inv .1 .1 .0))),
-      (t .0, (next-base (a .m) (a .members .now) (a .p) pairs (l .base) (l .inv .1 .1 .0), within (c .before))),
+      wait-then _ (l .queue .words) _ _ (adds (m turn) (members turn) (p turn) (base turn)) _ (l .inv .0) (t .1)
+          (λ h. queues-more (m turn) (members turn) (p turn) (whole turn) (base turn) h (l .inv .2)),
+      t .0,
+      multiple-next (m turn) (base turn) (whole turn .positive) (l .inv .2),
+      inside turn,
     )
 
 returns : tie.Need-returns Inv-loop μ-loop
 returns c =
-    let a = c .before .before .before .before .args in
-    let pairs = c .before .before .before .before .pre .0 in
+    let start = c .before .before .before .before in
+    let a = start .args in
     let l = c .before .loop in
-    λ q h. l .inv .0 q h ∙ ap (λ (x : Bool). isLive (a .queue .words) q || x) (queues-all (a .m) (a .members .now) (a .p) pairs (l .base) q (omega arith))
+    λ q h. l .inv .0 q h ∙ ap (λ (x : Bool). isLive (a .queue .words) q || x) (queues-all (a .m) (a .members .now) (a .p) (start .pre .0) (l .base) q (omega arith))
 
 pub requeue-spec : {M : Type 1} → statement M
 requeue-spec =
@@ -146,12 +140,12 @@ requeue-spec =
     Inv-loop
     μ-loop
     (λ c. search needs) (λ c. search needs)
-    div-own
-    mul-own
+    (λ c. c .before .before .pre .0 .positive)
+    (λ c. let a = c .before .before .args in omega (arith, div-mul-le-self (a .p) (a .m)))
     loop-holds
-    holds-requires
-    put-others-requires
-    add-base
-    loop-less
+    (λ c κs. inside (c .before))
+    (λ c κs. (inside (c .before .before .before), whole (c .before .before .before) .short))
+    (λ c. omega (arith, inside (c .before)))
+    (λ c. omega (arith, inside (c .before), whole (c .before) .positive))
     loop-again
     returns)

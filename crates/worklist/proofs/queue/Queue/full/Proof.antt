@@ -16,19 +16,13 @@ use Rattle.worklist.proofs.queue.Queue.full.Statement.{statement}
 use Rattle.worklist.proofs.queue.Queue.full.Tie as tie
 
 abbrev Inv-loop : tie.InvT-loop
-Inv-loop pairs words₀ next₀ words next = ((q : ℕ) → q < maxPairs → isLive words q ≡ ltb q next) × (Words words × (next ≤ pairs))
+Inv-loop pairs words₀ next₀ words next = ((q : ℕ) → q < maxPairs → isLive words q ≡ ltb q next) × Words words × (next ≤ pairs)
 
 abbrev μ-loop : tie.MeasureT-loop
 μ-loop pairs words₀ next₀ words next = pairs - next
 
 loop-holds : tie.Need-loop-holds Inv-loop μ-loop
-loop-holds c = (λ q h. none-isLive 16 q ∙ sym (le-ltb q 0 (omega arith)), (empty-words, search needs))
-
-slice-aggregate-set : tie.Need-slice-aggregate-set Inv-loop μ-loop
-slice-aggregate-set c = sym (c .before .before .loop .inv .1 .0 .sixteen)
-
-set-requires : tie.Need-set-requires Inv-loop μ-loop
-set-requires c κs = let w = c .before .before .loop .inv .1 .0 in omega (arith, w .sixteen)
+loop-holds c = (λ q h. none-isLive 16 q ∙ sym (le-ltb q 0 (omega arith)), empty-words, search needs)
 
 loop-again : tie.Need-loop-again Inv-loop μ-loop
 loop-again c =
@@ -36,10 +30,11 @@ loop-again c =
     let e = c .before .set .ensures in (
       λ q h.
           ap (λ (ws : List ℕ). isLive ws q) e
-          ∙ put-waits (l .words) (l .inv .1 .0) (l .next) q h
+          ∙ put-waits (l .words) (l .inv .1) (l .next) q h
           ∙ ap (λ (b : Bool). b || eqb (l .next) q) (l .inv .0 q h)
           ∙ ltb-more (l .next) q,
-      (subst Words (sym e) (put-words (l .words) (l .inv .1 .0) (l .next)), search needs),
+      subst Words (sym e) (put-words (l .words) (l .inv .1) (l .next)),
+      search needs,
     )
 
 returns : tie.Need-returns Inv-loop μ-loop
@@ -55,8 +50,8 @@ full-spec =
     Inv-loop
     μ-loop
     loop-holds
-    slice-aggregate-set
-    set-requires
+    (λ c. sym (c .before .before .loop .inv .1 .sixteen))
+    (λ c κs. let w = c .before .before .loop .inv .1 in omega (arith, w .sixteen))
     (λ c. search needs) (λ c. search needs)
     loop-again
     returns)

@@ -7,11 +7,10 @@ use borrow.Author.Needs.{needs}
 use Rattle.worklist.proofs.queue.Queue.put.Statement.{statement}
 use Rattle.worklist.proofs.queue.Queue.put.Tie as tie
 
-set-requires : tie.Need-set-requires
-set-requires c κs =
-    let l : length (c .before .before .args .self .words) ≡ 16 = search needs in
-    omega arith
-
 pub put-spec : {M : Type 1} → statement M
 put-spec =
-    tie.close (tie.spec (λ c. search needs) set-requires (λ c. search needs))
+    tie.close
+    (tie.spec
+    (λ c. search needs)
+    (λ c κs. let l : length (c .before .before .args .self .words) ≡ 16 = search needs in omega arith)
+    (λ c. search needs))

@@ -11,16 +11,6 @@ use Rattle.model.specs.LiveWords.{cleared}
 use Rattle.worklist.proofs.queue.Queue.take.Statement.{statement}
 use Rattle.worklist.proofs.queue.Queue.take.Tie as tie
 
-next-requires : tie.Need-next-requires
-next-requires c κs =
-    let l : length (c .before .before .args .self .words) ≡ 16 = search needs in
-    omega arith
-
-clear-requires : tie.Need-clear-requires
-clear-requires c κs =
-    let l : length (c .before .before .before .before .before .args .self .words) ≡ 16 = search needs in
-    omega arith
-
 returns : tie.Need-returns
 returns c =
     let ws = c .before .before .before .before .before .before .before .args .self .words in
@@ -39,8 +29,8 @@ take-spec =
     tie.close
     (tie.spec
     (λ c. search needs)
-    next-requires
+    (λ c κs. let l : length (c .before .before .args .self .words) ≡ 16 = search needs in omega arith)
     (λ c. search needs)
-    clear-requires
+    (λ c κs. let l : length (c .before .before .before .before .before .args .self .words) ≡ 16 = search needs in omega arith)
     returns
     returns-2)
