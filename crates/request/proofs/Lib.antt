@@ -1,4 +1,4 @@
 -- The laws of the crate's definitions.
-pub mod Instance
+pub mod Openings
 pub mod Removed
 pub mod Unlike
