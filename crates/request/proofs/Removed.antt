@@ -1,7 +1,7 @@
 -- Ids set one after the other, words cut by others one after the other, and what is left once ids are removed.
 -- From the model's laws of live words and of sets of tuples, and the laws of the machine's operations.
 use mathlib.Core.Path.{_≡_, refl, sym, ap, _∙_}
-use mathlib.Core.Bool.{Bool, true, false, false≢true, not, _&&_, _||_, cond, and-true, or-false, or-assoc}
+use mathlib.Core.Bool.{Bool, true, false≢true, not, _&&_, _||_, cond, and-true, or-false, or-assoc}
 use mathlib.Core.List.{List, [], _∷_}
 use mathlib.Core.Logic.{⊎-elim}
 use Prim.Native.Nat.{ℕ, _+_, _-_, _*_, _/_, _%_, _^_, _≤_, _<_}

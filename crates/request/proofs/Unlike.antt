@@ -12,26 +12,25 @@ use native.Mathlib.Omega.{arith}
 use lib.Dec.{leb, ltb, eqb}
 use lib.ListN.{length, getD, replicate}
 use borrow.Author.Tests.{le-leb, lt-leb, lt-ltb, le-ltb, eq-eqb, ne-eqb}
-use Rattle.model.specs.Limits.{maxRelations, maxTuples, variableCount}
+use Rattle.model.specs.Limits.{maxRelations, variableCount}
 use Rattle.model.specs.Lists.{all, pairwise}
-use Rattle.model.specs.Network.{Network, width, size, total, tuplesIn, firstId, scopeOf, valuesAt}
+use Rattle.model.specs.Network.{Network, width, size, total, tuplesIn, firstId, scopeOf}
 use Rattle.model.specs.Agreement.{fit}
 use Rattle.model.specs.LiveWords.{isLive, raised}
 use Rattle.model.specs.Request.{choose, removes}
-use Rattle.model.specs.Fault.{different, properScope}
+use Rattle.model.specs.Fault.{different}
 use Rattle.model.proofs.Bools.{and-right}
-use Rattle.model.proofs.Lists.{all-at, mem-from}
 use Rattle.model.proofs.Network.{before-past}
 use Rattle.model.proofs.LiveWords.{none-isLive, raised-isLive}
 use Rattle.model.proofs.Request.{choose-without, choose-at}
 use Rattle.layout.specs.Starts.{tupleStart, valueStart, recordsIn}
-use Rattle.layout.specs.Places.{widthIn}
 use Rattle.layout.specs.Columns.{columnOf}
 use Rattle.layout.specs.Setting.{Lists, networkIn, Laid}
-use Rattle.layout.proofs.Framed.{relations-few, tuple-start, tuple-end, value-start, ids-rise}
-use Rattle.layout.proofs.Places.{sound, exists, scope-length, tuple-fits, values-length, value-at}
+use Rattle.layout.proofs.Framed.{relations-few, tuple-start, ids-rise}
+use Rattle.layout.proofs.Places.{exists, scope-length, values-length, value-at}
 use Rattle.layout.proofs.Columns.{column-found, column-none}
 use Rattle.request.specs.Removal.{Full, Holds, between, removedBy, removedIn, Added}
+use Rattle.request.proofs.ForLayout.{scope-proper, index-below, index-back, value-within}
 use Rattle.request.proofs.Removed.{blank-full, raised-full}
 
 -- ---- Ids from one on and below another
@@ -138,8 +137,7 @@ module _ {L : Lists} (laid : Laid L) (r : ℕ) (h : r < maxRelations) where
 
   different-variables : r < length (recordsIn xs) → pairwise different (scopeOf N r) ≡ true
   different-variables l =
-      and-right (all (λ (x : ℕ). ltb x variableCount) (scopeOf N r)) (pairwise different (scopeOf N r))
-      (all-at (λ (s : ℕ). properScope (scopeOf N s)) _ (sound laid .scopes) (mem-from 0 (length (recordsIn xs)) r (omega arith) (omega arith)))
+      and-right (all (λ (x : ℕ). ltb x variableCount) (scopeOf N r)) (pairwise different (scopeOf N r)) (scope-proper laid r l)
 
   module _ (x : ℕ) where
     abbrev column : ℕ
@@ -154,13 +152,13 @@ module _ {L : Lists} (laid : Laid L) (r : ℕ) (h : r < maxRelations) where
       i = g - tupleStart xs r
 
       index : i < size N r
-      index = omega (arith, tuple-start (laid .framed) r (omega arith), tuple-end (laid .framed) r h)
+      index = index-below laid r g h low high
 
       back : firstId N r + i ≡ g
-      back = omega (arith, tuple-start (laid .framed) r (omega arith))
+      back = index-back laid r g h low high
 
-      pub value-within : column < width N r → valueAt g < length (L .values)
-      value-within l = omega (arith, tuple-fits laid r i index, value-start (laid .framed) r (omega arith))
+      pub place-within : column < width N r → valueAt g < length (L .values)
+      place-within l = value-within laid r i index column l
 
       module _ (v : ℕ) where
         pub unlike-column : column < width N r → removes N (choose x v) g ≡ not (fit (getD (L .values) (valueAt g) 0) v)

@@ -24,7 +24,7 @@ pub struct Opening {
     pub starts: Starts,
 }
 
-// The network's first fault, 2 to 6.
+// The network's first fault, 2 to 6, or where its relations begin.
 pub fn network_checked(shape: Shape, variables: &[u16], values: &[u16]) -> Opening
     ensures { λ o. ⌜ Opened o (networkFaults (networkOf shape (entry variables) (entry values))) (relationsOf shape) ⌝ }
 {
@@ -41,7 +41,7 @@ pub fn network_checked(shape: Shape, variables: &[u16], values: &[u16]) -> Openi
     }
 }
 
-// The first fault of the network and its combinations, 2 to 10.
+// The first fault of the network and its combinations, 2 to 10, or where the relations begin.
 fn instance_checked(
     shape: Shape,
     variables: &[u16],
@@ -60,7 +60,7 @@ fn instance_checked(
     Opening { fault, starts }
 }
 
-// The first fault of test, 2 to 11.
+// The first fault of test, 2 to 11, or where the relations begin.
 pub fn test_checked(
     shape: Shape,
     variables: &[u16],
@@ -80,7 +80,7 @@ pub fn test_checked(
     Opening { fault, starts }
 }
 
-// The first fault that every change call tests, 2 to 12.
+// The first fault that every change call tests, 2 to 12, or where the relations begin.
 pub fn checked(
     shape: Shape,
     variables: &[u16],

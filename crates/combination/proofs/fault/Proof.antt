@@ -12,7 +12,7 @@ use denote.Ref.{now}
 use Rattle.model.specs.Limits.{minMembers, maxMembers, maxCombinations}
 use Rattle.model.specs.Lists.{all, pairwise}
 use Rattle.model.specs.Network.{Network}
-use Rattle.model.specs.Combination.{Combination, combinations, connected}
+use Rattle.model.specs.Combination.{combinations, connected}
 use Rattle.model.specs.Fault.{firstFault, refusal, within, properList, properMembers, combinationFaults}
 use Rattle.model.proofs.Bools.{and-left, and-intro}
 use Rattle.model.proofs.Lists.{all-more}

@@ -4,7 +4,7 @@ use mathlib.Core.Path.{_≡_, ap, ap₂, _∙_}
 use Prim.Native.Nat.{ℕ, _-_, _≤_, _<_}
 use native.Mathlib.Omega.{arith}
 use lib.Dec.{ltb}
-use lib.ListN.{length, set, take, drop}
+use lib.ListN.{length, take, drop}
 use denote.Ref.{now}
 use Rattle.model.specs.Limits.{maxRelations, variableCount}
 use Rattle.model.specs.Lists.{all, elem}

@@ -2,11 +2,11 @@
 -- From what its two tests ensure, and the laws of two tables of faults.
 use mathlib.Core.Path.{_≡_, refl, ap, _∙_}
 use mathlib.Core.Option.{none}
-use mathlib.Core.List.{List}
 use Rattle.model.specs.Request.{Instance}
 use Rattle.model.specs.Fault.{firstFault, refusal, networkFaults, combinationFaults}
 use Rattle.layout.specs.Shape.{relationsOf, instanceOf}
-use Rattle.request.proofs.Openings.{opened-none, opened-front, opened-back, opened-laid, opened-instance}
+use Rattle.request.proofs.ForLayout.{opened-laid, opened-instance}
+use Rattle.request.proofs.Openings.{opened-none, opened-front, opened-back}
 use borrow.Author.Needs.{needs}
 use Rattle.request.proofs.checks.instance_checked.Statement.{statement}
 use Rattle.request.proofs.checks.instance_checked.Tie as tie

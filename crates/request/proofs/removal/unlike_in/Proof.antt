@@ -1,6 +1,6 @@
 -- `unlike_in` finds the variable's column in the scope, and goes from one tuple to the next: those before g with another value are set.
 -- From the laws of the tuples that choose removes of one relation.
-use mathlib.Core.Path.{_≡_, refl, sym, ap, ap₂, subst, _∙_}
+use mathlib.Core.Path.{_≡_, sym, ap, ap₂, subst, _∙_}
 use mathlib.Core.Bool.{Bool, true, false, not, _&&_}
 use mathlib.Core.List.{List}
 use mathlib.Core.Logic.{⊎-elim}
@@ -9,17 +9,16 @@ use native.Mathlib.Omega.{arith}
 use borrow.Author.Tests.{not-true, not-false}
 use lib.ListN.{length, getD, take, drop}
 use denote.Ref.{now}
-use Rattle.model.specs.Limits.{maxRelations}
 use Rattle.model.specs.Network.{Network, width, scopeOf}
 use Rattle.model.specs.Agreement.{fit}
 use Rattle.model.specs.Request.{choose, removes}
-use Rattle.layout.specs.Starts.{variableStart, tupleStart, valueStart}
+use Rattle.layout.specs.Starts.{tupleStart, valueStart}
 use Rattle.layout.specs.Columns.{columnOf}
 use Rattle.layout.specs.Setting.{Lists, lists, networkIn}
 use Rattle.layout.proofs.Framed.{width-in, scope-rises, ids-rise, ids-few}
 use Rattle.layout.proofs.Places.{scope-within, scope-is}
 use Rattle.request.specs.Removal.{between, Added}
-use Rattle.request.proofs.Unlike.{added-none, added-set, added-kept, place-next, valueAt, value-within, unlike-column, unlike-absent}
+use Rattle.request.proofs.Unlike.{added-none, added-set, added-kept, place-next, valueAt, place-within, unlike-column, unlike-absent}
 use borrow.Author.Needs.{needs}
 use Rattle.request.proofs.removal.unlike_in.Statement.{statement}
 use Rattle.request.proofs.removal.unlike_in.Tie as tie
@@ -101,7 +100,7 @@ module _ (c : tie.In-loop Inv-loop μ-loop) where
       ∙ ap₂ (λ (w k : ℕ). valueStart xs (start .args .r) + (g - tupleStart xs (start .args .r)) * w + k) (width-read (found c .before .before)) (column-read (found c))
 
   readable : c .before .loop .at < length (start .args .values .now)
-  readable = omega (arith, at-read, value-within (start .pre .0) (start .args .r) (start .pre .1) (start .args .x) g low high has-column)
+  readable = omega (arith, at-read, place-within (start .pre .0) (start .args .r) (start .pre .1) (start .args .x) g low high has-column)
 
   decided : (b : Bool) → fit (getD (start .args .values .now) (c .before .loop .at) 0) (start .args .v) ≡ b → removes N (choose (start .args .x) (start .args .v)) g ≡ not b
   decided b e =
