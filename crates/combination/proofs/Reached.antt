@@ -22,7 +22,7 @@ use Rattle.model.proofs.Lists.{here, all-at}
 use Rattle.model.proofs.Fault.{Faultless}
 use Rattle.model.proofs.Combination.{connectedBy, connected-all, Reaches, start, step, reached-connected, connected-by, share-intro, share-at, share-self}
 use Rattle.live.proofs.Bits.{isSet-or, and-some, and-none, le-or}
-use Rattle.combination.specs.Masks.{Masks, meets, common, known, grown, absorbed}
+use Rattle.combination.specs.Masks.{Masks, meets, common, connectedIn, known, grown, absorbed}
 
 -- ---- One pass
 
@@ -135,13 +135,13 @@ module _ (ms : List ℕ) (c : Combination) where
         meets-intro ms v t (l .0) (l .1) (absorbed-fixed ms c v fixed a h (l .0) (l .2)))
         m (meets-intro ms v r (k .0) (k .1) (passed-keeps ms c (k .0) p (k .1)))
 
-    pub connected-meets : absorbed ms c v ≡ v → all (meets ms v) c ≡ connectedBy (common ms) c
+    pub connected-meets : absorbed ms c v ≡ v → all (meets ms v) c ≡ connectedIn ms c
     connected-meets fixed = iff-eq (all (meets ms v) c) (connectedBy (common ms) c) all-connected (connected-all-meet fixed)
 
-  pub connected-none : length c ≡ 0 → connectedBy (common ms) c ≡ true
+  pub connected-none : length c ≡ 0 → connectedIn ms c ≡ true
   connected-none e = none c e
     where
-      none : (c : Combination) → length c ≡ 0 → connectedBy (common ms) c ≡ true
+      none : (c : Combination) → length c ≡ 0 → connectedIn ms c ≡ true
       none [] e = refl
       none (r ∷ c) e = absurd (omega arith)
 
@@ -154,7 +154,7 @@ module _ (N : Network) (ms : List ℕ) (masks : Masks N ms) where
       (λ e. let k = meets-at ms (getD ms r 0) s e in share-intro N r s (k .0) (sym (masks r (k .0)) ∙ k .2) (sym (masks s (k .0)) ∙ k .1))
       (λ e. let k = share-at N r s e in meets-intro ms (getD ms r 0) s (k .0) (masks s (k .0) ∙ k .2) (masks r (k .0) ∙ k .1))
 
-  pub masks-connected : (cs : List Combination) → all (connectedBy (common ms)) cs ≡ all (connected N) cs
+  pub masks-connected : (cs : List Combination) → all (connectedIn ms) cs ≡ all (connected N) cs
   masks-connected cs =
       ap (λ (f : ℕ → ℕ → Bool). all (connectedBy f) cs) (λ i r s. shared r s i)
       ∙ ap (λ (f : Combination → Bool). all f cs) (λ i c. sym (connected-by N c) i)

@@ -9,11 +9,10 @@ ghost use Rattle.model.specs.LiveWords.{isSet};
 ghost use Rattle.model.specs.Combination.{combinations};
 ghost use Rattle.model.specs.Consistency.{needed};
 ghost use Rattle.model.specs.Fault.{combinationFaults, firstFault, refusal};
-ghost use Rattle.model.proofs.Combination.{connectedBy};
 ghost use Rattle.layout.specs.Lent.{entry};
 ghost use Rattle.layout.specs.Starts.{outline, Framed};
 ghost use Rattle.layout.specs.Setting.{lists, networkIn, setting, instanceIn, Laid, Paired};
-ghost use Rattle.combination.specs.Masks.{Masks, meets, common, known, absorbed};
+ghost use Rattle.combination.specs.Masks.{Masks, meets, connectedIn, known, absorbed};
 ghost use Rattle.combination.specs.Proper.{below, proper};
 ghost use Rattle.combination.specs.Refusals.{wordsRefusal, supportsRefusal};
 use layout::Starts;
@@ -30,7 +29,7 @@ use model::WORD_BITS;
 use model::refusal;
 
 // Of each relation a set of variables.
-pub type Masks = [u64; MAX_RELATIONS];
+type Masks = [u64; MAX_RELATIONS];
 
 // The set of a scope's variables: variable x is bit x.
 fn mask_of(scope: &[u16]) -> u64
@@ -47,7 +46,7 @@ fn mask_of(scope: &[u16]) -> u64
 }
 
 // Of each relation the set of its scope's variables.
-pub fn masks(variables: &[u16], values: &[u16], starts: &Starts) -> Masks
+fn masks(variables: &[u16], values: &[u16], starts: &Starts) -> Masks
     requires { ⌜ Laid (lists now variables values starts) ⌝ }
     ensures { λ ms. ⌜ Masks (networkIn (lists entry variables values starts)) ms ⌝ }
 {
@@ -98,7 +97,7 @@ fn all_meet(masks: &Masks, members: &[u16], set: u64) -> bool
 // Whether the combination is connected.
 fn connected(masks: &Masks, members: &[u16]) -> bool
     requires { ⌜ all (known (now masks)) (now members) ≡ true ⌝ }
-    ensures { λ b. ⌜ b ≡ connectedBy (common (entry masks)) (entry members) ⌝ }
+    ensures { λ b. ⌜ b ≡ connectedIn (entry masks) (entry members) ⌝ }
 {
     if members.len() == 0 {
         return true;
@@ -173,7 +172,7 @@ fn all_proper(count: usize, m: usize, members: &[u16]) -> bool
 fn all_connected(masks: &Masks, m: usize, members: &[u16]) -> bool
     requires { ⌜ 1 ≤ m ⌝ }
     requires { ⌜ all (all (known (now masks))) (combinations m (now members)) ≡ true ⌝ }
-    ensures { λ b. ⌜ b ≡ all (connectedBy (common (entry masks))) (combinations m (entry members)) ⌝ }
+    ensures { λ b. ⌜ b ≡ all (connectedIn (entry masks)) (combinations m (entry members)) ⌝ }
 {
     let mut start = 0;
     let mut k = 0;

@@ -16,7 +16,7 @@ use model::Answer;
 use model::Counts;
 
 // The lowest relation that has no live tuple; the number of relations if there is none.
-pub fn lowest_empty(starts: &Starts, words: &[u64]) -> u16
+fn lowest_empty(starts: &Starts, words: &[u64]) -> u16
     requires { ⌜ Covered (now starts) (now words) ⌝ }
     ensures { λ r. ⌜ r ≡ lowestEmpty (outline (entry starts)) (livingIn (entry starts) (entry words)) ⌝ }
 {

@@ -11,9 +11,9 @@ use lib.ListN.{length, getD, take, drop}
 use Rattle.model.specs.Lists.{all}
 use Rattle.model.specs.Combination.{combinations}
 use Rattle.model.proofs.Lists.{all-getD}
-use Rattle.model.proofs.Combination.{combination-at, combination-within, connectedBy}
+use Rattle.model.proofs.Combination.{combination-at, combination-within}
 use Rattle.network.proofs.Walk.{all-passes, all-fails, all-ends}
-use Rattle.combination.specs.Masks.{common, known}
+use Rattle.combination.specs.Masks.{connectedIn, known}
 use Rattle.combination.proofs.Members.{next-start, combination-below, combination-end}
 use borrow.Author.Needs.{needs}
 use Rattle.combination.proofs.all_connected.Statement.{statement}
@@ -23,7 +23,7 @@ abbrev Inv-loop : tie.InvT-loop
 Inv-loop masks m members start₀ k₀ start k =
     (k ≤ length members / m)
     × ((start ≡ k * m)
-    × (all (connectedBy (common masks)) (drop k (combinations m members)) ≡ all (connectedBy (common masks)) (combinations m members)))
+    × (all (connectedIn masks) (drop k (combinations m members)) ≡ all (connectedIn masks) (combinations m members)))
 
 abbrev μ-loop : tie.MeasureT-loop
 μ-loop masks m members start₀ k₀ start k = length members / m - k
@@ -52,10 +52,10 @@ part-known c =
     ∙ all-getD (all (known (args .masks .now))) (combinations (args .m) (args .members .now)) k [] (start .pre .1) (combination-below (args .m) (args .members .now) k (c .loop-test .taken))
 
 -- the test of combination k
-tested : (c : tie.After-connected Inv-loop μ-loop) → (let args = c .before .before .before .before .before .args in c .connected .result ≡ connectedBy (common (args .masks .now)) (getD (combinations (args .m) (args .members .now)) (c .before .before .before .loop .k) []))
+tested : (c : tie.After-connected Inv-loop μ-loop) → (let args = c .before .before .before .before .before .args in c .connected .result ≡ connectedIn (args .masks .now) (getD (combinations (args .m) (args .members .now)) (c .before .before .before .loop .k) []))
 tested c =
     let turn = c .before .before in
-    c .connected .ensures ∙ ap (connectedBy (common (turn .before .before .before .args .masks .now))) (part turn)
+    c .connected .ensures ∙ ap (connectedIn (turn .before .before .before .args .masks .now)) (part turn)
 
 loop-holds : tie.Need-loop-holds Inv-loop μ-loop
 loop-holds c = (search needs, (sym (zero-mul (c .before .args .m)), refl))
@@ -77,7 +77,7 @@ returns c =
     let turn = c .before .before .before in
     let args = turn .before .before .before .args in
     let k = turn .before .loop .k in
-    sym (all-fails (connectedBy (common (args .masks .now))) (combinations (args .m) (args .members .now)) k [] (combination-below (args .m) (args .members .now) k (turn .loop-test .taken)) (sym (tested (c .before)) ∙ not-true _ (c .if1 .taken)))
+    sym (all-fails (connectedIn (args .masks .now)) (combinations (args .m) (args .members .now)) k [] (combination-below (args .m) (args .members .now) k (turn .loop-test .taken)) (sym (tested (c .before)) ∙ not-true _ (c .if1 .taken)))
     ∙ turn .before .loop .inv .1 .1
 
 add-k : tie.Need-add-k Inv-loop μ-loop
@@ -91,7 +91,7 @@ loop-again c =
       search needs,
       (
         ap (λ (s : ℕ). s + args .m) (turn .before .loop .inv .1 .0) ∙ next-start (args .m) (args .members .now) k,
-        sym (all-passes (connectedBy (common (args .masks .now))) (combinations (args .m) (args .members .now)) k [] (combination-below (args .m) (args .members .now) k (turn .loop-test .taken)) (sym (tested (c .before)) ∙ not-false _ (c .if1 .left)))
+        sym (all-passes (connectedIn (args .masks .now)) (combinations (args .m) (args .members .now)) k [] (combination-below (args .m) (args .members .now) k (turn .loop-test .taken)) (sym (tested (c .before)) ∙ not-false _ (c .if1 .left)))
             ∙ turn .before .loop .inv .1 .1,
       ),
     )
@@ -99,7 +99,7 @@ loop-again c =
 returns-2 : tie.Need-returns-2 Inv-loop μ-loop
 returns-2 c =
     let args = c .before .before .before .args in
-    sym (all-ends (connectedBy (common (args .masks .now))) (combinations (args .m) (args .members .now)) (c .before .loop .k) (combination-end (args .m) (args .members .now) (c .before .loop .k) (c .loop-test .left)))
+    sym (all-ends (connectedIn (args .masks .now)) (combinations (args .m) (args .members .now)) (c .before .loop .k) (combination-end (args .m) (args .members .now) (c .before .loop .k) (c .loop-test .left)))
     ∙ c .before .loop .inv .1 .1
 
 pub all-connected-spec : {M : Type 1} → statement M
