@@ -1,4 +1,4 @@
 -- The laws of the crate's definitions.
 pub mod Members
 pub mod Reached
-pub mod Scopes
+pub mod Found

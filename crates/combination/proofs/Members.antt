@@ -3,26 +3,22 @@
 use mathlib.Core.Path.{_≡_, refl, sym, _∙_, ap, subst}
 use mathlib.Core.Bool.{Bool, true, false, _&&_}
 use mathlib.Core.List.{List, [], _∷_, map, List·Memᴰ}
-use Prim.Native.Nat.{ℕ, suc, _+_, _*_, _-_, _/_, _%_, _≤_, _<_}
-use native.Mathlib.Nat.{suc-mul, mul-le-mul, div-add-mod'}
+use Prim.Native.Nat.{ℕ, suc, _+_, _*_, _-_, _/_, _≤_, _<_}
+use native.Mathlib.Nat.{suc-mul}
 use native.Mathlib.Numerals.{add-one}
 use native.Mathlib.Omega.{arith}
-use borrow.Author.Tests.{ltb-true, lt-ltb, le-ltb, leb-true, eqb-true}
-use lib.Dec.{leb, ltb, eqb}
+use borrow.Author.Tests.{ltb-true, lt-ltb, le-ltb}
+use lib.Dec.{ltb}
 use lib.ListN.{length, getD, drop, length-drop, drop-of-length-le}
 use lib.Seq.{drop-cons}
-use Rattle.model.specs.Limits.{maxCombinations}
+use Rattle.model.specs.Limits.{maxRelations}
 use Rattle.model.specs.Lists.{all, pairwise, sum}
-use Rattle.model.specs.Combination.{combinations, Combination}
-use Rattle.model.specs.Fault.{properMembers}
+use Rattle.model.specs.Combination.{combinations}
 use Rattle.model.proofs.Bools.{and-left, and-right, and-intro, iff-eq}
 use Rattle.model.proofs.Lists.{here, all-more, all-getD}
-use Rattle.model.proofs.Combination.{combination-count, members-all}
-use Rattle.layout.specs.declared.Shape.{Shape}
-use Rattle.layout.specs.Shape.{networkOf}
-use Rattle.layout.proofs.Relations.{relation-count}
-use Rattle.combination.specs.Masks.{grown, absorbed}
-use Rattle.combination.specs.Proper.{below, proper, Proper}
+use Rattle.model.proofs.Combination.{combination-count}
+use Rattle.combination.specs.Masks.{common, known, grown, absorbed}
+use Rattle.combination.specs.Proper.{below}
 
 -- ---- One combination
 
@@ -32,6 +28,10 @@ member-below count c i e h = ltb-true (getD c i 0) count (all-getD (λ (r : ℕ)
 pub below-more-relations : (count bound : ℕ) (c : List ℕ) → count ≤ bound → below count c ≡ true → below bound c ≡ true
 below-more-relations count bound c h e =
     all-more (λ (r : ℕ). ltb r count) (λ (r : ℕ). ltb r bound) c (λ r k. let l = ltb-true r count k in lt-ltb r bound (omega arith)) e
+
+-- known relations are below 64
+pub known-below : (ms c : List ℕ) → all (known ms) c ≡ true → below maxRelations c ≡ true
+known-below ms c e = all-more (known ms) (λ (r : ℕ). ltb r maxRelations) c (λ r k. and-left (ltb r maxRelations) (common ms r r) k) e
 
 pub first-member : (c : List ℕ) → 0 < length c → List·Memᴰ (getD c 0 0) c
 first-member [] h = absurd (omega arith)
@@ -99,32 +99,3 @@ module _ (m : ℕ) (list : List ℕ) where
 
   pub combination-end : (k : ℕ) → length list / m ≤ k → length (combinations m list) ≤ k
   combination-end k h = subst (λ (n : ℕ). n ≤ k) (sym (combination-count m list)) h
-
-  -- what a list without the faults 7 to 9 has
-  module _ (count : ℕ) (ok : Proper count m list) where
-    pub some-members : 2 ≤ m
-    some-members = leb-true 2 m (and-left (leb 2 m) (leb m 4) (ok .number))
-
-    pub few-members : m ≤ 4
-    few-members = leb-true m 4 (and-right (leb 2 m) (leb m 4) (ok .number))
-
-    pub whole-combinations : length list % m ≡ 0
-    whole-combinations = eqb-true (length list % m) 0 (and-left (eqb (length list % m) 0) (leb (length list / m) maxCombinations) (ok .whole))
-
-    pub short-list : length list ≤ 1024
-    short-list =
-        let n = length list / m in
-        let l = leb-true n maxCombinations (and-right (eqb (length list % m) 0) (leb n maxCombinations) (ok .whole)) in
-        omega (arith, div-add-mod' (length list) m, whole-combinations, mul-le-mul {n₂ = 256} {m₂ = 4} l few-members)
-
-    pub all-exist : (i : ℕ) → i < length list → getD list i 0 < count
-    all-exist i h =
-        ltb-true (getD list i 0) count
-        (members-all m list whole-combinations (λ (r : ℕ). ltb r count) (omega (arith, some-members))
-        (all-more (proper count) (below count) (combinations m list) (λ c e. and-left (below count c) (pairwise ltb c) e) (ok .members)) i h)
-
--- ---- From the faults of the table
-
--- the model's test of members, by the number of relations
-pub counted : (S : Shape) (cs : List Combination) → all (properMembers (networkOf S [] [])) cs ≡ all (proper (S .count)) cs
-counted S cs = ap (λ (n : ℕ). all (proper n) cs) (relation-count S)

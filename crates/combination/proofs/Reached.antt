@@ -1,27 +1,28 @@
 -- Connectedness by masks: once a pass over the members adds nothing to the variables reached from one of them, the
--- combination is connected exactly if every member has one of them. From the model's laws of divisions and the bits of words.
+-- combination is connected exactly if every member has one of them; and so it is in a network that has these masks.
+-- From the model's laws of divisions and the bits of words.
 use mathlib.Core.Path.{_≡_, refl, sym, _∙_, ap}
 use mathlib.Core.Bool.{Bool, true, false, not, cond, false≢true}
 use mathlib.Core.List.{List, [], _∷_, List·Memᴰ, List·Memᴰ·tail, List·Memᴰ·cases-cons, List·Memᴰ·not-nil}
 use mathlib.Core.Logic.{⊎-elim}
 use Prim.Native.Nat.{ℕ, _≤_, _<_}
 use native.Mathlib.Omega.{arith}
-use borrow.Author.Tests.{eqb-false, ne-eqb, ltb-true, not-true}
+use borrow.Author.Tests.{eqb-false, ne-eqb, lt-ltb, not-true}
 use lib.Bits.{bitAnd, bitOr}
 use lib.Dec.{ltb}
 use lib.ListN.{length, getD}
-use Rattle.model.specs.Lists.{all, elem}
-use Rattle.model.specs.Network.{Network, scopeOf}
+use Rattle.model.specs.Limits.{maxRelations}
+use Rattle.model.specs.Lists.{all}
+use Rattle.model.specs.Network.{Network}
 use Rattle.model.specs.Agreement.{share}
 use Rattle.model.specs.Combination.{Combination, connected}
 use Rattle.model.specs.LiveWords.{isSet}
-use Rattle.model.proofs.Bools.{or-left, or-right, or-cases, iff-eq}
+use Rattle.model.proofs.Bools.{and-right, and-intro, or-left, or-right, or-cases, iff-eq}
 use Rattle.model.proofs.Lists.{here, all-at}
 use Rattle.model.proofs.Fault.{Faultless}
-use Rattle.model.proofs.Combination.{connectedBy, connected-all, Reaches, start, step, reached-connected, connected-by, share-intro, share-at, share-sym, scope-some, share-self}
+use Rattle.model.proofs.Combination.{connectedBy, connected-all, Reaches, start, step, reached-connected, connected-by, share-intro, share-at, share-self}
 use Rattle.live.proofs.Bits.{isSet-or, and-some, and-none, le-or}
-use Rattle.combination.specs.Masks.{Masks, meets, grown, absorbed}
-use Rattle.combination.specs.Proper.{below}
+use Rattle.combination.specs.Masks.{Masks, meets, common, connectedIn, known, grown, absorbed}
 
 -- ---- One pass
 
@@ -94,47 +95,70 @@ module _ (ms c : List ℕ) where
   passed-from P over f none = f
   passed-from P over f (again {v} p) = absorbed-from ms P c over v (passed-from P over f p)
 
-module _ (N : Network) (ok : Faultless N) (ms : List ℕ) (masks : Masks N ms) (c : Combination) (exist : below (length (N .relations)) c ≡ true) where
-  known : {r : ℕ} → List·Memᴰ r c → r < length (N .relations)
-  known {r} m = ltb-true r (length (N .relations)) (all-at (λ (r : ℕ). ltb r (length (N .relations))) c exist m)
+module _ (ms : List ℕ) (c : Combination) where
+  common-intro : (r s x : ℕ) → isSet (getD ms r 0) x ≡ true → isSet (getD ms s 0) x ≡ true → common ms r s ≡ true
+  common-intro r s x e f = meets-intro ms (getD ms r 0) s x f e
 
-  module _ {r : ℕ} (m : List·Memᴰ r c) (v : ℕ) (p : Passed ms c (getD ms r 0) v) where
+  common-sym : (r s : ℕ) → common ms r s ≡ true → common ms s r ≡ true
+  common-sym r s e = let k = meets-at ms (getD ms r 0) s e in common-intro s r (k .0) (k .1) (k .2)
+
+  module _ (all-known : all (known ms) c ≡ true) {r : ℕ} (m : List·Memᴰ r c) (v : ℕ) (p : Passed ms c (getD ms r 0) v) where
+    self : {s : ℕ} → List·Memᴰ s c → common ms s s ≡ true
+    self {s} n = and-right (ltb s maxRelations) (common ms s s) (all-at (known ms) c all-known n)
+
     -- variable x is of a member that r reaches
     Near : ℕ → Type 0
-    Near x = (s : ℕ) × List·Memᴰ s c × Reaches (share N) c r s × (elem x (scopeOf N s) ≡ true)
+    Near x = (s : ℕ) × List·Memᴰ s c × Reaches (common ms) c r s × (isSet (getD ms s 0) x ≡ true)
 
     near : (x : ℕ) → isSet v x ≡ true → Near x
     unfolding Near
     near =
         passed-from ms c Near
-        (λ s ms' y i k x j.
-        let yes = sym (masks s (known ms') y) ∙ i in
-        (s, ms', step (k .2) ms' (share-intro N (k .0) s y (k .3) yes), sym (masks s (known ms') x) ∙ j))
-        (λ x i. (r, m, start, sym (masks r (known m) x) ∙ i)) p
+        (λ s n y i k x j. (s, n, step (k .2) n (common-intro (k .0) s y (k .3) i), j))
+        (λ x i. (r, m, start, i)) p
 
-    all-connected : all (meets ms v) c ≡ true → connectedBy (share N) c ≡ true
+    all-connected : all (meets ms v) c ≡ true → connectedBy (common ms) c ≡ true
     unfolding Near
     all-connected e =
-        reached-connected (share N) (share-sym N) c m (λ t n. share-self N ok t (known n))
+        reached-connected (common ms) common-sym c m (λ t n. self n)
         (λ t n.
         let k = meets-at ms v t (all-at (meets ms v) c e n) in
         let near-k = near (k .0) (k .2) in
-        step (near-k .2) n (share-intro N (near-k .0) t (k .0) (near-k .3) (sym (masks t (known n) (k .0)) ∙ k .1)))
+        step (near-k .2) n (common-intro (near-k .0) t (k .0) (near-k .3) (k .1)))
 
-    connected-all-meet : absorbed ms c v ≡ v → connectedBy (share N) c ≡ true → all (meets ms v) c ≡ true
+    connected-all-meet : absorbed ms c v ≡ v → connectedBy (common ms) c ≡ true → all (meets ms v) c ≡ true
     connected-all-meet fixed e =
-        let k = scope-some N ok r (known m) in
-        let i = masks r (known m) (k .0) ∙ k .1 in
-        connected-all (share N) c (meets ms v) e
+        let k = meets-at ms (getD ms r 0) r (self m) in
+        connected-all (common ms) c (meets ms v) e
         (λ s t a b h shared.
-        let l = share-at N s t shared in
-        meets-intro ms v t (l .0) (masks t (known b) (l .0) ∙ l .2) (absorbed-fixed ms c v fixed a h (l .0) (masks s (known a) (l .0) ∙ l .1)))
-        m (meets-intro ms v r (k .0) i (passed-keeps ms c (k .0) p i))
+        let l = meets-at ms (getD ms s 0) t shared in
+        meets-intro ms v t (l .0) (l .1) (absorbed-fixed ms c v fixed a h (l .0) (l .2)))
+        m (meets-intro ms v r (k .0) (k .1) (passed-keeps ms c (k .0) p (k .1)))
 
-    pub connected-meets : absorbed ms c v ≡ v → all (meets ms v) c ≡ connected N c
-    connected-meets fixed =
-        iff-eq (all (meets ms v) c) (connectedBy (share N) c) all-connected (connected-all-meet fixed) ∙ sym (connected-by N c)
+    pub connected-meets : absorbed ms c v ≡ v → all (meets ms v) c ≡ connectedIn ms c
+    connected-meets fixed = iff-eq (all (meets ms v) c) (connectedBy (common ms) c) all-connected (connected-all-meet fixed)
 
-pub connected-none : (N : Network) (c : Combination) → length c ≡ 0 → connected N c ≡ true
-connected-none N [] e = connected-by N []
-connected-none N (r ∷ c) e = absurd (omega arith)
+  pub connected-none : length c ≡ 0 → connectedIn ms c ≡ true
+  connected-none e = none c e
+    where
+      none : (c : Combination) → length c ≡ 0 → connectedIn ms c ≡ true
+      none [] e = refl
+      none (r ∷ c) e = absurd (omega arith)
+
+-- ---- Of the masks of a network
+
+module _ (N : Network) (ms : List ℕ) (masks : Masks N ms) where
+  shared : (r s : ℕ) → common ms r s ≡ share N r s
+  shared r s =
+      iff-eq (common ms r s) (share N r s)
+      (λ e. let k = meets-at ms (getD ms r 0) s e in share-intro N r s (k .0) (sym (masks r (k .0)) ∙ k .2) (sym (masks s (k .0)) ∙ k .1))
+      (λ e. let k = share-at N r s e in meets-intro ms (getD ms r 0) s (k .0) (masks s (k .0) ∙ k .2) (masks r (k .0) ∙ k .1))
+
+  pub masks-connected : (cs : List Combination) → all (connectedIn ms) cs ≡ all (connected N) cs
+  masks-connected cs =
+      ap (λ (f : ℕ → ℕ → Bool). all (connectedBy f) cs) (λ i r s. shared r s i)
+      ∙ ap (λ (f : Combination → Bool). all f cs) (λ i c. sym (connected-by N c) i)
+
+  -- a relation that exists is known
+  pub masks-known : Faultless N → (r : ℕ) → r < length (N .relations) → known ms r ≡ true
+  masks-known ok r h = and-intro (lt-ltb r maxRelations (omega (arith, ok .relations))) (shared r r ∙ share-self N ok r h)

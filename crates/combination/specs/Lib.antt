@@ -1,3 +1,4 @@
 -- The definitions that the contracts cite.
 pub mod Masks
 pub mod Proper
+pub mod Refusals

@@ -1,34 +1,40 @@
 // Combinations of relations: what is wrong with those listed, whether one is connected, and how many numbers their supports need.
 ghost use mathlib.Core.Path.{_≡_};
 ghost use mathlib.Core.Bool.{true};
-ghost use mathlib.Core.Option.{none};
-ghost use mathlib.Core.List.{List, [], _∷_};
-ghost use Prim.Native.Nat.{ℕ, _≤_, _<_};
+ghost use Prim.Native.Nat.{ℕ, _≤_};
 ghost use lib.Dec.{ltb};
-ghost use lib.ListN.{length};
 ghost use Rattle.model.specs.Limits.{maxRelations, variableCount};
 ghost use Rattle.model.specs.Lists.{all, pairwise, elem};
-ghost use Rattle.model.specs.Network.{Network, total};
 ghost use Rattle.model.specs.LiveWords.{isSet};
-ghost use Rattle.model.specs.Combination.{combinations, connected};
+ghost use Rattle.model.specs.Combination.{combinations};
 ghost use Rattle.model.specs.Consistency.{needed};
-ghost use Rattle.model.specs.Request.{Instance, combinationsOf};
-ghost use Rattle.model.specs.Fault.{networkFaults, combinationFaults, wordsFault, supportsFault, firstFault, refusal};
-ghost use Rattle.layout.specs.Shape.{networkOf};
-ghost use Rattle.combination.specs.Masks.{WithoutFault, Masks, meets, absorbed};
-ghost use Rattle.combination.specs.Proper.{below, proper, Proper};
-use layout::Shape;
+ghost use Rattle.model.specs.Fault.{combinationFaults, firstFault, refusal};
+ghost use Rattle.layout.specs.Lent.{entry};
+ghost use Rattle.layout.specs.Starts.{outline, Framed};
+ghost use Rattle.layout.specs.Setting.{lists, networkIn, setting, instanceIn, Laid, Paired};
+ghost use Rattle.combination.specs.Masks.{Masks, meets, connectedIn, known, absorbed};
+ghost use Rattle.combination.specs.Proper.{below, proper};
+ghost use Rattle.combination.specs.Refusals.{wordsRefusal, supportsRefusal};
+use layout::Starts;
+use layout::relation_count;
+use layout::tuple_start;
+use layout::variable_start;
 use layout::wide;
 use model::MAX_COMBINATIONS;
 use model::MAX_MEMBERS;
+use model::MAX_RELATIONS;
 use model::MAX_SUPPORT_NUMBERS;
 use model::MIN_MEMBERS;
 use model::WORD_BITS;
+use model::refusal;
+
+// Of each relation a set of variables.
+type Masks = [u64; MAX_RELATIONS];
 
 // The set of a scope's variables: variable x is bit x.
 fn mask_of(scope: &[u16]) -> u64
     requires { ⌜ all (λ (x : ℕ). ltb x variableCount) (now scope) ≡ true ⌝ }
-    ensures { λ w. ⌜ ((x : ℕ) → isSet w x ≡ elem x (now (scope .entry))) ⌝ }
+    ensures { λ w. ⌜ ((x : ℕ) → isSet w x ≡ elem x (entry scope)) ⌝ }
 {
     let mut mask: u64 = 0;
     let mut column = 0;
@@ -40,26 +46,26 @@ fn mask_of(scope: &[u16]) -> u64
 }
 
 // Of each relation the set of its scope's variables.
-pub fn masks(shape: Shape, variables: &[u16]) -> [u64; 64]
-    requires { ⌜ WithoutFault shape (now variables) ⌝ }
-    ensures { λ ms. ⌜ ((values : List ℕ) → Masks (networkOf shape (now (variables .entry)) values) ms) ⌝ }
+fn masks(variables: &[u16], values: &[u16], starts: &Starts) -> Masks
+    requires { ⌜ Laid (lists now variables values starts) ⌝ }
+    ensures { λ ms. ⌜ Masks (networkIn (lists entry variables values starts)) ms ⌝ }
 {
-    let mut sets = [0u64; 64];
-    let mut start = 0;
+    let count = relation_count(starts);
+    let mut sets = [0u64; MAX_RELATIONS];
     let mut r = 0;
-    while r < shape.count {
-        let end = start + wide(shape.widths[r]);
-        sets[r] = mask_of(&variables[start..end]);
-        start = end;
+    while r < count {
+        let scope = variable_start(starts, r);
+        let scope_end = variable_start(starts, r + 1);
+        sets[wide(r)] = mask_of(&variables[scope..scope_end]);
         r += 1;
     }
     sets
 }
 
 // The set with the variables of every member that it meets by the time the pass comes to it.
-fn absorb(masks: &[u64; 64], members: &[u16], set: u64) -> u64
+fn absorb(masks: &Masks, members: &[u16], set: u64) -> u64
     requires { ⌜ below maxRelations (now members) ≡ true ⌝ }
-    ensures { λ w. ⌜ w ≡ absorbed (now (masks .entry)) (now (members .entry)) set ⌝ }
+    ensures { λ w. ⌜ w ≡ absorbed (entry masks) (entry members) set ⌝ }
 {
     let mut grown = set;
     let mut i = 0;
@@ -74,9 +80,9 @@ fn absorb(masks: &[u64; 64], members: &[u16], set: u64) -> u64
 }
 
 // Whether every member has a variable of the set.
-fn all_meet(masks: &[u64; 64], members: &[u16], set: u64) -> bool
+fn all_meet(masks: &Masks, members: &[u16], set: u64) -> bool
     requires { ⌜ below maxRelations (now members) ≡ true ⌝ }
-    ensures { λ b. ⌜ b ≡ all (meets (now (masks .entry)) set) (now (members .entry)) ⌝ }
+    ensures { λ b. ⌜ b ≡ all (meets (entry masks) set) (entry members) ⌝ }
 {
     let mut at = 0;
     while at < members.len() {
@@ -89,9 +95,9 @@ fn all_meet(masks: &[u64; 64], members: &[u16], set: u64) -> bool
 }
 
 // Whether the combination is connected.
-pub fn connected(masks: &[u64; 64], members: &[u16]) -> bool
-    requires { ⌜ below maxRelations (now members) ≡ true ⌝ }
-    ensures { λ b. ⌜ ((N : Network) → firstFault (networkFaults N) ≡ none → Masks N (now (masks .entry)) → below (length (N .relations)) (now (members .entry)) ≡ true → b ≡ connected N (now (members .entry))) ⌝ }
+fn connected(masks: &Masks, members: &[u16]) -> bool
+    requires { ⌜ all (known (now masks)) (now members) ≡ true ⌝ }
+    ensures { λ b. ⌜ b ≡ connectedIn (entry masks) (entry members) ⌝ }
 {
     if members.len() == 0 {
         return true;
@@ -108,7 +114,7 @@ pub fn connected(masks: &[u64; 64], members: &[u16]) -> bool
 
 // Whether every member is below count.
 pub fn all_below(count: usize, members: &[u16]) -> bool
-    ensures { λ b. ⌜ b ≡ below count (now (members .entry)) ⌝ }
+    ensures { λ b. ⌜ b ≡ below count (entry members) ⌝ }
 {
     let mut j = 0;
     while j < members.len() {
@@ -122,7 +128,7 @@ pub fn all_below(count: usize, members: &[u16]) -> bool
 
 // Whether the members rise.
 fn rising(members: &[u16]) -> bool
-    ensures { λ b. ⌜ b ≡ pairwise ltb (now (members .entry)) ⌝ }
+    ensures { λ b. ⌜ b ≡ pairwise ltb (entry members) ⌝ }
 {
     let mut i = 1;
     while i < members.len() {
@@ -136,7 +142,7 @@ fn rising(members: &[u16]) -> bool
 
 // Whether the members of one combination exist and rise.
 fn proper(count: usize, members: &[u16]) -> bool
-    ensures { λ b. ⌜ b ≡ proper count (now (members .entry)) ⌝ }
+    ensures { λ b. ⌜ b ≡ proper count (entry members) ⌝ }
 {
     if !all_below(count, members) {
         return false;
@@ -147,7 +153,7 @@ fn proper(count: usize, members: &[u16]) -> bool
 // Whether the members of every combination exist and rise.
 fn all_proper(count: usize, m: usize, members: &[u16]) -> bool
     requires { ⌜ 1 ≤ m ⌝ }
-    ensures { λ b. ⌜ b ≡ all (proper count) (combinations m (now (members .entry))) ⌝ }
+    ensures { λ b. ⌜ b ≡ all (proper count) (combinations m (entry members)) ⌝ }
 {
     let mut start = 0;
     let mut passed = 0;
@@ -163,10 +169,10 @@ fn all_proper(count: usize, m: usize, members: &[u16]) -> bool
 }
 
 // Whether every combination is connected.
-fn all_connected(masks: &[u64; 64], m: usize, members: &[u16]) -> bool
+fn all_connected(masks: &Masks, m: usize, members: &[u16]) -> bool
     requires { ⌜ 1 ≤ m ⌝ }
-    requires { ⌜ all (below maxRelations) (combinations m (now members)) ≡ true ⌝ }
-    ensures { λ b. ⌜ ((N : Network) → firstFault (networkFaults N) ≡ none → Masks N (now (masks .entry)) → all (below (length (N .relations))) (combinations m (now (members .entry))) ≡ true → b ≡ all (connected N) (combinations m (now (members .entry)))) ⌝ }
+    requires { ⌜ all (all (known (now masks))) (combinations m (now members)) ≡ true ⌝ }
+    ensures { λ b. ⌜ b ≡ all (connectedIn (entry masks)) (combinations m (entry members)) ⌝ }
 {
     let mut start = 0;
     let mut k = 0;
@@ -182,43 +188,43 @@ fn all_connected(masks: &[u64; 64], m: usize, members: &[u16]) -> bool
 }
 
 // The number of the combinations' first fault, 7 to 10, or 0.
-pub fn fault(shape: Shape, masks: &[u64; 64], m: u16, members: &[u16]) -> u8
-    requires { ⌜ shape .count ≤ maxRelations ⌝ }
-    ensures { λ f. ⌜ ((variables values : List ℕ) → firstFault (networkFaults (networkOf shape variables values)) ≡ none → Masks (networkOf shape variables values) (now (masks .entry)) → f ≡ refusal (firstFault (combinationFaults (record { network = networkOf shape variables values; m = m; members = now (members .entry) })))) ⌝ }
+pub fn fault(variables: &[u16], values: &[u16], starts: &Starts, m: u16, members: &[u16]) -> u8
+    requires { ⌜ Laid (lists now variables values starts) ⌝ }
+    ensures { λ f. ⌜ f ≡ refusal (firstFault (combinationFaults (instanceIn (setting entry variables values starts members m)))) ⌝ }
 {
     let each = wide(m);
     if each < MIN_MEMBERS {
-        return 7;
+        return refusal::MEMBER_COUNT;
     }
     if MAX_MEMBERS < each {
-        return 7;
+        return refusal::MEMBER_COUNT;
     }
     if members.len() % each != 0 {
-        return 8;
+        return refusal::COMBINATIONS;
     }
     if MAX_COMBINATIONS < members.len() / each {
-        return 8;
+        return refusal::COMBINATIONS;
     }
-    if !all_proper(shape.count, each, members) {
-        return 9;
+    if !all_proper(wide(relation_count(starts)), each, members) {
+        return refusal::MEMBERS;
     }
-    if !all_connected(masks, each, members) {
-        return 10;
+    let sets = masks(variables, values, starts);
+    if !all_connected(&sets, each, members) {
+        return refusal::UNCONNECTED;
     }
     0
 }
 
 // How many numbers the supports need.
-pub fn needed(shape: Shape, members: &[u16], m: u16) -> usize
-    requires { ⌜ shape .count ≤ maxRelations ⌝ }
-    requires { ⌜ Proper (shape .count) m (now members) ⌝ }
-    ensures { λ n. ⌜ ((variables values : List ℕ) → n ≡ needed (networkOf shape variables values) (combinations m (now (members .entry)))) ⌝ }
+pub fn needed(starts: &Starts, members: &[u16], m: u16) -> usize
+    requires { ⌜ Framed (now starts) × Paired (now starts) m (now members) ⌝ }
+    ensures { λ n. ⌜ n ≡ needed (outline (entry starts)) (combinations m (entry members)) ⌝ }
 {
     let mut tuples = 0;
     let mut place = 0;
     while place < members.len() {
-        let r = wide(members[place]);
-        tuples += wide(shape.tuples[r]);
+        let r = members[place];
+        tuples += wide(tuple_start(starts, r + 1) - tuple_start(starts, r));
         place += 1;
     }
     tuples * wide(m)
@@ -226,23 +232,23 @@ pub fn needed(shape: Shape, members: &[u16], m: u16) -> usize
 
 // 11 if so many live words are too few for so many tuples, or 0.
 pub fn words_fault(tuples: u16, words: usize) -> u8
-    ensures { λ f. ⌜ ((N : Network) → total N ≡ tuples → f ≡ refusal (firstFault (wordsFault N words ∷ []))) ⌝ }
+    ensures { λ f. ⌜ f ≡ wordsRefusal tuples words ⌝ }
 {
     if words < (wide(tuples) + WORD_BITS - 1) / WORD_BITS {
-        return 11;
+        return refusal::WORDS;
     }
     0
 }
 
 // 12 if the supports need too many numbers, or more than those lent; or 0.
 pub fn supports_fault(count: usize, numbers: usize) -> u8
-    ensures { λ f. ⌜ ((I : Instance) → needed (I .network) (combinationsOf I) ≡ count → f ≡ refusal (firstFault (supportsFault I numbers ∷ []))) ⌝ }
+    ensures { λ f. ⌜ f ≡ supportsRefusal count numbers ⌝ }
 {
     if MAX_SUPPORT_NUMBERS < count {
-        return 12;
+        return refusal::SUPPORTS;
     }
     if numbers < count {
-        return 12;
+        return refusal::SUPPORTS;
     }
     0
 }

@@ -1,7 +1,5 @@
 -- The laws of the crate's definitions.
-pub mod Instance
-pub mod Struck
-pub mod Withdrawn
-pub mod Columns
-pub mod Tables
-pub mod Change
+pub mod ForLayout
+pub mod Openings
+pub mod Removed
+pub mod Unlike

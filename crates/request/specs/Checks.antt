@@ -1,9 +1,30 @@
--- The instance that a call is lent, and the faults that the calls share.
+-- The faults that the calls share, and what the checks give.
+use mathlib.Core.Path.{_≡_}
+use mathlib.Core.Bool.{not}
 use mathlib.Core.List.{List, [], _∷_, _++_}
 use Prim.Native.Nat.{ℕ}
+use lib.Dec.{ltb}
+use Rattle.model.specs.declared.Relation.{Relation}
+use Rattle.model.specs.Limits.{variableCount}
 use Rattle.model.specs.Request.{Instance}
-use Rattle.model.specs.Fault.{Fault, instanceFaults, wordsFault}
+use Rattle.model.specs.Fault.{Fault, firstFault, refusal, instanceFaults, wordsFault}
+use Rattle.layout.specs.Starts.{startsOf}
+use Rattle.combination.specs.Proper.{below}
+use Rattle.request.specs.declared.checks.Opening.{Opening}
 
 -- the faults 2 to 11: of test, on so many live words
 abbrev pub testFaultsOn : Instance → ℕ → List Fault
 testFaultsOn I words = instanceFaults I ++ (wordsFault (I .network) words ∷ [])
+
+-- The number of a table's first fault, or 0; and if it is 0, where each relation begins in the lists.
+pub record Opened (o : Opening) (faults : List Fault) (Rs : List Relation) : Type 0 where
+  pub fault : o .fault ≡ refusal (firstFault faults)
+  pub starts : o .fault ≡ 0 → o .starts ≡ startsOf Rs
+
+-- the number of the fault 13, or 0: an id is not below the number of tuples
+abbrev pub idsRefusal : ℕ → List ℕ → ℕ
+idsRefusal tuples ids = refusal (firstFault ((13, not (below tuples ids)) ∷ []))
+
+-- the number of the fault 14, or 0: x is no variable
+abbrev pub variableRefusal : ℕ → ℕ
+variableRefusal x = refusal (firstFault ((14, not (ltb x variableCount)) ∷ []))

@@ -1,4 +1,4 @@
 -- The definitions that the contracts cite.
 pub mod Checks
-pub mod Struck
-pub mod Tables
+pub mod Removal
+pub mod Answer

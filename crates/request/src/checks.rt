@@ -1,48 +1,66 @@
-// The faults of a request, in checking order.
+// The faults of a request, in checking order, and where each relation begins in lists without fault.
 ghost use mathlib.Core.Path.{_≡_};
-ghost use mathlib.Core.List.{map};
-ghost use Prim.Native.Nat.{ℕ};
-ghost use Rattle.model.specs.Lists.{sum};
-ghost use Rattle.model.specs.Network.{Network, total, tuplesIn};
-ghost use Rattle.model.specs.Request.{filter, withdraw, choose};
-ghost use Rattle.model.specs.Fault.{firstFault, refusal, instanceFaults, faultsOn, changeFaults};
-ghost use Rattle.layout.specs.Shape.{relationsOf, instanceOf};
-ghost use Rattle.network.specs.Layout.{Bounded};
-ghost use Rattle.request.specs.Checks.{testFaultsOn};
+ghost use Rattle.model.specs.Request.{filter};
+ghost use Rattle.model.specs.Fault.{networkFaults, instanceFaults, faultsOn};
+ghost use Rattle.layout.specs.Lent.{entry};
+ghost use Rattle.layout.specs.Shape.{relationsOf, networkOf, instanceOf};
+ghost use Rattle.request.specs.Checks.{Opened, testFaultsOn, idsRefusal, variableRefusal};
 use combination::all_below;
-use combination::masks;
 use combination::needed;
 use combination::supports_fault;
 use combination::words_fault;
+use layout::STARTS;
 use layout::Shape;
+use layout::Starts;
+use layout::starts_of;
+use layout::tuple_count;
 use layout::wide;
-use model::MAX_RELATIONS;
 use model::VARIABLES;
-use network::tables::offsets;
+use model::refusal;
 
-// The number of the first fault of the network and its combinations, 2 to 10, or 0.
-fn instance_fault(shape: Shape, variables: &[u16], values: &[u16], m: u16, members: &[u16]) -> u8
-    ensures { λ f. ⌜ f ≡ refusal (firstFault (instanceFaults (instanceOf shape (now (variables .entry)) (now (values .entry)) m (now (members .entry))))) ⌝ }
+// The number of the first fault, or 0; and if it is 0, where each relation begins in the lists.
+pub struct Opening {
+    pub fault: u8,
+    pub starts: Starts,
+}
+
+// The network's first fault, 2 to 6, or where its relations begin.
+pub fn network_checked(shape: Shape, variables: &[u16], values: &[u16]) -> Opening
+    ensures { λ o. ⌜ Opened o (networkFaults (networkOf shape (entry variables) (entry values))) (relationsOf shape) ⌝ }
 {
-    let of_network = network::faults::fault(shape, variables, values);
-    if of_network != 0 {
-        return of_network;
+    let fault = network::faults::fault(shape, variables, values);
+    if fault != 0 {
+        return Opening {
+            fault,
+            starts: [0; STARTS],
+        };
     }
-    let sets = masks(shape, variables);
-    combination::fault(shape, &sets, m, members)
+    Opening {
+        fault,
+        starts: starts_of(shape),
+    }
 }
 
-// How many tuples the records call for.
-pub fn total_of(shape: Shape) -> u16
-    requires { ⌜ Bounded (relationsOf shape) ⌝ }
-    ensures { λ n. ⌜ n ≡ sum (map tuplesIn (relationsOf shape)) ⌝ }
+// The first fault of the network and its combinations, 2 to 10, or where the relations begin.
+fn instance_checked(
+    shape: Shape,
+    variables: &[u16],
+    values: &[u16],
+    m: u16,
+    members: &[u16],
+) -> Opening
+    ensures { λ o. ⌜ Opened o (instanceFaults (instanceOf shape (entry variables) (entry values) m (entry members))) (relationsOf shape) ⌝ }
 {
-    let tables = offsets(shape);
-    let tuples = tables.tuples;
-    tuples[MAX_RELATIONS]
+    let opening = network_checked(shape, variables, values);
+    if opening.fault != 0 {
+        return opening;
+    }
+    let starts = opening.starts;
+    let fault = combination::fault(variables, values, &starts, m, members);
+    Opening { fault, starts }
 }
 
-// The number of the first fault of test, 2 to 11, or 0.
+// The first fault of test, 2 to 11, or where the relations begin.
 pub fn test_checked(
     shape: Shape,
     variables: &[u16],
@@ -50,17 +68,19 @@ pub fn test_checked(
     m: u16,
     members: &[u16],
     words: usize,
-) -> u8
-    ensures { λ f. ⌜ f ≡ refusal (firstFault (testFaultsOn (instanceOf shape (now (variables .entry)) (now (values .entry)) m (now (members .entry))) words)) ⌝ }
+) -> Opening
+    ensures { λ o. ⌜ Opened o (testFaultsOn (instanceOf shape (entry variables) (entry values) m (entry members)) words) (relationsOf shape) ⌝ }
 {
-    let f = instance_fault(shape, variables, values, m, members);
-    if f != 0 {
-        return f;
+    let opening = instance_checked(shape, variables, values, m, members);
+    if opening.fault != 0 {
+        return opening;
     }
-    words_fault(total_of(shape), words)
+    let starts = opening.starts;
+    let fault = words_fault(tuple_count(&starts), words);
+    Opening { fault, starts }
 }
 
-// The number of the first fault that every change call tests, 2 to 12, or 0.
+// The first fault that every change call tests, 2 to 12, or where the relations begin.
 pub fn checked(
     shape: Shape,
     variables: &[u16],
@@ -69,32 +89,34 @@ pub fn checked(
     members: &[u16],
     words: usize,
     numbers: usize,
-) -> u8
-    ensures { λ f. ⌜ f ≡ refusal (firstFault (faultsOn (instanceOf shape (now (variables .entry)) (now (values .entry)) m (now (members .entry))) words numbers filter)) ⌝ }
+) -> Opening
+    ensures { λ o. ⌜ Opened o (faultsOn (instanceOf shape (entry variables) (entry values) m (entry members)) words numbers filter) (relationsOf shape) ⌝ }
 {
-    let f = test_checked(shape, variables, values, m, members, words);
-    if f != 0 {
-        return f;
+    let opening = test_checked(shape, variables, values, m, members, words);
+    if opening.fault != 0 {
+        return opening;
     }
-    supports_fault(needed(shape, members, m), numbers)
+    let starts = opening.starts;
+    let fault = supports_fault(needed(&starts, members, m), numbers);
+    Opening { fault, starts }
 }
 
 // 13 if an id listed is not below the number of tuples, or 0.
 pub fn ids_fault(tuples: u16, ids: &[u16]) -> u8
-    ensures { λ f. ⌜ ((N : Network) → total N ≡ tuples → f ≡ refusal (firstFault (changeFaults N (withdraw (now (ids .entry)))))) ⌝ }
+    ensures { λ f. ⌜ f ≡ idsRefusal tuples (entry ids) ⌝ }
 {
     if !all_below(wide(tuples), ids) {
-        return 13;
+        return refusal::ID;
     }
     0
 }
 
 // 14 if x is no variable, or 0.
 pub fn variable_fault(x: u16) -> u8
-    ensures { λ f. ⌜ ((N : Network) (v : ℕ) → f ≡ refusal (firstFault (changeFaults N (choose x v)))) ⌝ }
+    ensures { λ f. ⌜ f ≡ variableRefusal x ⌝ }
 {
     if VARIABLES <= wide(x) {
-        return 14;
+        return refusal::VARIABLE;
     }
     0
 }

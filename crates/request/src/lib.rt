@@ -1,4 +1,4 @@
-// What the calls do before and after the filter: check the request, strike what the change removes, count and answer.
+// What the calls do before and after the filter: check the request, remove what the change removes, count and answer.
 pub mod checks; // the faults of a request, in checking order
-pub mod strike; // the tuples that a change removes
+pub mod removal; // the tuples that a change removes
 pub mod answer; // what a change call answers

@@ -2,23 +2,18 @@
 -- From the laws of walks and of where combinations stand in the list.
 use mathlib.Core.Path.{_≡_, refl, sym, ap, _∙_}
 use mathlib.Core.Bool.{true}
-use mathlib.Core.Option.{none}
 use mathlib.Core.List.{[]}
 use Prim.Native.Nat.{ℕ, _≤_, _-_, _+_, _*_, _/_}
 use native.Mathlib.Nat.{add-sub-cancel-left, zero-mul, div-le-self}
 use native.Mathlib.Omega.{arith}
 use borrow.Author.Tests.{not-true, not-false}
 use lib.ListN.{length, getD, take, drop}
-use Rattle.model.specs.Limits.{maxRelations}
 use Rattle.model.specs.Lists.{all}
-use Rattle.model.specs.Network.{Network}
-use Rattle.model.specs.Combination.{combinations, connected}
-use Rattle.model.specs.Fault.{networkFaults, firstFault}
+use Rattle.model.specs.Combination.{combinations}
 use Rattle.model.proofs.Lists.{all-getD}
 use Rattle.model.proofs.Combination.{combination-at, combination-within}
 use Rattle.network.proofs.Walk.{all-passes, all-fails, all-ends}
-use Rattle.combination.specs.Masks.{Masks}
-use Rattle.combination.specs.Proper.{below}
+use Rattle.combination.specs.Masks.{connectedIn, known}
 use Rattle.combination.proofs.Members.{next-start, combination-below, combination-end}
 use borrow.Author.Needs.{needs}
 use Rattle.combination.proofs.all_connected.Statement.{statement}
@@ -28,7 +23,7 @@ abbrev Inv-loop : tie.InvT-loop
 Inv-loop masks m members start₀ k₀ start k =
     (k ≤ length members / m)
     × ((start ≡ k * m)
-    × ((N : Network) → firstFault (networkFaults N) ≡ none → Masks N masks → all (below (length (N .relations))) (combinations m members) ≡ true → all (connected N) (drop k (combinations m members)) ≡ all (connected N) (combinations m members)))
+    × (all (connectedIn masks) (drop k (combinations m members)) ≡ all (connectedIn masks) (combinations m members)))
 
 abbrev μ-loop : tie.MeasureT-loop
 μ-loop masks m members start₀ k₀ start k = length members / m - k
@@ -47,22 +42,23 @@ part c =
     ∙ ap (λ (s : ℕ). take (args .m) (drop s (args .members .now))) (l .inv .1 .0)
     ∙ sym (combination-at (args .m) (args .members .now) (l .k) (c .loop-test .taken))
 
--- its members are below the number that all are below
-part-below : (c : tie.In-loop Inv-loop μ-loop) (count : ℕ) → (let args = c .before .before .before .args in all (below count) (combinations (args .m) (args .members .now)) ≡ true → below count (take (c .before .loop .start + args .m - c .before .loop .start) (drop (c .before .loop .start) (args .members .now))) ≡ true)
-part-below c count e =
-    let args = c .before .before .before .args in
+-- its members are known
+part-known : (c : tie.In-loop Inv-loop μ-loop) → (let args = c .before .before .before .args in all (known (args .masks .now)) (take (c .before .loop .start + args .m - c .before .loop .start) (drop (c .before .loop .start) (args .members .now))) ≡ true)
+part-known c =
+    let start = c .before .before .before in
+    let args = start .args in
     let k = c .before .loop .k in
-    ap (below count) (part c)
-    ∙ all-getD (below count) (combinations (args .m) (args .members .now)) k [] e (combination-below (args .m) (args .members .now) k (c .loop-test .taken))
+    ap (all (known (args .masks .now))) (part c)
+    ∙ all-getD (all (known (args .masks .now))) (combinations (args .m) (args .members .now)) k [] (start .pre .1) (combination-below (args .m) (args .members .now) k (c .loop-test .taken))
 
 -- the test of combination k
-tested : (c : tie.After-connected Inv-loop μ-loop) (N : Network) → firstFault (networkFaults N) ≡ none → (let args = c .before .before .before .before .before .args in Masks N (args .masks .now) → all (below (length (N .relations))) (combinations (args .m) (args .members .now)) ≡ true → c .connected .result ≡ connected N (getD (combinations (args .m) (args .members .now)) (c .before .before .before .loop .k) []))
-tested c N e masks exist =
+tested : (c : tie.After-connected Inv-loop μ-loop) → (let args = c .before .before .before .before .before .args in c .connected .result ≡ connectedIn (args .masks .now) (getD (combinations (args .m) (args .members .now)) (c .before .before .before .loop .k) []))
+tested c =
     let turn = c .before .before in
-    c .connected .ensures N e masks (part-below turn (length (N .relations)) exist) ∙ ap (connected N) (part turn)
+    c .connected .ensures ∙ ap (connectedIn (turn .before .before .before .args .masks .now)) (part turn)
 
 loop-holds : tie.Need-loop-holds Inv-loop μ-loop
-loop-holds c = (search needs, (sym (zero-mul (c .before .args .m)), λ N e masks exist. refl))
+loop-holds c = (search needs, (sym (zero-mul (c .before .args .m)), refl))
 
 div-loop : tie.Need-div-loop Inv-loop μ-loop
 div-loop c = omega (arith, c .before .before .pre .0)
@@ -76,18 +72,13 @@ mul-connected c = omega (arith, fits c)
 part-connected-end : tie.Need-part-connected-end Inv-loop μ-loop
 part-connected-end c = fits c
 
-connected-requires : tie.Need-connected-requires Inv-loop μ-loop
-connected-requires c κs =
-    part-below (c .before) maxRelations (c .before .before .before .before .pre .1)
-
 returns : tie.Need-returns Inv-loop μ-loop
 returns c =
     let turn = c .before .before .before in
     let args = turn .before .before .before .args in
     let k = turn .before .loop .k in
-    λ N e masks exist.
-    sym (all-fails (connected N) (combinations (args .m) (args .members .now)) k [] (combination-below (args .m) (args .members .now) k (turn .loop-test .taken)) (sym (tested (c .before) N e masks exist) ∙ not-true _ (c .if1 .taken)))
-    ∙ turn .before .loop .inv .1 .1 N e masks exist
+    sym (all-fails (connectedIn (args .masks .now)) (combinations (args .m) (args .members .now)) k [] (combination-below (args .m) (args .members .now) k (turn .loop-test .taken)) (sym (tested (c .before)) ∙ not-true _ (c .if1 .taken)))
+    ∙ turn .before .loop .inv .1 .1
 
 add-k : tie.Need-add-k Inv-loop μ-loop
 add-k c = let args = c .before .before .before .before .before .before .args in omega (arith, div-le-self (length (args .members .now)) (args .m))
@@ -100,18 +91,16 @@ loop-again c =
       search needs,
       (
         ap (λ (s : ℕ). s + args .m) (turn .before .loop .inv .1 .0) ∙ next-start (args .m) (args .members .now) k,
-        λ N e masks exist.
-            sym (all-passes (connected N) (combinations (args .m) (args .members .now)) k [] (combination-below (args .m) (args .members .now) k (turn .loop-test .taken)) (sym (tested (c .before) N e masks exist) ∙ not-false _ (c .if1 .left)))
-            ∙ turn .before .loop .inv .1 .1 N e masks exist,
+        sym (all-passes (connectedIn (args .masks .now)) (combinations (args .m) (args .members .now)) k [] (combination-below (args .m) (args .members .now) k (turn .loop-test .taken)) (sym (tested (c .before)) ∙ not-false _ (c .if1 .left)))
+            ∙ turn .before .loop .inv .1 .1,
       ),
     )
 
 returns-2 : tie.Need-returns-2 Inv-loop μ-loop
 returns-2 c =
     let args = c .before .before .before .args in
-    λ N e masks exist.
-    sym (all-ends (connected N) (combinations (args .m) (args .members .now)) (c .before .loop .k) (combination-end (args .m) (args .members .now) (c .before .loop .k) (c .loop-test .left)))
-    ∙ c .before .loop .inv .1 .1 N e masks exist
+    sym (all-ends (connectedIn (args .masks .now)) (combinations (args .m) (args .members .now)) (c .before .loop .k) (combination-end (args .m) (args .members .now) (c .before .loop .k) (c .loop-test .left)))
+    ∙ c .before .loop .inv .1 .1
 
 pub all-connected-spec : {M : Type 1} → statement M
 all-connected-spec =
@@ -125,7 +114,7 @@ all-connected-spec =
     mul-connected
     (λ c. search needs) (λ c. search needs)
     part-connected-end
-    connected-requires
+    (λ c κs. part-known (c .before))
     returns
     add-k
     (λ c. search needs)

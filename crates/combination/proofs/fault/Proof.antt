@@ -5,34 +5,39 @@ use mathlib.Core.Bool.{Bool, true, false, not, _&&_, and-false}
 use mathlib.Core.List.{List, [], _∷_}
 use Prim.Native.Nat.{ℕ, _≤_, _<_, _%_, _/_}
 use native.Mathlib.Omega.{arith}
-use borrow.Author.Tests.{not-true, not-false, le-leb, lt-leb, eq-eqb, ne-eqb}
+use borrow.Author.Tests.{not-true, not-false, le-leb, lt-leb, ltb-true, eq-eqb, ne-eqb}
 use lib.Dec.{leb, ltb, eqb}
 use lib.ListN.{length}
+use denote.Ref.{now}
 use Rattle.model.specs.Limits.{minMembers, maxMembers, maxCombinations}
 use Rattle.model.specs.Lists.{all, pairwise}
 use Rattle.model.specs.Network.{Network}
-use Rattle.model.specs.Combination.{Combination, combinations, connected}
+use Rattle.model.specs.Combination.{combinations, connected}
 use Rattle.model.specs.Fault.{firstFault, refusal, within, properList, properMembers, combinationFaults}
 use Rattle.model.proofs.Bools.{and-left, and-intro}
 use Rattle.model.proofs.Lists.{all-more}
-use Rattle.layout.specs.declared.Shape.{Shape}
-use Rattle.layout.specs.Shape.{relationsOf, networkOf}
-use Rattle.layout.proofs.Relations.{relation-count}
+use Rattle.layout.specs.Setting.{lists, networkIn}
+use Rattle.layout.proofs.Framed.{relation-count}
+use Rattle.layout.proofs.Places.{sound}
+use Rattle.combination.specs.Masks.{known}
 use Rattle.combination.specs.Proper.{below, proper}
-use Rattle.combination.proofs.Members.{below-more-relations, counted}
+use Rattle.combination.proofs.Reached.{masks-connected, masks-known}
 use borrow.Author.Needs.{needs}
 use Rattle.combination.proofs.fault.Statement.{statement}
 use Rattle.combination.proofs.fault.Tie as tie
 
 -- what is read once m is an index
+abbrev start : tie.After-wide → tie.Start
+start w = w .before .before .before .before
+
 abbrev each : tie.After-wide → ℕ
 each w = w .wide .result
 
-abbrev shapeOf : tie.After-wide → Shape
-shapeOf w = w .before .before .args .shape
+abbrev networkAt : tie.After-wide → Network
+networkAt w = networkIn (lists now (start w .args .variables) (start w .args .values) (start w .args .starts))
 
 abbrev listOf : tie.After-wide → List ℕ
-listOf w = w .before .before .args .members .now
+listOf w = start w .args .members .now
 
 -- ---- The table's first fault, by its tests
 
@@ -70,9 +75,8 @@ module _ (N : Network) (m : ℕ) (list : List ℕ) where
       sym (ap (λ (x : Bool). verdict x whole rise link) a ∙ ap (λ (x : Bool). verdict true x rise link) b ∙ ap (λ (x : Bool). verdict true true x link) c ∙ ap (λ (x : Bool). verdict true true true x) e)
 
 -- the answer for m as an index is the answer for m
-answered : (w : tie.After-wide) (variables values : List ℕ) (f : ℕ) → f ≡ answer (networkOf (shapeOf w) variables values) (each w) (listOf w) → f ≡ answer (networkOf (shapeOf w) variables values) (w .before .before .args .m) (listOf w)
-answered w variables values f e =
-    subst (λ (k : ℕ). f ≡ answer (networkOf (shapeOf w) variables values) k (listOf w)) (w .wide .ensures .0) e
+answered : (w : tie.After-wide) (f : ℕ) → f ≡ answer (networkAt w) (each w) (listOf w) → f ≡ answer (networkAt w) (start w .args .m) (listOf w)
+answered w f e = subst (λ (k : ℕ). f ≡ answer (networkAt w) k (listOf w)) (w .wide .ensures .0) e
 
 -- ---- What each test says of the table
 
@@ -95,79 +99,77 @@ whole-list c =
     let list = listOf (c .before .before .before .before) in
     and-intro (eq-eqb (length list % m) 0 (c .before .if3 .left)) (le-leb (length list / m) maxCombinations (c .if4 .left))
 
-all-exist : (c : tie.Else5) → (let w = c .before .before .before .before .before .before in all (proper (shapeOf w .count)) (combinations (each w) (listOf w)) ≡ true)
-all-exist c = sym (c .before .all-proper .ensures) ∙ not-false _ (c .if5 .left)
+abbrev read : tie.After-all-proper → tie.After-wide
+read c = c .before .before .before .before .before .before .before
 
-all-below : (count bound : ℕ) (cs : List Combination) → count ≤ bound → all (proper count) cs ≡ true → all (below bound) cs ≡ true
-all-below count bound cs h e =
-    all-more (proper count) (below bound) cs (λ c k. below-more-relations count bound c h (and-left (below count c) (pairwise ltb c) k)) e
+-- the test of members, by the number of relations counted
+counted : (c : tie.After-all-proper) → c .all-proper .result ≡ all (properMembers (networkAt (read c))) (combinations (each (read c)) (listOf (read c)))
+counted c =
+    let w = read c in
+    c .all-proper .ensures
+    ∙ ap (λ (n : ℕ). all (proper n) (combinations (each w) (listOf w))) (c .before .wide2 .ensures .0 ∙ c .before .before .relation-count .ensures ∙ relation-count (start w .pre .framed))
 
-existing : (c : tie.Else5) → (let w = c .before .before .before .before .before .before in all (below (length (relationsOf (shapeOf w)))) (combinations (each w) (listOf w)) ≡ true)
-existing c =
-    let w = c .before .before .before .before .before .before in
-    let h : shapeOf w .count ≤ length (relationsOf (shapeOf w)) = omega (arith, relation-count (shapeOf w)) in
-    all-below (shapeOf w .count) (length (relationsOf (shapeOf w))) (combinations (each w) (listOf w)) h (all-exist c)
+members-proper : (c : tie.Else5) → (let w = read (c .before) in all (properMembers (networkAt w)) (combinations (each w) (listOf w)) ≡ true)
+members-proper c = sym (counted (c .before)) ∙ not-false _ (c .if5 .left)
+
+-- every member is known by the masks
+members-known : (c : tie.After-masks) → (let w = read (c .before .before) in all (all (known (c .masks .result))) (combinations (each w) (listOf w)) ≡ true)
+members-known c =
+    let w = read (c .before .before) in
+    let N = networkAt w in
+    let ms = c .masks .result in
+    all-more (properMembers N) (all (known ms)) (combinations (each w) (listOf w))
+    (λ d e.
+    all-more (λ (r : ℕ). ltb r (length (N .relations))) (known ms) d
+    (λ r k. masks-known N ms (c .masks .ensures) (sound (start w .pre)) r (ltb-true r (length (N .relations)) k))
+    (and-left (below (length (N .relations)) d) (pairwise ltb d) e))
+    (members-proper (c .before))
 
 -- 7, 8 and 9 are absent: the last test decides
-none-before : (c : tie.After-all-connected) (variables values : List ℕ) (d : Bool) → (let w = c .before .before .before .before .before .before .before in let N = networkOf (shapeOf w) variables values in all (connected N) (combinations (each w) (listOf w)) ≡ d → verdict true true true d ≡ answer N (w .before .before .args .m) (listOf w))
-none-before c variables values d e =
-    let w = c .before .before .before .before .before .before .before in
-    answered w variables values (verdict true true true d)
-    (first-10 (networkOf (shapeOf w) variables values) (each w) (listOf w) d (members-few (c .before .before .before .before .before)) (whole-list (c .before .before .before))
-    (counted (shapeOf w) (combinations (each w) (listOf w)) ∙ all-exist (c .before)) e)
+decided : (c : tie.After-all-connected) (d : Bool) → c .all-connected .result ≡ d → (let w = read (c .before .before .before .before) in verdict true true true d ≡ answer (networkAt w) (start w .args .m) (listOf w))
+decided c d e =
+    let m = c .before .before in
+    let w = read (m .before .before) in
+    let passed = m .before .before .before .before .before in
+    answered w (verdict true true true d)
+    (first-10 (networkAt w) (each w) (listOf w) d (members-few (passed .before .before)) (whole-list passed) (members-proper (m .before))
+    (sym (c .all-connected .ensures ∙ masks-connected (networkAt w) (m .masks .result) (m .masks .ensures) (combinations (each w) (listOf w))) ∙ e))
 
 returns : tie.Need-returns
 returns c =
     let w = c .before in
     let h : each w < 2 = omega arith in
-    λ variables values e masks. answered w variables values 7 (first-7 (networkOf (shapeOf w) variables values) (each w) (listOf w) (few-absent (each w) h))
+    answered w 7 (first-7 (networkAt w) (each w) (listOf w) (few-absent (each w) h))
 
 returns-2 : tie.Need-returns-2
 returns-2 c =
     let w = c .before .before in
     let h : 4 < each w = omega arith in
-    λ variables values e masks. answered w variables values 7 (first-7 (networkOf (shapeOf w) variables values) (each w) (listOf w) (many-absent (each w) h))
+    answered w 7 (first-7 (networkAt w) (each w) (listOf w) (many-absent (each w) h))
 
 returns-3 : tie.Need-returns-3
 returns-3 c =
     let w = c .before .before .before in
     let rest = ne-eqb (length (listOf w) % each w) 0 (c .if3 .taken) in
-    λ variables values e masks.
-    answered w variables values 8
-    (first-8 (networkOf (shapeOf w) variables values) (each w) (listOf w) (members-few (c .before))
+    answered w 8
+    (first-8 (networkAt w) (each w) (listOf w) (members-few (c .before))
     (ap (λ (b : Bool). b && leb (length (listOf w) / each w) maxCombinations) rest))
 
 returns-4 : tie.Need-returns-4
 returns-4 c =
     let w = c .before .before .before .before in
     let many = lt-leb (length (listOf w) / each w) maxCombinations (c .if4 .taken) in
-    λ variables values e masks.
-    answered w variables values 8
-    (first-8 (networkOf (shapeOf w) variables values) (each w) (listOf w) (members-few (c .before .before))
+    answered w 8
+    (first-8 (networkAt w) (each w) (listOf w) (members-few (c .before .before))
     (ap (λ (b : Bool). eqb (length (listOf w) % each w) 0 && b) many ∙ and-false (eqb (length (listOf w) % each w) 0)))
 
 returns-5 : tie.Need-returns-5
 returns-5 c =
-    let w = c .before .before .before .before .before .before in
-    λ variables values e masks.
-    answered w variables values 9
-    (first-9 (networkOf (shapeOf w) variables values) (each w) (listOf w) (members-few (c .before .before .before .before)) (whole-list (c .before .before))
-    (counted (shapeOf w) (combinations (each w) (listOf w)) ∙ sym (c .before .all-proper .ensures) ∙ not-true _ (c .if5 .taken)))
-
-all-connected-requires : tie.Need-all-connected-requires
-all-connected-requires c κs =
-    let w = c .before .before .before .before .before .before in
-    (search needs, all-below (shapeOf w .count) 64 (combinations (each w) (listOf w)) (w .before .before .pre) (all-exist c))
-
-returns-6 : tie.Need-returns-6
-returns-6 c =
-    λ variables values e masks.
-    none-before (c .before) variables values false (sym (c .before .all-connected .ensures (networkOf (c .before .before .before .before .before .before .before .before .before .before .args .shape) variables values) e masks (existing (c .before .before))) ∙ not-true _ (c .if6 .taken))
-
-returns-7 : tie.Need-returns-7
-returns-7 c =
-    λ variables values e masks.
-    none-before (c .before) variables values true (sym (c .before .all-connected .ensures (networkOf (c .before .before .before .before .before .before .before .before .before .before .args .shape) variables values) e masks (existing (c .before .before))) ∙ not-false _ (c .if6 .left))
+    let w = read (c .before) in
+    let passed = c .before .before .before .before in
+    answered w 9
+    (first-9 (networkAt w) (each w) (listOf w) (members-few (passed .before .before)) (whole-list passed)
+    (sym (counted (c .before)) ∙ not-true _ (c .if5 .taken)))
 
 pub fault-spec : {M : Type 1} → statement M
 fault-spec =
@@ -180,8 +182,9 @@ fault-spec =
     returns-3
     (λ c. search needs)
     returns-4
-    (λ c κs. search needs)
+    (λ c κs. search needs) (λ c κs. search needs) (λ c κs. search needs)
     returns-5
-    all-connected-requires
-    returns-6
-    returns-7)
+    (λ c κs. search needs)
+    (λ c κs. (search needs, members-known (c .before)))
+    (λ c. decided (c .before) false (not-true _ (c .if6 .taken)))
+    (λ c. decided (c .before) true (not-false _ (c .if6 .left))))

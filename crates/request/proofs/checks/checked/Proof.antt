@@ -1,14 +1,17 @@
 -- `checked` answers test's first fault, and if it has none, that of the supports.
--- From what its two tests ensure, and the law of two tables of faults.
-use mathlib.Core.Path.{_≡_, refl, sym, _∙_}
+-- From what its two tests ensure, and the laws of two tables of faults.
+use mathlib.Core.Path.{_≡_, refl, ap, _∙_}
 use mathlib.Core.Option.{none}
 use mathlib.Core.List.{[], _∷_}
-use Rattle.model.specs.Request.{Instance}
-use Rattle.model.specs.Fault.{firstFault, refusal, instanceFaults, networkFaults, combinationFaults, wordsFault, supportsFault, faultsOn}
-use Rattle.model.proofs.Fault.{refusal-none, refusal-front, refusal-back, firstFault-front, firstFault-back}
-use Rattle.layout.specs.Shape.{instanceOf}
+use Prim.Native.Nat.{ℕ}
+use Rattle.model.specs.Request.{Instance, combinationsOf}
+use Rattle.model.specs.Fault.{firstFault, networkFaults, combinationFaults, instanceFaults, wordsFault, supportsFault, faultsOn}
+use Rattle.model.proofs.Fault.{firstFault-front, firstFault-back}
+use Rattle.layout.specs.Shape.{relationsOf, instanceOf}
+use Rattle.combination.specs.Refusals.{supportsRefusal}
 use Rattle.request.specs.Checks.{testFaultsOn}
-use Rattle.request.proofs.Instance.{network-few, combinations-proper}
+use Rattle.request.proofs.ForLayout.{opened-laid, opened-paired, opened-needed}
+use Rattle.request.proofs.Openings.{opened-none, opened-front, opened-back}
 use borrow.Author.Needs.{needs}
 use Rattle.request.proofs.checks.checked.Statement.{statement}
 use Rattle.request.proofs.checks.checked.Tie as tie
@@ -19,39 +22,49 @@ start c = c .before .before .before .before
 abbrev instance : tie.Start → Instance
 instance c = instanceOf (c .args .shape) (c .args .variables .now) (c .args .values .now) (c .args .m) (c .args .members .now)
 
-none-yet : (c : tie.Else1) → refusal (firstFault (testFaultsOn (instance (start (c .before))) (start (c .before) .args .words))) ≡ 0
-none-yet c = sym (c .before .test-checked .ensures) ∙ c .if1 .left
-
-sound : (c : tie.Else1) → firstFault (instanceFaults (instance (start (c .before)))) ≡ none
+sound : (c : tie.Else1) → firstFault (instanceFaults (instance (start (c .before .before)))) ≡ none
 sound c =
-    let entry = start (c .before) in
-    let I = instance entry in
-    firstFault-front (instanceFaults I) (wordsFault (I .network) (entry .args .words) ∷ [])
-    (refusal-none (testFaultsOn I (entry .args .words)) refl (none-yet c))
+    let o = c .before .before in
+    let I = instance (start o) in
+    let words = start o .args .words in
+    firstFault-front (instanceFaults I) (wordsFault (I .network) words ∷ [])
+    (opened-none (o .test-checked .result) (testFaultsOn I words) (relationsOf (start o .args .shape)) (o .test-checked .ensures) refl (c .if1 .left))
+
+network-sound : (c : tie.Else1) → firstFault (networkFaults (instance (start (c .before .before)) .network)) ≡ none
+network-sound c = let I = instance (start (c .before .before)) in firstFault-front (networkFaults (I .network)) (combinationFaults I) (sound c)
 
 returns : tie.Need-returns
 unfolding faultsOn
 returns c =
-    let entry = start (c .before) in
-    let I = instance entry in
-    refusal-front (testFaultsOn I (entry .args .words)) (supportsFault I (entry .args .numbers) ∷ []) (c .before .test-checked .result) (c .before .test-checked .ensures) (c .if1 .taken)
+    let o = c .before .before in
+    let a = start o .args in
+    let I = instance (start o) in
+    opened-front (o .test-checked .result) (testFaultsOn I (a .words)) (relationsOf (a .shape)) (o .test-checked .ensures) (supportsFault I (a .numbers) ∷ []) (c .if1 .taken)
 
 needed-requires : tie.Need-needed-requires
 needed-requires c κs =
-    let entry = start (c .before) .args in
-    let I = instance (start (c .before)) in (
-      network-few (entry .shape) (entry .variables .now) (entry .values .now) (firstFault-front (networkFaults (I .network)) (combinationFaults I) (sound c)),
-      combinations-proper (entry .shape) (entry .variables .now) (entry .values .now) (entry .m) (entry .members .now) (firstFault-back (networkFaults (I .network)) (combinationFaults I) (sound c)),
+    let passed = c .before .before in
+    let o = passed .before .before in
+    let a = start o .args in
+    let I = instance (start o) in
+    let starts = o .test-checked .result .starts in
+    let e = o .test-checked .ensures .starts (passed .if1 .left) in (
+      opened-laid (a .shape) (a .variables .now) (a .values .now) starts e (network-sound passed) .framed,
+      opened-paired (a .shape) (a .variables .now) (a .values .now) starts e (network-sound passed) (a .m) (a .members .now) (firstFault-back (networkFaults (I .network)) (combinationFaults I) (sound passed)),
     )
 
 returns-2 : tie.Need-returns-2
 unfolding faultsOn
 returns-2 c =
-    let passed = c .before .before in
-    let entry = start (passed .before) in
-    let I = instance entry in
-    c .supports-fault .ensures I (sym (c .before .needed .ensures (entry .args .variables .now) (entry .args .values .now)))
-    ∙ refusal-back (testFaultsOn I (entry .args .words)) (supportsFault I (entry .args .numbers) ∷ []) refl (none-yet passed)
+    let passed = c .before .before .before .before in
+    let o = passed .before .before in
+    let a = start o .args in
+    let I = instance (start o) in
+    opened-back (o .test-checked .result) (testFaultsOn I (a .words)) (relationsOf (a .shape)) (o .test-checked .ensures) (supportsFault I (a .numbers) ∷ []) (c .supports-fault .result) refl (passed .if1 .left)
+    (c .supports-fault .ensures
+    ∙ ap (λ (n : ℕ). supportsRefusal n (a .numbers))
+    (c .before .needed .ensures
+    ∙ opened-needed (a .shape) (a .variables .now) (a .values .now) (o .test-checked .result .starts) (o .test-checked .ensures .starts (passed .if1 .left)) (network-sound passed) (combinationsOf I)))
 
 pub checked-spec : {M : Type 1} → statement M
 checked-spec =

@@ -5,7 +5,6 @@ use mathlib.Core.Bool.{Bool, cond, not}
 use mathlib.Core.Option.{none, some}
 use Prim.Native.Nat.{ℕ}
 use borrow.Author.Tests.{not-true, not-false}
-use Rattle.model.specs.Network.{Network, total}
 use Rattle.model.specs.Fault.{refusal}
 use Rattle.combination.specs.Proper.{below}
 use borrow.Author.Needs.{needs}
@@ -18,16 +17,13 @@ start c = c .before .before .before
 abbrev verdict : Bool → ℕ
 verdict b = refusal (cond (not b) (some 13) none)
 
--- the test is the network's
-tested : (c : tie.After-all-below) (N : Network) → total N ≡ start c .args .tuples → below (total N) (start c .args .ids .now) ≡ c .all-below .result
-tested c N e = sym (c .all-below .ensures ∙ ap (λ (n : ℕ). below n (start c .args .ids .now)) (c .before .wide .ensures .0 ∙ sym e))
-
-returns : tie.Need-returns
-returns c = λ N e. sym (ap verdict (tested (c .before) N e ∙ not-true _ (c .if1 .taken)))
-
-returns-2 : tie.Need-returns-2
-returns-2 c = λ N e. sym (ap verdict (tested (c .before) N e ∙ not-false _ (c .if1 .left)))
+tested : (c : tie.After-all-below) → below (start c .args .tuples) (start c .args .ids .now) ≡ c .all-below .result
+tested c = sym (c .all-below .ensures ∙ ap (λ (n : ℕ). below n (start c .args .ids .now)) (c .before .wide .ensures .0))
 
 pub ids-fault-spec : {M : Type 1} → statement M
 ids-fault-spec =
-    tie.close (tie.spec (λ c κs. search needs) (λ c κs. search needs) returns returns-2)
+    tie.close
+    (tie.spec
+    (λ c κs. search needs) (λ c κs. search needs)
+    (λ c. sym (ap verdict (tested (c .before) ∙ not-true _ (c .if1 .taken))))
+    (λ c. sym (ap verdict (tested (c .before) ∙ not-false _ (c .if1 .left)))))

@@ -16,10 +16,10 @@ abbrev verdict : Bool → ℕ
 verdict b = refusal (cond (not b) (some 14) none)
 
 returns : tie.Need-returns
-returns c = let e = le-ltb (c .before .before .args .x) variableCount (omega arith) in λ N v. sym (ap verdict e)
+returns c = let e = le-ltb (c .before .before .args .x) variableCount (omega arith) in sym (ap verdict e)
 
 returns-2 : tie.Need-returns-2
-returns-2 c = let e = lt-ltb (c .before .before .args .x) variableCount (omega arith) in λ N v. sym (ap verdict e)
+returns-2 c = let e = lt-ltb (c .before .before .args .x) variableCount (omega arith) in sym (ap verdict e)
 
 pub variable-fault-spec : {M : Type 1} → statement M
 variable-fault-spec =

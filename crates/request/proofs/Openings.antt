@@ -1,0 +1,113 @@
+-- What the checks give: of one table of faults after the other, of the change's own fault, and to a call without fault.
+-- From the laws of two tables of faults, and the bridge from no fault to the facts.
+use mathlib.Core.Path.{_≡_, refl, sym, ap, subst, _∙_}
+use mathlib.Core.Bool.{true, not}
+use mathlib.Core.Option.{none}
+use mathlib.Core.List.{List, [], _∷_, _++_}
+use Prim.Native.Nat.{ℕ, _*_, _≤_}
+use native.Mathlib.Omega.{arith}
+use borrow.Author.Tests.{ltb-false, not-false}
+use lib.Dec.{ltb}
+use lib.ListN.{length}
+use Rattle.model.specs.declared.Relation.{Relation}
+use Rattle.model.specs.Limits.{wordBits, maxSupportNumbers}
+use Rattle.model.specs.Network.{Network, total}
+use Rattle.model.specs.Consistency.{needed}
+use Rattle.model.specs.Request.{Instance, combinationsOf, filter, withdraw, choose}
+use Rattle.model.specs.Fault.{Fault, firstFault, refusal, networkFaults, combinationFaults, instanceFaults, wordsFault, supportsFault, changeFaults, faultsOn, testFaults}
+use Rattle.model.proofs.Bools.{or-false-left, or-false-right}
+use Rattle.model.proofs.Fault.{numbered, refusal-none, refusal-front, refusal-back, no-fault-here, firstFault-front, firstFault-back}
+use Rattle.layout.specs.declared.Shape.{Shape}
+use Rattle.layout.specs.Shape.{relationsOf, instanceOf}
+use Rattle.layout.specs.Setting.{Setting, network, instanceIn, listed, Sound}
+use Rattle.combination.specs.Proper.{below}
+use Rattle.request.specs.declared.checks.Opening.{Opening}
+use Rattle.request.specs.Checks.{testFaultsOn, Opened, idsRefusal, variableRefusal}
+use Rattle.request.proofs.ForLayout.{opened-instance, opened-sound}
+
+-- ---- Tables
+
+module _ (o : Opening) (fs : List Fault) (Rs : List Relation) (w : Opened o fs Rs) where
+  pub opened-none : numbered fs ≡ true → o .fault ≡ 0 → firstFault fs ≡ none
+  opened-none h z = refusal-none fs h (sym (w .fault) ∙ z)
+
+  -- a fault of the first table is the answer
+  pub opened-front : (gs : List Fault) → (o .fault ≡ 0 → ⊥) → Opened o (fs ++ gs) Rs
+  opened-front gs d = record { fault = refusal-front fs gs (o .fault) (w .fault) d; starts = λ z. absurd (d z) }
+
+  -- where it has none, the second table's is
+  pub opened-back : (gs : List Fault) (f : ℕ) → numbered fs ≡ true → o .fault ≡ 0 → f ≡ refusal (firstFault gs) → Opened (record { fault = f; starts = o .starts }) (fs ++ gs) Rs
+  opened-back gs f h z e =
+      record { fault = e ∙ refusal-back fs gs h (sym (w .fault) ∙ z); starts = λ _. w .starts z }
+
+-- test's faults are those of so many words as it is lent
+pub testFaults-on : (I : Instance) (ws : List ℕ) → testFaultsOn I (length ws) ≡ testFaults I ws
+unfolding testFaults
+testFaults-on I ws = refl
+
+-- ---- The change's own fault
+
+pub ids-refusal : (N : Network) (tuples : ℕ) (ids : List ℕ) → tuples ≡ total N → idsRefusal tuples ids ≡ refusal (firstFault (changeFaults N (withdraw ids)))
+ids-refusal N tuples ids e = ap (λ (n : ℕ). idsRefusal n ids) e
+
+pub variable-refusal : (N : Network) (x v : ℕ) → variableRefusal x ≡ refusal (firstFault (changeFaults N (choose x v)))
+variable-refusal N x v = refl
+
+-- no fault 13: the ids are below the number of tuples
+pub ids-below : (tuples : ℕ) (ids : List ℕ) → idsRefusal tuples ids ≡ 0 → below tuples ids ≡ true
+ids-below tuples ids e =
+    let f : Fault = (13, not (below tuples ids)) in
+    not-false (below tuples ids) (no-fault-here f [] (refusal-none (f ∷ []) refl e))
+
+-- ---- A call without fault
+
+module _ (S : Shape) (variables values : List ℕ) (m : ℕ) (members : List ℕ) (words : ℕ) (o : Opening) (z : o .fault ≡ 0) where
+  abbrev I : Instance
+  I = instanceOf S variables values m members
+
+  -- the lists with the starts found
+  abbrev pub asked : Setting
+  asked = record { lists = record { variables = variables; values = values; starts = o .starts }; members = members; m = m }
+
+  -- of test
+  module _ (w : Opened o (testFaultsOn I words) (relationsOf S)) where
+    none-found : firstFault (testFaultsOn I words) ≡ none
+    none-found = opened-none o (testFaultsOn I words) (relationsOf S) w refl z
+
+    instance-sound : firstFault (instanceFaults I) ≡ none
+    instance-sound = firstFault-front (instanceFaults I) (wordsFault (I .network) words ∷ []) none-found
+
+    network-sound : firstFault (networkFaults (I .network)) ≡ none
+    network-sound = firstFault-front (networkFaults (I .network)) (combinationFaults I) instance-sound
+
+    pub tested-instance : instanceIn asked ≡ I
+    tested-instance = opened-instance S variables values (o .starts) (w .starts z) network-sound m members
+
+    pub tested-sound : Sound asked
+    tested-sound =
+        opened-sound S variables values (o .starts) (w .starts z) network-sound m members (firstFault-back (networkFaults (I .network)) (combinationFaults I) instance-sound)
+
+    -- there is a live bit for each tuple
+    pub tested-enough : total (network asked) ≤ wordBits * words
+    tested-enough =
+        let N = I .network in
+        let few = ltb-false (words * wordBits) (total N) (no-fault-here (wordsFault N words) [] (firstFault-back (instanceFaults I) (wordsFault N words ∷ []) none-found)) in
+        subst (λ (J : Instance). total (J .network) ≤ wordBits * words) (sym tested-instance) (omega arith)
+
+  -- of a change call, which has what test has
+  module _ (numbers : ℕ) (w : Opened o (faultsOn I words numbers filter) (relationsOf S)) where
+    no-fault : firstFault (testFaultsOn I words ++ (supportsFault I numbers ∷ [])) ≡ none
+    unfolding faultsOn
+    no-fault = opened-none o (faultsOn I words numbers filter) (relationsOf S) w refl z
+
+    pub checked-tested : Opened o (testFaultsOn I words) (relationsOf S)
+    checked-tested =
+        record { fault = z ∙ sym (ap refusal (firstFault-front (testFaultsOn I words) (supportsFault I numbers ∷ []) no-fault)); starts = w .starts }
+
+    -- the supports need no more numbers than are allowed, or lent
+    pub checked-needed : (needed (network asked) (listed asked) ≤ maxSupportNumbers) × (needed (network asked) (listed asked) ≤ numbers)
+    checked-needed =
+        let k = needed (I .network) (combinationsOf I) in
+        let none-many = no-fault-here (supportsFault I numbers) [] (firstFault-back (testFaultsOn I words) (supportsFault I numbers ∷ []) no-fault) in
+        subst (λ (J : Instance). (needed (J .network) (combinationsOf J) ≤ maxSupportNumbers) × (needed (J .network) (combinationsOf J) ≤ numbers)) (sym (tested-instance checked-tested))
+        (ltb-false maxSupportNumbers k (or-false-left (ltb maxSupportNumbers k) (ltb numbers k) none-many), ltb-false numbers k (or-false-right (ltb maxSupportNumbers k) (ltb numbers k) none-many))

@@ -1,0 +1,99 @@
+// The ids that a change removes, as words, and the live words without them.
+ghost use mathlib.Core.Path.{_≡_};
+ghost use mathlib.Core.Bool.{true};
+ghost use Prim.Native.Nat.{ℕ, _<_};
+ghost use Rattle.model.specs.Limits.{maxRelations, maxTuples};
+ghost use Rattle.model.specs.Lists.{elem};
+ghost use Rattle.model.specs.LiveWords.{isLive};
+ghost use Rattle.model.specs.Request.{choose};
+ghost use Rattle.layout.specs.Lent.{entry, exit};
+ghost use Rattle.layout.specs.Setting.{lists, networkIn, Laid};
+ghost use Rattle.combination.specs.Proper.{below};
+ghost use Rattle.request.specs.Removal.{Full, Holds, removedBy, removedIn, Added, Room, withoutIds};
+use layout::Starts;
+use layout::column_of;
+use layout::fit;
+use layout::relation_count;
+use layout::tuple_start;
+use layout::value_start;
+use layout::variable_start;
+use layout::wide;
+use live::WORDS;
+use live::Words;
+use live::set;
+use model::Value;
+use model::WORD_BITS;
+
+// The ids of a list.
+pub fn listed(ids: &[u16]) -> Words
+    requires { ⌜ below maxTuples (now ids) ≡ true ⌝ }
+    ensures { λ removed. ⌜ Holds removed (λ (g : ℕ). elem g (entry ids)) ⌝ }
+{
+    let mut removed = [0u64; WORDS];
+    let mut i = 0;
+    while i < ids.len() {
+        set(&mut removed, ids[i]);
+        i += 1;
+    }
+    removed
+}
+
+// The ids of relation r's tuples with another value than v under variable x are set, and every other bit stays.
+fn unlike_in(
+    variables: &[u16],
+    values: &[u16],
+    starts: &Starts,
+    r: u16,
+    x: u16,
+    v: Value,
+    removed: &mut [u64],
+)
+    requires { ⌜ Laid (lists now variables values starts) × (r < maxRelations) × Full (now removed) ⌝ }
+    ensures { λ _. ⌜ Added (entry removed) (exit removed) (removedIn (lists entry variables values starts) r (choose x v)) ⌝ }
+{
+    let scope = variable_start(starts, r);
+    let scope_end = variable_start(starts, r + 1);
+    let width = scope_end - scope;
+    let column = column_of(&variables[scope..scope_end], x);
+    if width <= column {
+        return;
+    }
+    let end = tuple_start(starts, r + 1);
+    let mut g = tuple_start(starts, r);
+    let mut at = value_start(starts, r) + column;
+    while g < end {
+        if !fit(values[at], v) {
+            set(removed, g);
+        }
+        at += width;
+        g += 1;
+    }
+}
+
+// The ids of all tuples, live or dead, with another value than v under variable x.
+pub fn unlike(variables: &[u16], values: &[u16], starts: &Starts, x: u16, v: Value) -> Words
+    requires { ⌜ Laid (lists now variables values starts) ⌝ }
+    ensures { λ removed. ⌜ Holds removed (removedBy (networkIn (lists entry variables values starts)) (choose x v)) ⌝ }
+{
+    let count = relation_count(starts);
+    let mut removed = [0u64; WORDS];
+    let mut r = 0;
+    while r < count {
+        unlike_in(variables, values, starts, r, x, v, &mut removed);
+        r += 1;
+    }
+    removed
+}
+
+// Of the first n ids those removed are dead, and every other bit stays.
+pub fn remove(words: &mut [u64], removed: &Words, n: u16)
+    requires { ⌜ Room (now words) (now removed) n ⌝ }
+    ensures { λ _. ⌜ exit words ≡ withoutIds n (isLive (entry removed)) (entry words) ⌝ }
+{
+    let end = (wide(n) + WORD_BITS - 1) / WORD_BITS;
+    let mut i = 0;
+    while i < end {
+        words[i] = words[i] & !removed[i];
+        i += 1;
+    }
+}
