@@ -1,3 +1,2 @@
--- The laws of the crate's definitions.
-pub mod Ready
-pub mod Opened
+-- The laws of a change.
+pub mod Changed

@@ -1,30 +1,38 @@
--- What a change call is given and what it leaves.
+-- What a change does, and the contracts of the change calls.
 use mathlib.Core.Path.{_≡_}
+use mathlib.Core.Bool.{Bool}
 use mathlib.Core.List.{List}
 use Prim.Native.Nat.{ℕ, _-_}
-use lib.ListN.{length}
-use Rattle.changes.specs.declared.Opening.{Opening}
-use Rattle.model.specs.TupleSet.{count}
+use Rattle.model.specs.declared.Answer.{Answer}
+use Rattle.model.specs.TupleSet.{count, without}
 use Rattle.model.specs.Network.{total}
 use Rattle.model.specs.Consistency.{filtered}
-use Rattle.model.specs.LiveWords.{living}
-use Rattle.model.specs.Request.{filter, Instance, combinationsOf}
-use Rattle.model.specs.Fault.{firstFault, refusal, faultsOn}
-use Rattle.model.specs.Reply.{Reply, leaving}
+use Rattle.model.specs.LiveWords.{isLive, living}
+use Rattle.model.specs.Request.{Change, Instance, combinationsOf}
+use Rattle.model.specs.Reply.{Reply, leaving, reply, request, replied}
+use Rattle.layout.specs.Lent.{Loan, entry, exit}
+use Rattle.layout.specs.Setting.{Setting, network, instanceIn, Sound}
+use Rattle.engine.specs.Work as engine
+use Rattle.request.specs.Removal as request′
 
--- none of the faults 2 to 12, with these live words and this support list
-abbrev pub Checked : Instance → List ℕ → List ℕ → Type 0
-Checked I words supports = 0 ≡ refusal (firstFault (faultsOn I (length words) (length supports) filter))
-
--- What a call finds before it strikes: the first of these faults, and without one how many tuples there are and how many live.
-pub record Opened (I : Instance) (words supports : List ℕ) (o : Opening) : Type 0 where
-  pub fault : o .fault ≡ refusal (firstFault (faultsOn I (length words) (length supports) filter))
-  pub tuples : o .fault ≡ 0 → o .tuples ≡ total (I .network)
-  pub before : o .fault ≡ 0 → o .before ≡ count (living (total (I .network)) words)
-
--- what a call leaves of the words once its change is struck, where so many tuples lived before
-unfoldable pub finished : Instance → List ℕ → List ℕ → ℕ → Reply
-finished I words supports before =
+-- what is left and answered once the live ids that pass are removed and the rest is filtered
+unfoldable pub changed : Instance → (ℕ → Bool) → List ℕ → List ℕ → Reply
+changed I removed words supports =
     let S = living (total (I .network)) words in
-    let L = filtered (I .network) (combinationsOf I) S in
-    leaving I L (record { left = count L; withdrawn = before - count S; deleted = count S - count L }) words supports
+    let R = without removed S in
+    let L = filtered (I .network) (combinationsOf I) R in
+    leaving I L (record { left = count L; withdrawn = count S - count R; deleted = count R - count L }) words supports
+
+-- An instance without fault, words and numbers enough, and words that hold ids of its tuples.
+pub record Ready (G : Setting) (words supports removed : List ℕ) : Type 0 where
+  pub sound : Sound G
+  pub space : engine.Room G words supports
+  pub removal : request′.Room words removed (total (network G))
+
+abbrev pub Changes : Answer → Setting → Loan → Loan → List ℕ → Type 0
+Changes a G words supports removed =
+    replied a (exit words) (exit supports) ≡ changed (instanceIn G) (isLive removed) (entry words) (entry supports)
+
+-- the answer and what is left are the model's reply to the change
+abbrev pub Replies : Answer → Instance → Loan → Loan → Change → Type 0
+Replies a I words supports change = replied a (exit words) (exit supports) ≡ reply (request I (entry words) (entry supports) change)

@@ -1,7 +1,7 @@
 -- What the checks give: of one table of faults after the other, of the change's own fault, and to a call without fault.
 -- From the laws of two tables of faults, and the bridge from no fault to the facts.
 use mathlib.Core.Path.{_≡_, refl, sym, ap, subst, _∙_}
-use mathlib.Core.Bool.{true, not}
+use mathlib.Core.Bool.{true, not, _&&_}
 use mathlib.Core.Option.{none}
 use mathlib.Core.List.{List, [], _∷_, _++_}
 use Prim.Native.Nat.{ℕ, _*_, _≤_}
@@ -10,10 +10,11 @@ use borrow.Author.Tests.{ltb-false, not-false}
 use lib.Dec.{ltb}
 use lib.ListN.{length}
 use Rattle.model.specs.declared.Relation.{Relation}
-use Rattle.model.specs.Limits.{wordBits, maxSupportNumbers}
+use Rattle.model.specs.Limits.{maxTuples, wordBits, maxSupportNumbers}
+use Rattle.model.specs.Lists.{elem}
 use Rattle.model.specs.Network.{Network, total}
 use Rattle.model.specs.Consistency.{needed}
-use Rattle.model.specs.Request.{Instance, combinationsOf, filter, withdraw, choose}
+use Rattle.model.specs.Request.{Instance, combinationsOf, filter, withdraw, choose, removes}
 use Rattle.model.specs.Fault.{Fault, firstFault, refusal, networkFaults, combinationFaults, instanceFaults, wordsFault, supportsFault, changeFaults, faultsOn, testFaults}
 use Rattle.model.proofs.Bools.{or-false-left, or-false-right}
 use Rattle.model.proofs.Fault.{numbered, refusal-none, refusal-front, refusal-back, no-fault-here, firstFault-front, firstFault-back}
@@ -21,7 +22,10 @@ use Rattle.layout.specs.declared.Shape.{Shape}
 use Rattle.layout.specs.Shape.{relationsOf, instanceOf}
 use Rattle.layout.specs.Setting.{Setting, network, instanceIn, listed, Sound}
 use Rattle.combination.specs.Proper.{below}
+use Rattle.combination.proofs.Members.{below-more-relations}
 use Rattle.request.specs.declared.checks.Opening.{Opening}
+use Rattle.request.specs.Removal.{Holds}
+use Rattle.request.proofs.Removed.{withdraw-holds}
 use Rattle.request.specs.Checks.{testFaultsOn, Opened, idsRefusal, variableRefusal}
 use Rattle.request.proofs.ForLayout.{opened-instance, opened-sound}
 
@@ -54,10 +58,17 @@ pub variable-refusal : (N : Network) (x v : ℕ) → variableRefusal x ≡ refus
 variable-refusal N x v = refl
 
 -- no fault 13: the ids are below the number of tuples
-pub ids-below : (tuples : ℕ) (ids : List ℕ) → idsRefusal tuples ids ≡ 0 → below tuples ids ≡ true
+ids-below : (tuples : ℕ) (ids : List ℕ) → idsRefusal tuples ids ≡ 0 → below tuples ids ≡ true
 ids-below tuples ids e =
     let f : Fault = (13, not (below tuples ids)) in
     not-false (below tuples ids) (no-fault-here f [] (refusal-none (f ∷ []) refl e))
+
+-- .. and their words hold those of them that withdraw removes
+pub ids-few : (tuples : ℕ) (ids : List ℕ) → tuples ≤ maxTuples → idsRefusal tuples ids ≡ 0 → below maxTuples ids ≡ true
+ids-few tuples ids few e = below-more-relations tuples maxTuples ids few (ids-below tuples ids e)
+
+pub ids-held : (N : Network) (tuples : ℕ) (ids removed : List ℕ) → idsRefusal tuples ids ≡ 0 → Holds removed (λ (g : ℕ). elem g ids) → Holds removed (λ (g : ℕ). ltb g tuples && removes N (withdraw ids) g)
+ids-held N tuples ids removed e holds = withdraw-holds N tuples ids removed (ids-below tuples ids e) holds
 
 -- ---- A call without fault
 

@@ -1,51 +1,55 @@
--- `filter` examines the request, and finishes with the words as they are.
--- From what both ensure, and the laws from what is found to the reply.
-use mathlib.Core.Path.{refl, sym, _∙_}
-use Rattle.model.specs.Network.{total}
-use Rattle.model.specs.Request.{filter, Instance, Request}
-use Rattle.layout.specs.Shape.{instanceOf}
-use Rattle.request.proofs.Change.{filter-struck}
-use Rattle.model.specs.Reply.{request}
-use Rattle.changes.proofs.Ready.{Changed, changed-ready, changed-reply}
-use Rattle.changes.proofs.Opened.{opened-refused, opened-changed}
+-- `filter` removes no id.
+-- From what the checks and `change` ensure, and the laws from what the checks find to the reply.
+use mathlib.Core.Path.{_≡_, refl, sym, _∙_}
+use mathlib.Core.Bool.{false, _&&_, and-false}
+use Prim.Native.Nat.{ℕ}
+use lib.Dec.{ltb}
+use lib.ListN.{replicate}
 use borrow.Author.Needs.{needs}
+use Rattle.model.specs.Network.{Network}
+use Rattle.model.specs.Request.{filter, removes}
+use Rattle.model.proofs.LiveWords.{none-isLive}
+use Rattle.request.specs.Removal.{Holds}
+use Rattle.request.proofs.Removed.{blank-full}
+use Rattle.changes.proofs.Changed.{refused-shared, ready-change, ready-reply}
 use Rattle.changes.proofs.filter.Statement.{statement}
 use Rattle.changes.proofs.filter.Tie as tie
 
-abbrev instance : tie.Start → Instance
-instance c = instanceOf (c .args .shape) (c .args .variables .now) (c .args .values .now) (c .args .m) (c .args .members .now)
+nothing-held : (N : Network) (n : ℕ) → Holds (replicate 64 0) (λ (g : ℕ). ltb g n && removes N filter g)
+unfolding removes
+nothing-held N n g h = none-isLive 64 g ∙ sym (and-false (ltb g n))
 
-abbrev asked : tie.Start → Request
-asked c = request (instance c) (c .args .words .now) (c .args .supports .now) filter
-
-abbrev start : tie.After-examine → tie.Start
-start c = c .before .before .before .before .before .before .before .before
-
-abbrev entry : tie.Else1 → tie.Start
-entry c = start (c .before)
-
--- nothing is struck
-done : (c : tie.Else1) → Changed (asked (entry c)) (entry c .args .words .now) (c .before .examine .result .before)
-done c =
-    let N = instance (entry c) .network in
-    opened-changed (asked (entry c)) _ (c .before .examine .ensures) (c .if1 .left) 0 refl refl (entry c .args .words .now)
-    (sym (filter-struck N (total N) (entry c .args .words .now) (λ i _. c .before .before .before .before .before .slice-known .given i .fits)))
+abbrev start : tie.After-checked → tie.Start
+start c = c .before .before .before .before .before .before
 
 returns : tie.Need-returns
-returns c = opened-refused (asked (start (c .before))) _ (c .before .examine .ensures) (c .if1 .taken)
+returns c =
+    let o = c .before in
+    let a = start o .args in
+    refused-shared (a .shape) (a .variables .now) (a .values .now) (a .m) (a .members .now) (a .words .now) (a .supports .now) filter (o .checked .result) (o .checked .ensures) (c .if1 .taken)
 
-finish-requires : tie.Need-finish-requires
-finish-requires c κs = let d = c .before .before in changed-ready (asked (entry d)) (entry d .args .words .now) _ (done d)
+change-requires : tie.Need-change-requires
+change-requires c κs =
+    let passed = c .before .before .before .before .before in
+    let o = passed .before in
+    let a = start o .args in
+    ready-change (a .shape) (a .variables .now) (a .values .now) (a .m) (a .members .now) (a .words .now) (a .supports .now) filter (o .checked .result) (o .checked .ensures) (passed .if1 .left) (replicate 64 0) blank-full (nothing-held _ _)
 
 returns-2 : tie.Need-returns-2
-returns-2 c = let d = c .before .before .before .before .before .before .before in c .before .before .before .before .finish .ensures ∙ changed-reply (asked (entry d)) (entry d .args .words .now) _ (done d)
+returns-2 c =
+    let changed = c .before .before .before .before in
+    let passed = changed .before .before .before .before .before .before in
+    let o = passed .before in
+    let a = start o .args in
+    changed .change .ensures
+    ∙ ready-reply (a .shape) (a .variables .now) (a .values .now) (a .m) (a .members .now) (a .words .now) (a .supports .now) filter (o .checked .result) (o .checked .ensures) (passed .if1 .left) (replicate 64 0) blank-full (nothing-held _ _) 0 refl refl
 
 pub filter-spec : {M : Type 1} → statement M
 filter-spec =
     tie.close
     (tie.spec
-    (λ c κs. search needs) (λ c. search needs) (λ c. search needs)
+    (λ c κs. search needs)
     returns
-    finish-requires
+    change-requires
     (λ c. search needs) (λ c. search needs)
     returns-2)

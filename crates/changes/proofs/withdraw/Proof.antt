@@ -1,87 +1,127 @@
--- `withdraw` examines the request, tests and strikes the ids listed, and finishes with what then lives.
--- From what these ensure, and the laws from what is found to the reply.
-use mathlib.Core.Path.{_∙_}
+-- `withdraw` removes the ids listed.
+-- From what the checks, the ids' words and `change` ensure, and the laws from what the checks find to the reply.
+use mathlib.Core.Path.{_≡_, sym, ap, _∙_}
+use mathlib.Core.Bool.{_&&_}
 use mathlib.Core.List.{List}
 use Prim.Native.Nat.{ℕ}
-use Rattle.model.specs.Request.{withdraw, Instance, Request}
-use Rattle.layout.specs.Shape.{instanceOf}
-use Rattle.model.specs.Reply.{request}
-use Rattle.changes.proofs.Ready.{Changed, changed-ready, changed-reply}
-use Rattle.changes.proofs.Opened.{opened-refused, ids-refused, ids-ready, ids-changed}
+use mir.Val.{Fits}
+use mir.Syntax.{w64}
+use lib.Dec.{ltb}
+use lib.ListN.{length, getD}
 use borrow.Author.Needs.{needs}
+use Rattle.model.specs.Network.{total}
+use Rattle.model.specs.Request.{withdraw, removes}
+use Rattle.model.specs.Fault.{firstFault, refusal, changeFaults}
+use Rattle.layout.specs.Shape.{networkOf}
+use Rattle.layout.specs.Setting.{Setting, network}
+use Rattle.layout.proofs.Framed.{tuple-count, tuples-few}
+use Rattle.request.specs.Checks.{idsRefusal}
+use Rattle.request.specs.Removal.{Full, Holds}
+use Rattle.request.proofs.Openings.{asked, ids-refusal, ids-few, ids-held}
+use Rattle.changes.proofs.Changed.{refused-shared, refused-own, total-is, ready-sound, ready-change, ready-reply}
 use Rattle.changes.proofs.withdraw.Statement.{statement}
 use Rattle.changes.proofs.withdraw.Tie as tie
 
-abbrev instance : tie.Start → Instance
-instance c = instanceOf (c .args .shape) (c .args .variables .now) (c .args .values .now) (c .args .m) (c .args .members .now)
-
-abbrev asked : tie.Start → Request
-asked c = request (instance c) (c .args .words .now) (c .args .supports .now) (withdraw (c .args .ids .now))
-
-abbrev start : tie.After-examine → tie.Start
-start c = c .before .before .before .before .before .before .before .before .before
+abbrev start : tie.After-checked → tie.Start
+start c = c .before .before .before .before .before .before .before
 
 -- ---- Without the faults 2 to 12
 
-abbrev found : tie.After-ids-fault → tie.After-examine
-found c = c .before .before
+abbrev checked : tie.After-ids-fault → tie.After-checked
+checked c = c .before .before .before .before .before
+
+none : (c : tie.After-ids-fault) → checked c .checked .result .fault ≡ 0
+none c = c .before .before .before .before .if1 .left
 
 module _ (c : tie.After-ids-fault) where
-  abbrev entry : tie.Start
-  entry = start (found c)
+  abbrev given : Setting
+  given = let a = start (checked c) .args in asked (a .shape) (a .variables .now) (a .values .now) (a .m) (a .members .now) (length (a .words .now)) (checked c .checked .result) (none c)
 
-  abbrev words : List ℕ
-  words = entry .args .words .now
+  abbrev ids : List ℕ
+  ids = start (checked c) .args .ids .now
 
-  abbrev supports : List ℕ
-  supports = entry .args .supports .now
+  -- the number of tuples
+  all : c .before .tuple-count .result ≡ total (network given)
+  all =
+      let o = checked c in
+      let a = start o .args in
+      c .before .tuple-count .ensures ∙ tuple-count (ready-sound (a .shape) (a .variables .now) (a .values .now) (a .m) (a .members .now) (a .words .now) (a .supports .now) (withdraw ids) (o .checked .result) (o .checked .ensures) (none c) .laid .framed)
 
-  abbrev listed : List ℕ
-  listed = entry .args .ids .now
+  own : c .ids-fault .result ≡ refusal (firstFault (changeFaults (let a = start (checked c) .args in networkOf (a .shape) (a .variables .now) (a .values .now)) (withdraw ids)))
+  own =
+      let o = checked c in
+      let a = start o .args in
+      c .ids-fault .ensures
+      ∙ ids-refusal (let a = start (checked c) .args in networkOf (a .shape) (a .variables .now) (a .values .now)) (c .before .tuple-count .result) ids (all ∙ total-is (a .shape) (a .variables .now) (a .values .now) (a .m) (a .members .now) (a .words .now) (a .supports .now) (withdraw ids) (o .checked .result) (o .checked .ensures) (none c))
 
 -- ---- .. and without fault 13
 
-abbrev tested : tie.After-withdraw-ids → tie.After-ids-fault
-tested c = c .before .before .before
+module _ (c : tie.Else2) where
+  inside : idsRefusal (total (network (given (c .before)))) (ids (c .before)) ≡ 0
+  inside = ap (λ (n : ℕ). idsRefusal n (ids (c .before))) (sym (all (c .before))) ∙ sym (c .before .ids-fault .ensures) ∙ c .if2 .left
 
-abbrev final : tie.After-withdraw-ids → List ℕ
-final c = c .withdraw-ids .last .0
+abbrev passed : tie.After-listed → tie.After-ids-fault
+passed c = c .before .before
 
-done : (c : tie.After-withdraw-ids) → Changed (asked (entry (tested c))) (final c) (found (tested c) .examine .result .before)
-done c =
-    let d = tested c in
-    ids-changed (instance (entry d)) (words d) (supports d) (listed d) _ (found d .examine .ensures) (d .before .if1 .left) (d .ids-fault .result) (d .ids-fault .ensures) (c .before .before .if2 .left) (final c)
-    (c .withdraw-ids .ensures)
+full : (c : tie.After-listed) → Full (c .listed .result)
+full c =
+    let fits : (i : ℕ) → Fits w64 (getD (c .listed .result) i 0) = λ i. search needs in
+    record { long = search needs; small = λ i h. fits i .fits }
+
+holds : (c : tie.After-listed) → Holds (c .listed .result) (λ (g : ℕ). ltb g (total (network (given (passed c)))) && removes (network (given (passed c))) (withdraw (ids (passed c))) g)
+holds c = ids-held _ _ (ids (passed c)) (c .listed .result) (inside (c .before)) (c .listed .ensures)
+
+-- ---- The needs
 
 returns : tie.Need-returns
-returns c = opened-refused (asked (start (c .before))) _ (c .before .examine .ensures) (c .if1 .taken)
+returns c =
+    let o = c .before in
+    let a = start o .args in
+    refused-shared (a .shape) (a .variables .now) (a .values .now) (a .m) (a .members .now) (a .words .now) (a .supports .now) (withdraw (a .ids .now)) (o .checked .result) (o .checked .ensures) (c .if1 .taken)
 
 returns-2 : tie.Need-returns-2
 returns-2 c =
     let d = c .before in
-    ids-refused (instance (entry d)) (words d) (supports d) (listed d) _ (found d .examine .ensures) (d .before .if1 .left) (d .ids-fault .result) (d .ids-fault .ensures) (c .if2 .taken)
+    let o = checked d in
+    let a = start o .args in
+    refused-own (a .shape) (a .variables .now) (a .values .now) (a .m) (a .members .now) (a .words .now) (a .supports .now) (withdraw (a .ids .now)) (o .checked .result) (o .checked .ensures) (none d) (d .ids-fault .result) (own d) (c .if2 .taken)
 
-withdraw-ids-requires : tie.Need-withdraw-ids-requires
-withdraw-ids-requires c κs =
-    let two = c .before in
-    let d = two .before in
-    ids-ready (instance (entry d)) (words d) (supports d) (listed d) _ (found d .examine .ensures) (d .before .if1 .left) (d .ids-fault .result) (d .ids-fault .ensures) (two .if2 .left)
+listed-requires : tie.Need-listed-requires
+listed-requires c κs =
+    let d = c .before in
+    let o = checked d in
+    let a = start o .args in
+    ids-few (total (network (given d))) (ids d)
+    (tuples-few (ready-sound (a .shape) (a .variables .now) (a .values .now) (a .m) (a .members .now) (a .words .now) (a .supports .now) (withdraw (ids d)) (o .checked .result) (o .checked .ensures) (none d) .laid .framed))
+    (inside c)
 
-finish-requires : tie.Need-finish-requires
-finish-requires c κs = let d = c .before .before .before .before in changed-ready (asked (entry (tested d))) (final d) _ (done d)
+change-requires : tie.Need-change-requires
+change-requires c κs =
+    let l = c .before .before .before .before in
+    let d = passed l in
+    let o = checked d in
+    let a = start o .args in
+    ready-change (a .shape) (a .variables .now) (a .values .now) (a .m) (a .members .now) (a .words .now) (a .supports .now) (withdraw (ids d)) (o .checked .result) (o .checked .ensures) (none d) (l .listed .result) (full l) (holds l)
 
 returns-3 : tie.Need-returns-3
-returns-3 c = let d = c .before .before .before .before .before .before .before .before .before in c .before .before .before .before .finish .ensures ∙ changed-reply (asked (entry (tested d))) (final d) _ (done d)
+returns-3 c =
+    let changed = c .before .before .before .before in
+    let l = changed .before .before .before .before .before in
+    let d = passed l in
+    let o = checked d in
+    let a = start o .args in
+    changed .change .ensures
+    ∙ ready-reply (a .shape) (a .variables .now) (a .values .now) (a .m) (a .members .now) (a .words .now) (a .supports .now) (withdraw (ids d)) (o .checked .result) (o .checked .ensures) (none d) (l .listed .result) (full l) (holds l) (d .ids-fault .result) (own d) (l .before .if2 .left)
 
 pub withdraw-spec : {M : Type 1} → statement M
 withdraw-spec =
     tie.close
     (tie.spec
-    (λ c κs. search needs) (λ c. search needs) (λ c. search needs)
+    (λ c κs. search needs)
     returns
-    (λ c κs. search needs) (λ c. search needs) (λ c. search needs)
+    (λ c κs. search needs) (λ c κs. search needs)
     returns-2
-    withdraw-ids-requires
-    finish-requires
+    listed-requires
+    change-requires
     (λ c. search needs) (λ c. search needs)
     returns-3)
