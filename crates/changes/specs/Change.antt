@@ -8,11 +8,12 @@ use Rattle.model.specs.TupleSet.{count, without}
 use Rattle.model.specs.Network.{total}
 use Rattle.model.specs.Consistency.{filtered}
 use Rattle.model.specs.LiveWords.{isLive, living}
-use Rattle.model.specs.Request.{Change, Instance, combinationsOf}
+use Rattle.model.specs.Request.{Change, withdraw, Instance, combinationsOf}
 use Rattle.model.specs.Reply.{Reply, leaving, reply, request, replied}
 use Rattle.layout.specs.Lent.{Loan, entry, exit}
 use Rattle.layout.specs.Setting.{Setting, network, instanceIn, Sound}
 use Rattle.engine.specs.Work as engine
+use Rattle.request.specs.declared.removal.Ids.{Ids}
 use Rattle.request.specs.Removal as request′
 
 -- what is left and answered once the live ids that pass are removed and the rest is filtered
@@ -36,3 +37,7 @@ Changes a G words supports removed =
 -- the answer and what is left are the model's reply to the change
 abbrev pub Replies : Answer → Instance → Loan → Loan → Change → Type 0
 Replies a I words supports change = replied a (exit words) (exit supports) ≡ reply (request I (entry words) (entry supports) change)
+
+-- .. to the withdrawal of every list whose ids these are
+abbrev pub RepliesIds : Answer → Instance → Loan → Loan → Ids → Type 0
+RepliesIds a I words supports r = (ids : List ℕ) → request′.Lists r ids → Replies a I words supports (withdraw ids)

@@ -3,7 +3,8 @@ ghost use Rattle.model.specs.Request.{filter, withdraw, choose};
 ghost use Rattle.layout.specs.Lent.{entry};
 ghost use Rattle.layout.specs.Shape.{instanceOf};
 ghost use Rattle.layout.specs.Setting.{setting};
-ghost use Rattle.changes.specs.Change.{Ready, Changes, Replies};
+ghost use Rattle.request.specs.Removal.{Gathered};
+ghost use Rattle.changes.specs.Change.{Ready, Changes, Replies, RepliesIds};
 use layout::Shape;
 use layout::Starts;
 use layout::tuple_count;
@@ -16,6 +17,7 @@ use request::answer::answer_for;
 use request::checks::checked;
 use request::checks::ids_fault;
 use request::checks::variable_fault;
+use request::removal::Ids;
 use request::removal::listed;
 use request::removal::remove;
 use request::removal::unlike;
@@ -54,14 +56,76 @@ pub fn filter(
 ) -> Answer
     ensures { λ a. ⌜ Replies a (instanceOf shape (entry variables) (entry values) m (entry members)) words supports filter ⌝ }
 {
-    let opening = checked(shape, variables, values, m, members, words.len(), supports.len());
+    let opening = checked(
+        shape,
+        variables,
+        values,
+        m,
+        members,
+        words.len(),
+        supports.len(),
+    );
     let fault = opening.fault;
     if fault != 0 {
         return Answer::Refused(fault);
     }
     let starts = opening.starts;
     let removed = [0u64; WORDS];
-    change(variables, values, &starts, members, m, words, supports, &removed)
+    change(
+        variables,
+        values,
+        &starts,
+        members,
+        m,
+        words,
+        supports,
+        &removed,
+    )
+}
+
+// Withdraws the tuples whose ids are gathered, live or dead, and filters what then lives.
+pub fn withdraw_ids(
+    shape: Shape,
+    variables: &[u16],
+    values: &[Value],
+    m: u16,
+    members: &[u16],
+    words: &mut [u64],
+    supports: &mut [u16],
+    ids: Ids,
+) -> Answer
+    requires { ⌜ Gathered ids ⌝ }
+    ensures { λ a. ⌜ RepliesIds a (instanceOf shape (entry variables) (entry values) m (entry members)) words supports ids ⌝ }
+{
+    let opening = checked(
+        shape,
+        variables,
+        values,
+        m,
+        members,
+        words.len(),
+        supports.len(),
+    );
+    let fault = opening.fault;
+    if fault != 0 {
+        return Answer::Refused(fault);
+    }
+    let starts = opening.starts;
+    let of_ids = ids_fault(tuple_count(&starts), ids.bound);
+    if of_ids != 0 {
+        return Answer::Refused(of_ids);
+    }
+    let removed = ids.words;
+    change(
+        variables,
+        values,
+        &starts,
+        members,
+        m,
+        words,
+        supports,
+        &removed,
+    )
 }
 
 // Withdraws the tuples listed, live or dead, and filters what then lives.
@@ -77,18 +141,16 @@ pub fn withdraw(
 ) -> Answer
     ensures { λ a. ⌜ Replies a (instanceOf shape (entry variables) (entry values) m (entry members)) words supports (withdraw (entry ids)) ⌝ }
 {
-    let opening = checked(shape, variables, values, m, members, words.len(), supports.len());
-    let fault = opening.fault;
-    if fault != 0 {
-        return Answer::Refused(fault);
-    }
-    let starts = opening.starts;
-    let of_ids = ids_fault(tuple_count(&starts), ids);
-    if of_ids != 0 {
-        return Answer::Refused(of_ids);
-    }
-    let removed = listed(ids);
-    change(variables, values, &starts, members, m, words, supports, &removed)
+    withdraw_ids(
+        shape,
+        variables,
+        values,
+        m,
+        members,
+        words,
+        supports,
+        listed(ids),
+    )
 }
 
 // Withdraws every tuple that has another value than v under variable x, and filters what then lives.
@@ -105,7 +167,15 @@ pub fn choose(
 ) -> Answer
     ensures { λ a. ⌜ Replies a (instanceOf shape (entry variables) (entry values) m (entry members)) words supports (choose x v) ⌝ }
 {
-    let opening = checked(shape, variables, values, m, members, words.len(), supports.len());
+    let opening = checked(
+        shape,
+        variables,
+        values,
+        m,
+        members,
+        words.len(),
+        supports.len(),
+    );
     let fault = opening.fault;
     if fault != 0 {
         return Answer::Refused(fault);
@@ -116,5 +186,14 @@ pub fn choose(
     }
     let starts = opening.starts;
     let removed = unlike(variables, values, &starts, x, v);
-    change(variables, values, &starts, members, m, words, supports, &removed)
+    change(
+        variables,
+        values,
+        &starts,
+        members,
+        m,
+        words,
+        supports,
+        &removed,
+    )
 }

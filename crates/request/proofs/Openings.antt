@@ -1,17 +1,16 @@
 -- What the checks give: of one table of faults after the other, of the change's own fault, and to a call without fault.
 -- From the laws of two tables of faults, and the bridge from no fault to the facts.
 use mathlib.Core.Path.{_≡_, refl, sym, ap, subst, _∙_}
-use mathlib.Core.Bool.{true, not, _&&_}
+use mathlib.Core.Bool.{Bool, true, false, not, _&&_}
 use mathlib.Core.Option.{none}
 use mathlib.Core.List.{List, [], _∷_, _++_}
 use Prim.Native.Nat.{ℕ, _*_, _≤_}
 use native.Mathlib.Omega.{arith}
-use borrow.Author.Tests.{ltb-false, not-false}
-use lib.Dec.{ltb}
+use borrow.Author.Tests.{ltb-true, ltb-false, le-leb, lt-leb}
+use lib.Dec.{leb, ltb}
 use lib.ListN.{length}
 use Rattle.model.specs.declared.Relation.{Relation}
-use Rattle.model.specs.Limits.{maxTuples, wordBits, maxSupportNumbers}
-use Rattle.model.specs.Lists.{elem}
+use Rattle.model.specs.Limits.{wordBits, maxSupportNumbers}
 use Rattle.model.specs.Network.{Network, total}
 use Rattle.model.specs.Consistency.{needed}
 use Rattle.model.specs.Request.{Instance, combinationsOf, filter, withdraw, choose, removes}
@@ -22,9 +21,9 @@ use Rattle.layout.specs.declared.Shape.{Shape}
 use Rattle.layout.specs.Shape.{relationsOf, instanceOf}
 use Rattle.layout.specs.Setting.{Setting, network, instanceIn, listed, Sound}
 use Rattle.combination.specs.Proper.{below}
-use Rattle.combination.proofs.Members.{below-more-relations}
 use Rattle.request.specs.declared.checks.Opening.{Opening}
-use Rattle.request.specs.Removal.{Holds}
+use Rattle.request.specs.declared.removal.Ids.{Ids}
+use Rattle.request.specs.Removal.{Lists, Holds}
 use Rattle.request.proofs.Removed.{withdraw-holds}
 use Rattle.request.specs.Checks.{testFaultsOn, Opened, idsRefusal, variableRefusal}
 use Rattle.request.proofs.ForLayout.{opened-instance, opened-sound}
@@ -51,24 +50,29 @@ testFaults-on I ws = refl
 
 -- ---- The change's own fault
 
-pub ids-refusal : (N : Network) (tuples : ℕ) (ids : List ℕ) → tuples ≡ total N → idsRefusal tuples ids ≡ refusal (firstFault (changeFaults N (withdraw ids)))
-ids-refusal N tuples ids e = ap (λ (n : ℕ). idsRefusal n ids) e
+ltb-not-leb : (n b : ℕ) → ltb n b ≡ not (leb b n)
+ltb-not-leb n b = go (ltb n b) refl
+  where
+    go : (x : Bool) → ltb n b ≡ x → x ≡ not (leb b n)
+    go true e = sym (ap not (lt-leb b n (ltb-true n b e)))
+    go false e = sym (ap not (le-leb b n (ltb-false n b e)))
+
+module _ (N : Network) (ids : List ℕ) (r : Ids) (lists : Lists r ids) where
+  -- fault 13 by the least number above all ids
+  pub ids-refusal : (tuples : ℕ) → tuples ≡ total N → idsRefusal tuples (r .bound) ≡ refusal (firstFault (changeFaults N (withdraw ids)))
+  ids-refusal tuples e =
+      ap (λ (b : Bool). refusal (firstFault ((13, b) ∷ []))) (ltb-not-leb tuples (r .bound) ∙ ap not (lists .highest tuples))
+      ∙ ap (λ (n : ℕ). refusal (firstFault ((13, not (below n ids)) ∷ []))) e
+
+  -- without it the words hold those that withdraw removes
+  pub ids-held : (tuples : ℕ) → idsRefusal tuples (r .bound) ≡ 0 → Holds (r .words) (λ (g : ℕ). ltb g tuples && removes N (withdraw ids) g)
+  ids-held tuples e =
+      let f : Fault = (13, ltb tuples (r .bound)) in
+      let few = ltb-false tuples (r .bound) (no-fault-here f [] (refusal-none (f ∷ []) refl e)) in
+      withdraw-holds N tuples ids (r .words) (sym (lists .highest tuples) ∙ le-leb (r .bound) tuples few) (lists .held)
 
 pub variable-refusal : (N : Network) (x v : ℕ) → variableRefusal x ≡ refusal (firstFault (changeFaults N (choose x v)))
 variable-refusal N x v = refl
-
--- no fault 13: the ids are below the number of tuples
-ids-below : (tuples : ℕ) (ids : List ℕ) → idsRefusal tuples ids ≡ 0 → below tuples ids ≡ true
-ids-below tuples ids e =
-    let f : Fault = (13, not (below tuples ids)) in
-    not-false (below tuples ids) (no-fault-here f [] (refusal-none (f ∷ []) refl e))
-
--- .. and their words hold those of them that withdraw removes
-pub ids-few : (tuples : ℕ) (ids : List ℕ) → tuples ≤ maxTuples → idsRefusal tuples ids ≡ 0 → below maxTuples ids ≡ true
-ids-few tuples ids few e = below-more-relations tuples maxTuples ids few (ids-below tuples ids e)
-
-pub ids-held : (N : Network) (tuples : ℕ) (ids removed : List ℕ) → idsRefusal tuples ids ≡ 0 → Holds removed (λ (g : ℕ). elem g ids) → Holds removed (λ (g : ℕ). ltb g tuples && removes N (withdraw ids) g)
-ids-held N tuples ids removed e holds = withdraw-holds N tuples ids removed (ids-below tuples ids e) holds
 
 -- ---- A call without fault
 

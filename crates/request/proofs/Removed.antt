@@ -1,7 +1,7 @@
 -- Ids set one after the other, words cut by others one after the other, and what is left once ids are removed.
 -- From the model's laws of live words and of sets of tuples, and the laws of the machine's operations.
 use mathlib.Core.Path.{_≡_, refl, sym, ap, _∙_}
-use mathlib.Core.Bool.{Bool, true, false≢true, not, _&&_, _||_, cond, and-true, or-false, or-assoc}
+use mathlib.Core.Bool.{Bool, true, false, false≢true, not, _&&_, _||_, cond, and-true, and-assoc, or-false, or-assoc}
 use mathlib.Core.List.{List, [], _∷_}
 use mathlib.Core.Logic.{⊎-elim}
 use Prim.Native.Nat.{ℕ, _+_, _-_, _*_, _/_, _%_, _^_, _≤_, _<_}
@@ -10,10 +10,10 @@ use native.Mathlib.Numerals.{add-one}
 use native.Mathlib.Decide.{decLt}
 use native.Mathlib.Omega.{arith}
 use lib.Bits.{bitAnd, and-le-l}
-use lib.Dec.{eqb, ltb}
+use lib.Dec.{eqb, leb, ltb}
 use lib.ListN.{length, getD, set, drop, replicate, length-set, getD-replicate, drop-of-length-le}
 use lib.Seq.{drop-cons, getD-set-same, getD-set-other}
-use borrow.Author.Tests.{lt-ltb, le-ltb, ltb-true, eqb-true}
+use borrow.Author.Tests.{lt-ltb, le-ltb, ltb-true, ltb-false, le-leb, leb-true, eqb-true, ne-eqb}
 use Rattle.model.specs.Limits.{maxTuples, wordBits}
 use Rattle.model.specs.Lists.{all, elem}
 use Rattle.model.specs.TupleSet.{TupleSet, has, without}
@@ -26,7 +26,7 @@ use Rattle.model.proofs.TupleSet.{has-below, restrict-has, without-length, with
 use Rattle.model.proofs.LiveWords.{words-ext, written-length, written-isLive, written-below, written-living, living-length, living-has, living-written, none-isLive, raised-length, raised-isLive, raised-below}
 use Rattle.live.proofs.Bits.{isSet-and, isSet-not}
 use Rattle.combination.specs.Proper.{below}
-use Rattle.request.specs.Removal.{Small, Full, Holds, Room, withoutIds}
+use Rattle.request.specs.Removal.{added, above, Lists, Small, Full, Holds, Room, withoutIds}
 
 -- no id is set in words of noughts
 pub blank-full : Full (replicate 64 0)
@@ -42,46 +42,118 @@ raised-full g ws f =
 
 -- ---- The ids of a list
 
--- The words hold the ids before place i, and with those from there on all that are listed.
-pub record Filled (ids words : List ℕ) (i : ℕ) : Type 0 where
+module _ (g : ℕ) (ws : List ℕ) (full : Full ws) where
+  pub added-full : Full (added g ws)
+  unfolding added
+  added-full = go (ltb g maxTuples)
+    where
+      go : (b : Bool) → Full (cond b (raised g ws) ws)
+      go true = raised-full g ws full
+      go false = full
+
+  pub added-isLive : (h : ℕ) → h < maxTuples → isLive (added g ws) h ≡ (isLive ws h || eqb g h)
+  unfolding added
+  added-isLive h l = go (ltb g maxTuples) refl
+    where
+      go : (b : Bool) → ltb g maxTuples ≡ b → isLive (cond b (raised g ws) ws) h ≡ (isLive ws h || eqb g h)
+      go true e = raised-isLive g ws (full .small) h (omega (arith, full .long))
+      go false e =
+          let none : eqb g h ≡ false = ne-eqb g h (λ f. omega (arith, ltb-false g maxTuples e)) in
+          sym (or-false (isLive ws h)) ∙ ap (λ (b : Bool). isLive ws h || b) (sym none)
+
+module _ (g : ℕ) (ws : List ℕ) where
+  pub added-inside : g < maxTuples → added g ws ≡ raised g ws
+  unfolding added
+  added-inside h = rw (lt-ltb g maxTuples h)
+
+  pub added-outside : maxTuples ≤ g → added g ws ≡ ws
+  unfolding added
+  added-outside h = rw (le-ltb g maxTuples h)
+
+  pub added-length : length (added g ws) ≡ length ws
+  unfolding added
+  added-length = go (ltb g maxTuples)
+    where
+      go : (b : Bool) → length (cond b (raised g ws) ws) ≡ length ws
+      go true = raised-length g ws
+      go false = refl
+
+pub above-lower : (bound g : ℕ) → bound < g + 1 → above bound g ≡ g + 1
+unfolding above
+above-lower bound g h = rw (lt-ltb bound (g + 1) h)
+
+pub above-higher : (bound g : ℕ) → g + 1 ≤ bound → above bound g ≡ bound
+unfolding above
+above-higher bound g h = rw (le-ltb bound (g + 1) h)
+
+-- a number is not below the bound with g where it is neither below the bound nor up to g
+pub above-leb : (bound g n : ℕ) → leb (above bound g) n ≡ (leb bound n && ltb g n)
+unfolding above
+above-leb bound g n = go (ltb bound (g + 1)) refl
+  where
+    go : (b : Bool) → ltb bound (g + 1) ≡ b → leb (cond b (g + 1) bound) n ≡ (leb bound n && ltb g n)
+    go true e =
+        iff-eq (leb (g + 1) n) (leb bound n && ltb g n)
+        (λ f. and-intro (le-leb bound n (omega (arith, ltb-true bound (g + 1) e, leb-true (g + 1) n f))) (lt-ltb g n (omega (arith, leb-true (g + 1) n f))))
+        (λ f. le-leb (g + 1) n (omega (arith, ltb-true g n (and-right (leb bound n) (ltb g n) f))))
+    go false e =
+        iff-eq (leb bound n) (leb bound n && ltb g n)
+        (λ f. and-intro f (lt-ltb g n (omega (arith, ltb-false bound (g + 1) e, leb-true bound n f))))
+        (λ f. and-left (leb bound n) (ltb g n) f)
+
+-- The words and the bound are those of the ids before place i, and with those from there on of all that are listed.
+pub record Filled (ids words : List ℕ) (bound i : ℕ) : Type 0 where
   pub place : i ≤ length ids
   pub full : Full words
   pub rest : (g : ℕ) → g < maxTuples → (isLive words g || elem g (drop i ids)) ≡ elem g ids
+  pub high : (n : ℕ) → (leb bound n && below n (drop i ids)) ≡ below n ids
 
 module _ (ids : List ℕ) where
-  pub filled-start : Filled ids (replicate 64 0) 0
+  pub filled-start : Filled ids (replicate 64 0) 0 0
   filled-start =
       record {
         place = omega arith;
         full = blank-full;
         rest = λ g h. ap (λ (b : Bool). b || elem g ids) (none-isLive 64 g);
+        high = λ n. ap (λ (b : Bool). b && below n ids) (le-leb 0 n (omega arith));
       }
 
-  module _ (words : List ℕ) (i : ℕ) (f : Filled ids words i) where
+  module _ (words : List ℕ) (bound i : ℕ) (f : Filled ids words bound i) where
     next : i < length ids → (g : ℕ) → (eqb (getD ids i 0) g || elem g (drop (i + 1) ids)) ≡ elem g (drop i ids)
     next h g = rw (drop-cons ids i 0 h, add-one, eqb-sym (getD ids i 0) g)
 
-    pub filled-next : (final : List ℕ) → i < length ids → final ≡ raised (getD ids i 0) words → Filled ids final (i + 1)
-    filled-next final h e =
-        let x = getD ids i 0 in
-        let raise : Filled ids (raised x words) (i + 1) =
-        record {
+    next-below : i < length ids → (n : ℕ) → (ltb (getD ids i 0) n && below n (drop (i + 1) ids)) ≡ below n (drop i ids)
+    next-below h n = rw (drop-cons ids i 0 h, add-one)
+
+    pub filled-next : (final : List ℕ) (higher x : ℕ) → i < length ids → x ≡ getD ids i 0 → final ≡ added x words → higher ≡ above bound x → Filled ids final higher (i + 1)
+    filled-next final higher x h at e k =
+        let added-one : Filled ids (added x words) (above bound x) (i + 1) =
+        rw at record {
           place = omega arith;
-          full = raised-full x words (f .full);
+          full = added-full (getD ids i 0) words (f .full);
           rest =
               λ g l.
-              ap (λ (b : Bool). b || elem g (drop (i + 1) ids)) (raised-isLive x words (f .full .small) g (omega (arith, f .full .long)))
-              ∙ or-assoc (isLive words g) (eqb x g) (elem g (drop (i + 1) ids))
+              ap (λ (b : Bool). b || elem g (drop (i + 1) ids)) (added-isLive (getD ids i 0) words (f .full) g l)
+              ∙ or-assoc (isLive words g) (eqb (getD ids i 0) g) (elem g (drop (i + 1) ids))
               ∙ ap (λ (b : Bool). isLive words g || b) (next h g)
               ∙ f .rest g l;
+          high =
+              λ n.
+              ap (λ (b : Bool). b && below n (drop (i + 1) ids)) (above-leb bound (getD ids i 0) n)
+              ∙ and-assoc (leb bound n) (ltb (getD ids i 0) n) (below n (drop (i + 1) ids))
+              ∙ ap (λ (b : Bool). leb bound n && b) (next-below h n)
+              ∙ f .high n;
         }
         in
-        rw e raise
+        rw (e, k) added-one
 
-    pub filled-end : length ids ≤ i → Holds words (λ (g : ℕ). elem g ids)
-    filled-end past g h =
+    pub filled-end : length ids ≤ i → Lists (record { words = words; bound = bound }) ids
+    filled-end past =
         let none : drop i ids ≡ [] = drop-of-length-le ids past in
-        sym (or-false (isLive words g)) ∙ ap (λ (xs : List ℕ). isLive words g || elem g xs) (sym none) ∙ f .rest g h
+        record {
+          held = λ g h. sym (or-false (isLive words g)) ∙ ap (λ (xs : List ℕ). isLive words g || elem g xs) (sym none) ∙ f .rest g h;
+          highest = λ n. sym (and-true (leb bound n)) ∙ ap (λ (xs : List ℕ). leb bound n && below n xs) (sym none) ∙ f .high n;
+        }
 
 -- ---- Words cut
 

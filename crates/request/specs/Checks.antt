@@ -9,7 +9,6 @@ use Rattle.model.specs.Limits.{variableCount}
 use Rattle.model.specs.Request.{Instance}
 use Rattle.model.specs.Fault.{Fault, firstFault, refusal, instanceFaults, wordsFault}
 use Rattle.layout.specs.Starts.{startsOf}
-use Rattle.combination.specs.Proper.{below}
 use Rattle.request.specs.declared.checks.Opening.{Opening}
 
 -- the faults 2 to 11: of test, on so many live words
@@ -21,9 +20,9 @@ pub record Opened (o : Opening) (faults : List Fault) (Rs : List Relation) : Typ
   pub fault : o .fault ≡ refusal (firstFault faults)
   pub starts : o .fault ≡ 0 → o .starts ≡ startsOf Rs
 
--- the number of the fault 13, or 0: an id is not below the number of tuples
-abbrev pub idsRefusal : ℕ → List ℕ → ℕ
-idsRefusal tuples ids = refusal (firstFault ((13, not (below tuples ids)) ∷ []))
+-- the number of the fault 13, or 0: the ids are not all below the number of tuples, where bound is the least number above all
+abbrev pub idsRefusal : ℕ → ℕ → ℕ
+idsRefusal tuples bound = refusal (firstFault ((13, ltb tuples bound) ∷ []))
 
 -- the number of the fault 14, or 0: x is no variable
 abbrev pub variableRefusal : ℕ → ℕ

@@ -1,17 +1,21 @@
 -- The ids that a change removes, as words, and the live words without them.
 use mathlib.Core.Path.{_≡_}
-use mathlib.Core.Bool.{Bool, false, _&&_, _||_}
+use mathlib.Core.Bool.{Bool, false, _&&_, _||_, cond}
 use mathlib.Core.List.{List}
 use Prim.Native.Nat.{ℕ, _+_, _*_, _^_, _≤_, _<_}
 use lib.Dec.{leb, ltb}
 use lib.ListN.{length, getD}
 use Rattle.model.specs.Limits.{maxTuples, wordBits}
+use Rattle.model.specs.Lists.{elem}
 use Rattle.model.specs.TupleSet.{without}
 use Rattle.model.specs.Network.{Network, total}
-use Rattle.model.specs.LiveWords.{isLive, living, written}
+use Rattle.model.specs.LiveWords.{isLive, living, written, raised}
 use Rattle.model.specs.Request.{Change, removes}
 use Rattle.layout.specs.Starts.{tupleStart}
-use Rattle.layout.specs.Setting.{Lists, networkIn}
+use Rattle.layout.specs.Setting as layout
+use Rattle.layout.specs.Setting.{networkIn}
+use Rattle.combination.specs.Proper.{below}
+use Rattle.request.specs.declared.removal.Ids.{Ids}
 
 -- every word is a number of 64 bits
 abbrev pub Small : List ℕ → Type 0
@@ -26,6 +30,24 @@ pub record Full (ws : List ℕ) : Type 0 where
 abbrev pub Holds : List ℕ → (ℕ → Bool) → Type 0
 Holds ws p = (g : ℕ) → g < maxTuples → isLive ws g ≡ p g
 
+-- the words with id g set, if they have a bit for it
+unfoldable pub added : ℕ → List ℕ → List ℕ
+added g ws = cond (ltb g maxTuples) (raised g ws) ws
+
+-- the least number above id g and what is below bound
+unfoldable pub above : ℕ → ℕ → ℕ
+above bound g = cond (ltb bound (g + 1)) (g + 1) bound
+
+-- The ids of a list, as words and by the least number above all.
+pub record Lists (r : Ids) (ids : List ℕ) : Type 0 where
+  pub held : Holds (r .words) (λ (g : ℕ). elem g ids)
+  pub highest : (n : ℕ) → leb (r .bound) n ≡ below n ids
+
+-- They are those of some list.
+pub record Gathered (r : Ids) : Type 0 where
+  pub ids : List ℕ
+  pub lists : Lists r ids
+
 -- id g is a tuple of the network's that the change removes
 abbrev pub removedBy : Network → Change → ℕ → Bool
 removedBy N change g = ltb g (total N) && removes N change g
@@ -35,7 +57,7 @@ abbrev pub between : ℕ → ℕ → ℕ → Bool
 between start end g = leb start g && ltb g end
 
 -- .. a tuple of relation r
-abbrev pub removedIn : Lists → ℕ → Change → ℕ → Bool
+abbrev pub removedIn : layout.Lists → ℕ → Change → ℕ → Bool
 removedIn L r change g = between (tupleStart (L .starts) r) (tupleStart (L .starts) (r + 1)) g && removes (networkIn L) change g
 
 -- The words vs are ws with the ids that pass besides.

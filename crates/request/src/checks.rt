@@ -5,7 +5,6 @@ ghost use Rattle.model.specs.Fault.{networkFaults, instanceFaults, faultsOn};
 ghost use Rattle.layout.specs.Lent.{entry};
 ghost use Rattle.layout.specs.Shape.{relationsOf, networkOf, instanceOf};
 ghost use Rattle.request.specs.Checks.{Opened, testFaultsOn, idsRefusal, variableRefusal};
-use combination::all_below;
 use combination::needed;
 use combination::supports_fault;
 use combination::words_fault;
@@ -101,11 +100,11 @@ pub fn checked(
     Opening { fault, starts }
 }
 
-// 13 if an id listed is not below the number of tuples, or 0.
-pub fn ids_fault(tuples: u16, ids: &[u16]) -> u8
-    ensures { λ f. ⌜ f ≡ idsRefusal tuples (entry ids) ⌝ }
+// 13 if the number of tuples is below the least number above all ids, or 0.
+pub fn ids_fault(tuples: u16, bound: usize) -> u8
+    ensures { λ f. ⌜ f ≡ idsRefusal tuples bound ⌝ }
 {
-    if !all_below(wide(tuples), ids) {
+    if wide(tuples) < bound {
         return refusal::ID;
     }
     0

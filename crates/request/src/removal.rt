@@ -1,15 +1,13 @@
 // The ids that a change removes, as words, and the live words without them.
 ghost use mathlib.Core.Path.{_≡_};
-ghost use mathlib.Core.Bool.{true};
-ghost use Prim.Native.Nat.{ℕ, _<_};
-ghost use Rattle.model.specs.Limits.{maxRelations, maxTuples};
-ghost use Rattle.model.specs.Lists.{elem};
+ghost use Prim.Native.Nat.{_<_};
+ghost use lib.ListN.{length};
+ghost use Rattle.model.specs.Limits.{maxRelations};
 ghost use Rattle.model.specs.LiveWords.{isLive};
 ghost use Rattle.model.specs.Request.{choose};
 ghost use Rattle.layout.specs.Lent.{entry, exit};
 ghost use Rattle.layout.specs.Setting.{lists, networkIn, Laid};
-ghost use Rattle.combination.specs.Proper.{below};
-ghost use Rattle.request.specs.Removal.{Full, Holds, removedBy, removedIn, Added, Room, withoutIds};
+ghost use Rattle.request.specs.Removal.{added, above, Lists, Full, Holds, removedBy, removedIn, Added, Room, withoutIds};
 use layout::Starts;
 use layout::column_of;
 use layout::fit;
@@ -21,21 +19,41 @@ use layout::wide;
 use live::WORDS;
 use live::Words;
 use live::set;
+use model::MAX_TUPLES;
 use model::Value;
 use model::WORD_BITS;
 
-// The ids of a list.
-pub fn listed(ids: &[u16]) -> Words
-    requires { ⌜ below maxTuples (now ids) ≡ true ⌝ }
-    ensures { λ removed. ⌜ Holds removed (λ (g : ℕ). elem g (entry ids)) ⌝ }
+// The ids of a list: those below 4,096 as words, and the least number above all.
+pub struct Ids {
+    pub words: Words,
+    pub bound: usize,
+}
+
+// Id g is set, if the words have a bit for it; the bound with it.
+pub fn add(words: &mut [u64], bound: usize, g: u16) -> usize
+    requires { ⌜ length (now words) ≡ 64 ⌝ }
+    ensures { λ b. ⌜ (exit words ≡ added g (entry words)) × (b ≡ above bound g) ⌝ }
 {
-    let mut removed = [0u64; WORDS];
+    let wide_id = wide(g);
+    if wide_id < MAX_TUPLES {
+        set(words, g);
+    }
+    let next = wide_id + 1;
+    if bound < next { next } else { bound }
+}
+
+// The ids of a list.
+pub fn listed(ids: &[u16]) -> Ids
+    ensures { λ r. ⌜ Lists r (entry ids) ⌝ }
+{
+    let mut words = [0u64; WORDS];
+    let mut bound = 0;
     let mut i = 0;
     while i < ids.len() {
-        set(&mut removed, ids[i]);
+        bound = add(&mut words, bound, ids[i]);
         i += 1;
     }
-    removed
+    Ids { words, bound }
 }
 
 // The ids of relation r's tuples with another value than v under variable x are set, and every other bit stays.

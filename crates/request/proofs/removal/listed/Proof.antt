@@ -1,37 +1,29 @@
--- `listed` sets one listed id after the other.
--- From the laws of ids set one after the other.
-use mathlib.Core.Path.{sym}
+-- `listed` adds one listed id after the other.
+-- From the laws of ids added one after the other.
+use mathlib.Core.Path.{refl, sym}
 use Prim.Native.Nat.{_-_}
 use native.Mathlib.Omega.{arith}
 use lib.ListN.{length}
-use Rattle.model.specs.Limits.{maxTuples}
-use Rattle.combination.proofs.Members.{member-below}
 use Rattle.request.proofs.Removed.{Filled, filled-start, filled-next, filled-end}
 use borrow.Author.Needs.{needs}
 use Rattle.request.proofs.removal.listed.Statement.{statement}
 use Rattle.request.proofs.removal.listed.Tie as tie
 
 abbrev Inv-loop : tie.InvT-loop
-Inv-loop ids removed₀ i₀ removed i = Filled ids removed i
+Inv-loop ids words₀ bound₀ i₀ words bound i = Filled ids words bound i
 
 abbrev μ-loop : tie.MeasureT-loop
-μ-loop ids removed₀ i₀ removed i = length ids - i
-
-set-requires : tie.Need-set-requires Inv-loop μ-loop
-set-requires c κs =
-    let turn = c .before .before in
-    let l = turn .before .loop in
-    let start = turn .before .before .before in
-    omega (arith, l .inv .full .long, member-below maxTuples (start .args .ids .now) (l .i) (start .pre) (turn .loop-test .taken))
+μ-loop ids words₀ bound₀ i₀ words bound i = length ids - i
 
 loop-again : tie.Need-loop-again Inv-loop μ-loop
 loop-again c =
-    let turn = c .before .before .before .before in
+    let a = c .before in
+    let turn = a .before .before .before in
     let l = turn .before .loop in
-    filled-next _ (l .removed) (l .i) (l .inv) _ (turn .loop-test .taken) (c .before .set .ensures)
+    filled-next _ (l .words) (l .bound) (l .i) (l .inv) _ _ _ (turn .loop-test .taken) refl (a .add .ensures .0) (a .add .ensures .1)
 
 returns : tie.Need-returns Inv-loop μ-loop
-returns c = let l = c .before .loop in filled-end _ (l .removed) (l .i) (l .inv) (c .loop-test .left)
+returns c = let l = c .before .loop in filled-end _ (l .words) (l .bound) (l .i) (l .inv) (c .loop-test .left)
 
 pub listed-spec : {M : Type 1} → statement M
 listed-spec =
@@ -42,7 +34,7 @@ listed-spec =
     (λ c. filled-start _)
     (λ c. sym (c .before .before .loop .inv .full .long))
     (λ c. search needs) (λ c. search needs)
-    set-requires
+    (λ c κs. c .before .before .before .loop .inv .full .long)
     (λ c. search needs) (λ c. search needs)
     loop-again
     returns)
