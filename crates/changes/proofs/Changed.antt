@@ -27,7 +27,7 @@ use Rattle.layout.specs.declared.Shape.{Shape}
 use Rattle.layout.specs.Shape.{relationsOf, instanceOf}
 use Rattle.layout.specs.Starts.{outline}
 use Rattle.layout.specs.Setting.{Setting, network, listed, instanceIn, Sound}
-use Rattle.layout.proofs.Framed.{tuples-few}
+use Rattle.layout.proofs.SoundStarts.{tuples-few}
 use Rattle.layout.proofs.Outline.{answerFor-outline}
 use Rattle.request.specs.declared.checks.Opening.{Opening}
 use Rattle.request.specs.Checks.{Opened, testFaultsOn}

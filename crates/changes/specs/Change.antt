@@ -10,7 +10,7 @@ use Rattle.model.specs.Consistency.{filtered}
 use Rattle.model.specs.LiveWords.{isLive, living}
 use Rattle.model.specs.Request.{Change, withdraw, Instance, combinationsOf}
 use Rattle.model.specs.Reply.{Reply, leaving, reply, request, replied}
-use Rattle.layout.specs.Lent.{Loan, entry, exit}
+use Rattle.layout.specs.Loan.{Loan, entry, exit}
 use Rattle.layout.specs.Setting.{Setting, network, instanceIn, Sound}
 use Rattle.engine.specs.Work as engine
 use Rattle.request.specs.declared.removal.Ids.{Ids}

@@ -1,6 +1,6 @@
 // The change calls: filter, withdraw and choose. Each fills the set of ids that it removes; `change` does the rest for all of them.
 ghost use Rattle.model.specs.Request.{filter, withdraw, choose};
-ghost use Rattle.layout.specs.Lent.{entry};
+ghost use Rattle.layout.specs.Loan.{entry};
 ghost use Rattle.layout.specs.Shape.{instanceOf};
 ghost use Rattle.layout.specs.Setting.{setting};
 ghost use Rattle.request.specs.Removal.{Gathered};

@@ -15,14 +15,13 @@ use Rattle.model.specs.declared.Relation.{Relation}
 use Rattle.model.specs.Lists.{all, pairwise, elem}
 use Rattle.model.specs.Network.{noRelation, variablesIn, before, scopeOf}
 use Rattle.model.specs.LiveWords.{isSet}
-use Rattle.model.specs.Fault.{properScope, different}
+use Rattle.model.specs.Fault.{different}
 use Rattle.model.proofs.Bools.{and-left}
-use Rattle.model.proofs.Lists.{all-at, mem-from}
 use Rattle.live.proofs.Bits.{isSet-high}
 use Rattle.layout.specs.Starts.{recordsIn}
-use Rattle.layout.specs.Setting.{Lists, networkIn, Laid}
-use Rattle.layout.proofs.Framed.{relations-few}
-use Rattle.layout.proofs.Places.{sound}
+use Rattle.layout.specs.Setting.{Lists, networkIn, SoundLists}
+use Rattle.layout.proofs.SoundStarts.{relations-few}
+use Rattle.layout.proofs.Inside.{scope-proper}
 use Rattle.combination.specs.Masks.{Masks}
 
 -- The sets of the relations before r are found, and the others are empty.
@@ -45,13 +44,13 @@ found-start L =
     at s (yes h) = getD-replicate {A = ℕ} 64 s 0 0 h
     at s (no h) = let l : 64 ≤ s = omega arith in List·getD-eq-default {A = ℕ} (replicate 64 0) 0 l
 
-module _ {L : Lists} (laid : Laid L) where
+module _ {L : Lists} (laid : SoundLists L) where
   -- the variables of a scope are below 64
   pub scope-variables : (r : ℕ) → r < length (recordsIn (L .starts)) → all (λ (x : ℕ). ltb x variableCount) (scopeOf (networkIn L) r) ≡ true
   scope-variables r h =
       let scope = scopeOf (networkIn L) r in
       and-left (all (λ (x : ℕ). ltb x variableCount) scope) (pairwise different scope)
-      (all-at (λ (s : ℕ). properScope (scopeOf (networkIn L) s)) _ (sound laid .scopes) (mem-from 0 (length (recordsIn (L .starts))) r (omega arith) (omega arith)))
+      (scope-proper laid r h)
 
   none : (s x : ℕ) → length (recordsIn (L .starts)) ≤ s → elem x (scopeOf (networkIn L) s) ≡ elem x (take 0 (L .variables))
   unfolding scopeOf

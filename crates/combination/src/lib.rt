@@ -9,9 +9,9 @@ ghost use Rattle.model.specs.LiveWords.{isSet};
 ghost use Rattle.model.specs.Combination.{combinations};
 ghost use Rattle.model.specs.Consistency.{needed};
 ghost use Rattle.model.specs.Fault.{combinationFaults, firstFault, refusal};
-ghost use Rattle.layout.specs.Lent.{entry};
-ghost use Rattle.layout.specs.Starts.{outline, Framed};
-ghost use Rattle.layout.specs.Setting.{lists, networkIn, setting, instanceIn, Laid, Paired};
+ghost use Rattle.layout.specs.Loan.{entry};
+ghost use Rattle.layout.specs.Starts.{outline, SoundStarts};
+ghost use Rattle.layout.specs.Setting.{lists, networkIn, setting, instanceIn, SoundLists, SoundPairs};
 ghost use Rattle.combination.specs.Masks.{Masks, meets, connectedIn, known, absorbed};
 ghost use Rattle.combination.specs.Proper.{below, proper};
 ghost use Rattle.combination.specs.Refusals.{wordsRefusal, supportsRefusal};
@@ -47,7 +47,7 @@ fn mask_of(scope: &[u16]) -> u64
 
 // Of each relation the set of its scope's variables.
 fn masks(variables: &[u16], values: &[u16], starts: &Starts) -> Masks
-    requires { ⌜ Laid (lists now variables values starts) ⌝ }
+    requires { ⌜ SoundLists (lists now variables values starts) ⌝ }
     ensures { λ ms. ⌜ Masks (networkIn (lists entry variables values starts)) ms ⌝ }
 {
     let count = relation_count(starts);
@@ -189,7 +189,7 @@ fn all_connected(masks: &Masks, m: usize, members: &[u16]) -> bool
 
 // The number of the combinations' first fault, 7 to 10, or 0.
 pub fn fault(variables: &[u16], values: &[u16], starts: &Starts, m: u16, members: &[u16]) -> u8
-    requires { ⌜ Laid (lists now variables values starts) ⌝ }
+    requires { ⌜ SoundLists (lists now variables values starts) ⌝ }
     ensures { λ f. ⌜ f ≡ refusal (firstFault (combinationFaults (instanceIn (setting entry variables values starts members m)))) ⌝ }
 {
     let each = wide(m);
@@ -217,7 +217,7 @@ pub fn fault(variables: &[u16], values: &[u16], starts: &Starts, m: u16, members
 
 // How many numbers the supports need.
 pub fn needed(starts: &Starts, members: &[u16], m: u16) -> usize
-    requires { ⌜ Framed (now starts) × Paired (now starts) m (now members) ⌝ }
+    requires { ⌜ SoundStarts (now starts) × SoundPairs (now starts) m (now members) ⌝ }
     ensures { λ n. ⌜ n ≡ needed (outline (entry starts)) (combinations m (entry members)) ⌝ }
 {
     let mut tuples = 0;

@@ -20,7 +20,7 @@ use Rattle.model.proofs.Lists.{here}
 use Rattle.model.proofs.Fault.{no-fault-here, no-fault-at, firstFault-front, firstFault-back}
 use Rattle.layout.specs.declared.Shape.{Shape}
 use Rattle.layout.specs.Shape.{relationsOf, networkOf, instanceOf}
-use Rattle.network.specs.Layout.{starts, tabled, Laid}
+use Rattle.network.specs.Layout.{starts, tabled, SoundLists}
 use Rattle.network.proofs.Tabled.{laid-tabled, tabled-laid}
 use Rattle.request.specs.Checks.{testFaultsOn}
 use Rattle.consistency.specs.Setting.{setting, Sound}
@@ -59,7 +59,7 @@ module _ (S : Shape) (variables values vs ts ws words members : List ℕ) (m : �
   abbrev I : Instance
   I = instanceOf S variables values m members
 
-  laid : Laid N vs ws
+  laid : SoundLists N vs ws
   laid = record { faultless = network-sound I (length words) e; variables = ev; values = ew }
 
   pub described : tabled variables values vs ws ≡ N

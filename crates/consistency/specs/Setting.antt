@@ -12,7 +12,7 @@ use Rattle.model.specs.Combination.{Combination, combinations, pairCombination,
 use Rattle.model.specs.Support.{candidates, isSupport}
 use Rattle.model.specs.LiveWords.{living}
 use Rattle.model.specs.Fault.{properMembers}
-use Rattle.network.specs.Layout.{tabled, Laid, starts}
+use Rattle.network.specs.Layout.{tabled, SoundLists, starts}
 use Rattle.support.specs.Search.{Search, searching}
 
 -- A network's lists and tables, the live words, and the members of the combinations, m each.
@@ -51,7 +51,7 @@ listed G = combinations (G .m) (G .members)
 -- What the test asks: the tables of a network without network faults, words for all its tuples, and whole combinations of
 -- members that exist and rise.
 pub record Sound (G : Setting) : Type 0 where
-  pub laid : Laid (network G) (G .variableStarts) (G .valueStarts)
+  pub laid : SoundLists (network G) (G .variableStarts) (G .valueStarts)
   pub tuples : G .tupleStarts ≡ starts tuplesIn (network G .relations)
   pub words : total (network G) ≤ wordBits * length (G .words)
   pub positive : 0 < G .m

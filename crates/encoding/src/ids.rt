@@ -1,5 +1,5 @@
 // Ids as bytes: a list of any length, read where it lies.
-ghost use Rattle.layout.specs.Lent.{entry};
+ghost use Rattle.layout.specs.Loan.{entry};
 ghost use Rattle.request.specs.Removal.{Lists};
 ghost use Rattle.wire.specs.Entries.{entries16};
 use live::WORDS;

@@ -31,7 +31,7 @@ use Rattle.layout.specs.Setting.{Setting, network, liveIn}
 use Rattle.layout.specs.Pairs.{combinationOf, sizeOf, tupleId, placeOf, held}
 use Rattle.engine.specs.Work.{Candidate, Bound, Renewed, Seeker}
 use Rattle.layout.proofs.Pairs.{combination-length, member-at, place-within}
-use Rattle.layout.proofs.Framed.{tuples-few}
+use Rattle.layout.proofs.SoundStarts.{tuples-few}
 use Rattle.layout.proofs.Pairs.{member-below, base-within, combination-proper, start-of-member, place-below}
 use Rattle.engine.proofs.Candidates.{own-index, none-earlier}
 

@@ -18,7 +18,7 @@ use Rattle.layout.specs.Setting.{Setting, network, Sound, liveIn}
 use Rattle.layout.specs.Pairs.{sizeOf, tupleId, placeOf}
 use Rattle.engine.specs.Work.{Working, Visited}
 use Rattle.layout.proofs.Pairs.{place-within}
-use Rattle.layout.proofs.Framed.{tuples-few, tuple-start, tuple-end}
+use Rattle.layout.proofs.SoundStarts.{tuples-few, tuple-start, tuple-end}
 use Rattle.layout.proofs.Pairs.{member-exists, member-below, tuple-below}
 use Rattle.engine.proofs.Steps.{Small}
 use Rattle.engine.proofs.Visiting.{VisitOf, going-start, going-skip, going-end}

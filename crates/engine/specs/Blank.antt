@@ -9,8 +9,8 @@ use Rattle.model.specs.Network.{Network, size, total, firstId}
 use Rattle.model.specs.Combination.{combinations, pairMember}
 use Rattle.model.specs.Consistency.{needed, supportStart}
 use Rattle.model.specs.LiveWords.{isLive}
-use Rattle.layout.specs.Starts.{outline, Framed}
-use Rattle.layout.specs.Setting.{Paired}
+use Rattle.layout.specs.Starts.{outline, SoundStarts}
+use Rattle.layout.specs.Setting.{SoundPairs}
 use Rattle.worklist.specs.Supports.{PairsBegin}
 
 -- The m numbers at a place are as before where tuple g lives, and 65,535 each where it is dead.
@@ -41,8 +41,8 @@ pub record BlankAsks (m start first end : ℕ) (words numbers : List ℕ) : Type
 
 -- What the numbers of all pairs ask.
 pub record BlankAllAsks (starts : List ℕ) (m : ℕ) (members begins words numbers : List ℕ) : Type 0 where
-  pub framed : Framed starts
-  pub paired : Paired starts m members
+  pub framed : SoundStarts starts
+  pub paired : SoundPairs starts m members
   pub places : PairsBegin starts m members begins
   pub enough : total (outline starts) ≤ wordBits * length words
   pub room : needed (outline starts) (combinations m members) ≤ length numbers

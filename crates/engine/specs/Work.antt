@@ -16,7 +16,7 @@ use Rattle.model.specs.Consistency.{filtered, supportList, needed}
 use Rattle.model.specs.LiveWords.{isLive, cleared, written}
 use Rattle.narrowing.specs.Index.{Indexed, Long}
 use Rattle.worklist.specs.Supports.{SupportsFit, PairsBegin}
-use Rattle.layout.specs.Lent.{Loan, entry, exit}
+use Rattle.layout.specs.Loan.{Loan, entry, exit}
 use Rattle.layout.specs.Setting.{Setting, network, listed, liveIn, Sound}
 use Rattle.layout.specs.Pairs.{combinationOf, sizeOf, tupleId, placeOf, held}
 

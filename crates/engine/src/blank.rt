@@ -1,7 +1,7 @@
 // The numbers of dead tuples in the support list: 65,535 each.
 ghost use Prim.Native.Nat.{_-_};
 ghost use lib.ListN.{length};
-ghost use Rattle.layout.specs.Lent.{entry, exit};
+ghost use Rattle.layout.specs.Loan.{entry, exit};
 ghost use Rattle.layout.specs.Starts.{outline};
 ghost use Rattle.engine.specs.Blank.{Blank, Blanked, BlankAsks, BlankAllAsks};
 use layout::Starts;

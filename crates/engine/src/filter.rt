@@ -1,5 +1,5 @@
 // Visits until no pair waits: what lives then is the largest consistent set.
-ghost use Rattle.layout.specs.Lent.{entry, exit};
+ghost use Rattle.layout.specs.Loan.{entry, exit};
 ghost use Rattle.layout.specs.Setting.{setting, Sound};
 ghost use Rattle.narrowing.specs.Index.{Full};
 ghost use Rattle.engine.specs.Work.{WordArray, Room, Prepared, SoundShort, Filters};

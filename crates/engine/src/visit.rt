@@ -1,5 +1,5 @@
 // A visit of one pair of combination and member: each live tuple of the member gets its first support, or is removed.
-ghost use Rattle.layout.specs.Lent.{entry, exit};
+ghost use Rattle.layout.specs.Loan.{entry, exit};
 ghost use Rattle.layout.specs.Setting.{setting};
 ghost use Rattle.narrowing.specs.Index.{Long};
 ghost use Rattle.engine.specs.Work.{WordArray, RenewAt, Renewed, VisitAt, Visited};

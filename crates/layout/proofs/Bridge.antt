@@ -22,15 +22,15 @@ use Rattle.model.proofs.Lists.{here}
 use Rattle.model.proofs.Fault.{Faultless, faultless, no-fault-at, firstFault-front, firstFault-back}
 use Rattle.layout.specs.declared.Shape.{Shape}
 use Rattle.layout.specs.Shape.{relationsOf, networkOf, instanceOf}
-use Rattle.layout.specs.Starts.{startsOf, recordsIn, Bounded, Framed}
-use Rattle.layout.specs.Setting.{Lists, networkIn, Laid, Setting, Paired, Sound}
+use Rattle.layout.specs.Starts.{startsOf, recordsIn, Bounded, SoundStarts}
+use Rattle.layout.specs.Setting.{Lists, networkIn, SoundLists, Setting, SoundPairs, Sound}
 use Rattle.layout.proofs.Starts.{recordsIn-of}
 
 pub faultless-bounded : (N : Network) → Faultless N → Bounded (N .relations)
 faultless-bounded N f = record { relations = f .relations; widths = f .widths; tuples = f .tuples }
 
 -- bounded records have framed starts
-pub framed-of : (Rs : List Relation) → Bounded Rs → Framed (startsOf Rs)
+pub framed-of : (Rs : List Relation) → Bounded Rs → SoundStarts (startsOf Rs)
 framed-of Rs b =
     let e = sym (recordsIn-of Rs (b .relations)) in
     record { bounded = subst Bounded e b; are = ap startsOf e }
@@ -48,7 +48,7 @@ module _ (S : Shape) (variables values : List ℕ) (sound : firstFault (networkF
   network-is =
       ap (λ (Rs : List Relation). record { relations = Rs; variables = variables; values = values }) (recordsIn-of (relationsOf S) (shape-bounded .relations))
 
-  pub laid-of : Laid listsOf
+  pub laid-of : SoundLists listsOf
   laid-of =
       record {
         framed = framed-of (relationsOf S) shape-bounded;
@@ -77,7 +77,7 @@ module _ (I : Instance) (sound : firstFault (combinationFaults I) ≡ none) wher
   whole : listCount * I .m ≡ length (I .members)
   whole = omega (arith, listed-whole, div-add-mod' (length (I .members)) (I .m))
 
-  pub paired-of : (xs : List ℕ) → recordsIn xs ≡ I .network .relations → Paired xs (I .m) (I .members)
+  pub paired-of : (xs : List ℕ) → recordsIn xs ≡ I .network .relations → SoundPairs xs (I .m) (I .members)
   paired-of xs e =
       record {
         list = record {

@@ -4,9 +4,9 @@
 use mathlib.Core.Path.{_≡_, sym, _∙_, ap, subst}
 use mathlib.Core.Bool.{true}
 use mathlib.Core.Logic.{_⊎_, inl, inr}
-use mathlib.Core.List.{List, List·Memᴰ, Memᴰ·cast}
+use mathlib.Core.List.{List, [], List·Memᴰ, Memᴰ·cast}
 use Prim.Native.Nat.{ℕ, suc, _+_, _-_, _*_, _/_, _%_, _≤_, _<_}
-use native.Mathlib.Nat.{div-lt-iff-lt-mul, mod-lt, mul-le-mul-right}
+use native.Mathlib.Nat.{zero-mul, div-lt-iff-lt-mul, mod-lt, mul-le-mul-right}
 use native.Mathlib.Numerals.{add-one}
 use native.Mathlib.Decide.{decLt, ℕ-discrete}
 use native.Mathlib.Omega.{arith}
@@ -24,15 +24,15 @@ use Rattle.model.proofs.Bools.{and-left, and-right}
 use Rattle.model.proofs.Lists.{all-at}
 use Rattle.model.proofs.Network.{relationOf-at, before-within}
 use Rattle.model.proofs.Combination.{combination-within, pair-length, pair-listed, pair-place, pair-member}
-use Rattle.model.proofs.SupportList.{supportStart-suc, supportStart-mono, supportStart-within}
-use Rattle.layout.specs.Starts.{tupleStart, recordsIn, outline, Framed}
-use Rattle.layout.specs.Setting.{Setting, network, listed, Paired, Sound}
+use Rattle.model.proofs.SupportList.{needed-pairs, supportStart-suc, supportStart-mono, supportStart-within}
+use Rattle.layout.specs.Starts.{tupleStart, recordsIn, outline, SoundStarts}
+use Rattle.layout.specs.Setting.{Setting, network, listed, SoundPairs, Sound}
 use Rattle.layout.specs.Pairs.{combinationOf, sizeOf, tupleId, placeOf}
-use Rattle.layout.proofs.Framed.{relations-few, tuple-start, size-in}
+use Rattle.layout.proofs.SoundStarts.{relations-few, tuple-start, size-in}
 
 -- ---- By the starts and the members
 
-module _ {xs : List ℕ} (framed : Framed xs) {m : ℕ} {members : List ℕ} (paired : Paired xs m members) where
+module _ {xs : List ℕ} (framed : SoundStarts xs) {m : ℕ} {members : List ℕ} (paired : SoundPairs xs m members) where
   module _ (p : ℕ) (h : p < length members) where
     abbrev base : ℕ
     base = p / m * m
@@ -150,3 +150,14 @@ module _ {G : Setting} (sound : Sound G) where
       go : Dec (q ≡ p) → (placeOf G q y + G .m ≤ placeOf G p x) ⊎ (placeOf G p x + G .m ≤ placeOf G q y)
       go (yes e) = subst (λ (k : ℕ). (placeOf G k y + G .m ≤ placeOf G p x) ⊎ (placeOf G p x + G .m ≤ placeOf G k y)) (sym e) (apart-row p y x (decLt y x) (d e))
       go (no n) = apart-pair q y p x (decLt q p) n hq hp ky kx
+
+-- ---- The first pair's numbers, and how many there are
+
+-- the first pair's numbers begin at nought
+pub pair-first : (xs : List ℕ) (m : ℕ) (members : List ℕ) → supportStart (outline xs) m members 0 ≡ 0
+unfolding supportStart
+pair-first xs m members = zero-mul m
+
+-- behind the last pair stands how many numbers there are
+pub pairs-end : {xs : List ℕ} {m : ℕ} {members : List ℕ} → SoundPairs xs m members → supportStart (outline xs) m members (length members) ≡ needed (outline xs) (combinations m members)
+pairs-end {xs} {m} {members} paired = sym (needed-pairs (outline xs) [] m members (paired .list .positive) (paired .list .whole))

@@ -15,15 +15,15 @@ use Rattle.model.proofs.Fault.{Faultless, faultless}
 use Rattle.layout.specs.declared.Place.{Place}
 use Rattle.layout.specs.Starts.{variableStart, tupleStart, valueStart, recordsIn}
 use Rattle.layout.specs.Places.{widthIn, placeAt}
-use Rattle.layout.specs.Setting.{Lists, networkIn, Laid}
-use Rattle.layout.proofs.Framed.{relations-few, variable-start, value-start, value-end, width-in, size-in, scope-rises, columns-few}
+use Rattle.layout.specs.Setting.{Lists, networkIn, SoundLists}
+use Rattle.layout.proofs.SoundStarts.{relations-few, variable-start, value-start, value-end, width-in, size-in, scope-rises, columns-few}
 
 pub length-part : (from to : ℕ) (l : List ℕ) → from ≤ to → to ≤ length l → length (take (to - from) (drop from l)) ≡ to - from
 length-part from to l h k =
     let e : length (drop from l) ≡ length l - from = length-drop from l in
     length-take-le (to - from) (drop from l) (omega arith)
 
-module _ {L : Lists} (laid : Laid L) where
+module _ {L : Lists} (laid : SoundLists L) where
   abbrev N : Network
   N = networkIn L
 

@@ -1,5 +1,5 @@
 -- The definitions that the contracts cite.
-pub mod Lent
+pub mod Loan
 pub mod Shape
 pub mod Starts
 pub mod Places

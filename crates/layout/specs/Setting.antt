@@ -13,7 +13,7 @@ use Rattle.model.specs.Combination.{Combination, combinations}
 use Rattle.model.specs.LiveWords.{living}
 use Rattle.model.specs.Request.{Instance}
 use Rattle.model.specs.Fault.{properMembers, networkFaults, firstFault}
-use Rattle.layout.specs.Starts.{recordsIn, outline, Framed}
+use Rattle.layout.specs.Starts.{recordsIn, outline, SoundStarts}
 
 -- ---- A network's lists
 
@@ -31,8 +31,8 @@ abbrev pub networkIn : Lists → Network
 networkIn L = record { relations = recordsIn (L .starts); variables = L .variables; values = L .values }
 
 -- A network without the faults 2 to 6, and its starts.
-pub record Laid (L : Lists) : Type 0 where
-  pub framed : Framed (L .starts)
+pub record SoundLists (L : Lists) : Type 0 where
+  pub framed : SoundStarts (L .starts)
   pub faultless : firstFault (networkFaults (networkIn L)) ≡ none
 
 -- ---- With its combinations
@@ -63,14 +63,14 @@ pub record Whole (m : ℕ) (members : List ℕ) : Type 0 where
   pub short : length members ≤ maxPairs
 
 -- Combinations without the faults 7 to 9, of the relations that the starts describe.
-pub record Paired (starts : List ℕ) (m : ℕ) (members : List ℕ) : Type 0 where
+pub record SoundPairs (starts : List ℕ) (m : ℕ) (members : List ℕ) : Type 0 where
   pub list : Whole m members
   pub proper : all (properMembers (outline starts)) (combinations m members) ≡ true
 
 -- An instance without the faults 2 to 9, and its starts.
 pub record Sound (G : Setting) : Type 0 where
-  pub laid : Laid (G .lists)
-  pub paired : Paired (G .lists .starts) (G .m) (G .members)
+  pub laid : SoundLists (G .lists)
+  pub paired : SoundPairs (G .lists .starts) (G .m) (G .members)
 
 -- ---- The live tuples
 

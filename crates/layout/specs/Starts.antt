@@ -70,6 +70,6 @@ pub record Bounded (Rs : List Relation) : Type 0 where
   pub tuples : sum (map tuplesIn Rs) ≤ maxTuples
 
 -- The starts are those of records without the faults 2 to 4.
-pub record Framed (starts : List ℕ) : Type 0 where
+pub record SoundStarts (starts : List ℕ) : Type 0 where
   pub bounded : Bounded (recordsIn starts)
   pub are : starts ≡ startsOf (recordsIn starts)

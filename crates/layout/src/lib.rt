@@ -4,9 +4,9 @@ ghost use Prim.Native.Nat.{_<_};
 ghost use Rattle.model.specs.Limits.{maxRelations};
 ghost use Rattle.model.specs.Network.{total, relationOf};
 ghost use Rattle.model.specs.Agreement.{fit};
-ghost use Rattle.layout.specs.Lent.{entry};
+ghost use Rattle.layout.specs.Loan.{entry};
 ghost use Rattle.layout.specs.Shape.{relationsOf};
-ghost use Rattle.layout.specs.Starts.{table, entryBound, variableStart, tupleStart, valueStart, relationCount, startsOf, outline, Bounded, Framed};
+ghost use Rattle.layout.specs.Starts.{table, entryBound, variableStart, tupleStart, valueStart, relationCount, startsOf, outline, Bounded, SoundStarts};
 ghost use Rattle.layout.specs.Places.{placeAt};
 ghost use Rattle.layout.specs.Columns.{columnOf};
 use model::MAX_RELATIONS;
@@ -116,7 +116,7 @@ pub fn starts_of(shape: Shape) -> Starts
 
 // The relation of the tuple with id g.
 pub fn relation_of(starts: &Starts, g: u16) -> u16
-    requires { ⌜ Framed (now starts) × (g < total (outline (now starts))) ⌝ }
+    requires { ⌜ SoundStarts (now starts) × (g < total (outline (now starts))) ⌝ }
     ensures { λ r. ⌜ r ≡ relationOf (outline (entry starts)) g ⌝ }
 {
     let mut r: u16 = 0;
@@ -128,7 +128,7 @@ pub fn relation_of(starts: &Starts, g: u16) -> u16
 
 // Where the scope of relation r and the values of its tuple x lie.
 pub fn place_of(starts: &Starts, r: u16, x: u16) -> Place
-    requires { ⌜ Framed (now starts) × (r < maxRelations) ⌝ }
+    requires { ⌜ SoundStarts (now starts) × (r < maxRelations) ⌝ }
     ensures { λ p. ⌜ p ≡ placeAt (entry starts) r x ⌝ }
 {
     let scope = variable_start(starts, r);

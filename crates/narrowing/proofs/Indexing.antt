@@ -15,7 +15,7 @@ use Rattle.model.specs.Network.{Network, width, size, firstId, valuesAt}
 use Rattle.model.specs.LiveWords.{isLive}
 use Rattle.model.proofs.Bools.{or-left, or-right}
 use Rattle.layout.specs.Starts.{valueStart}
-use Rattle.layout.specs.Setting.{Lists, networkIn, Laid}
+use Rattle.layout.specs.Setting.{Lists, networkIn, SoundLists}
 use Rattle.layout.proofs.Places.{exists, value-at}
 use Rattle.narrowing.specs.Index.{bucketOf, entryPlace, isIndexed, Indexed, Grows, IndexesTuple, IndexesTuples}
 
@@ -68,7 +68,7 @@ abbrev pub IndexesBelow : Network → ℕ → List ℕ → Type 0
 IndexesBelow N n index =
     (r : ℕ) → r < n → (x c : ℕ) → x < size N r → c < width N r → isIndexed index c (bucketOf (getD (valuesAt N r x) c 0)) (firstId N r + x) ≡ true
 
-module _ {L : Lists} (laid : Laid L) where
+module _ {L : Lists} (laid : SoundLists L) where
   abbrev N : Network
   N = networkIn L
 

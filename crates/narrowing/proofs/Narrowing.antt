@@ -17,7 +17,7 @@ use Rattle.model.proofs.Bools.{and-left, and-intro, or-right, not-both}
 use Rattle.model.proofs.Network.{relationOf-at}
 use Rattle.model.proofs.LiveWords.{nextLive-first}
 use Rattle.model.proofs.Agreement.{cellAt, cellsOf-at, agreeing-clash, clash-unfit, fit-equal}
-use Rattle.layout.specs.Setting.{Lists, networkIn, Laid}
+use Rattle.layout.specs.Setting.{Lists, networkIn, SoundLists}
 use Rattle.layout.proofs.Places.{below-limit, scope-length, values-length}
 use Rattle.narrowing.specs.Index.{bucketOf, isIndexed, Indexed, stays, Narrows, Agreeing, Dead, Narrowed}
 use Rattle.narrowing.proofs.Words.{stays-before, stays-behind}
@@ -57,7 +57,7 @@ module _ (scopeA a scopeB : List ℕ) (i j : ℕ) (widths : length scopeA ≡ le
       go false q = absurd (not-both e (agreeing-clash scopeA a scopeB b i j widths l hi hj (clash-unfit (cellAt scopeA a i) (cellAt scopeB b j) same q)))
 
 -- relation s, by its scope and the values of its tuples
-pub narrows-agreeing : {L : Lists} → Laid L → (let N = networkIn L in (index : List ℕ) → Indexed N index → (r x s start end : ℕ) → start ≡ firstId N s → end ≡ firstId N s + size N s → (xs : List Cell) → xs ≡ cellsOf N (firstId N r + x) → (scope : List ℕ) → scope ≡ scopeOf N s → (before after : List ℕ) → Narrows (λ (b : List ℕ). agreeing xs (cells scope b)) (length scope) index start end before after → Agreeing N r x s before after)
+pub narrows-agreeing : {L : Lists} → SoundLists L → (let N = networkIn L in (index : List ℕ) → Indexed N index → (r x s start end : ℕ) → start ≡ firstId N s → end ≡ firstId N s + size N s → (xs : List Cell) → xs ≡ cellsOf N (firstId N r + x) → (scope : List ℕ) → scope ≡ scopeOf N s → (before after : List ℕ) → Narrows (λ (b : List ℕ). agreeing xs (cells scope b)) (length scope) index start end before after → Agreeing N r x s before after)
 unfolding agree
 narrows-agreeing {L} laid index marks r x s start end es ee xs ex scope ep before after n =
     let N = networkIn L in

@@ -12,7 +12,7 @@ use Rattle.model.specs.Network.{Network, width, size, firstId, valuesAt}
 use Rattle.model.specs.Agreement.{agree}
 use Rattle.model.specs.LiveWords.{isLive}
 use Rattle.model.specs.Edges.{maxWords}
-use Rattle.layout.specs.Setting.{Lists, networkIn, Laid}
+use Rattle.layout.specs.Setting.{Lists, networkIn, SoundLists}
 
 -- how many buckets of values there are: a prime, so that codes that are multiples of ten or of a power of two spread over all
 abbrev pub buckets : ℕ
@@ -125,7 +125,7 @@ Full index = length index ≡ indexWords
 
 -- Tuple x of relation r, which the words are narrowed for, in laid lists with their index.
 pub record Seeks (L : Lists) (index : List ℕ) (r x : ℕ) : Type 0 where
-  pub laid : Laid L
+  pub laid : SoundLists L
   pub indexed : Indexed (networkIn L) index
   pub own : x < size (networkIn L) r
 

@@ -6,8 +6,8 @@ ghost use lib.Dec.{ltb, eqb};
 ghost use lib.ListN.{length};
 ghost use Rattle.model.specs.Limits.{maxRelations, maxWidth, maxTuples};
 ghost use Rattle.model.specs.LiveWords.{isSet, isLive};
-ghost use Rattle.layout.specs.Lent.{entry, exit};
-ghost use Rattle.layout.specs.Setting.{lists, networkIn, Laid};
+ghost use Rattle.layout.specs.Loan.{entry, exit};
+ghost use Rattle.layout.specs.Setting.{lists, networkIn, SoundLists};
 ghost use Rattle.narrowing.specs.Index.{indexWords, indexBits, bucketOf, isIndexed, Indexed, Grows, IndexesTuple, IndexesTuples};
 ghost use Rattle.narrowing.specs.Index.{stays, rowBit, Kept, KeptIds, Agreeing, Others, Long, Full, Seeks, NarrowsMember, NarrowsMembers};
 ghost use Rattle.narrowing.specs.Columns.{NarrowsBy, NarrowsColumn};
@@ -138,7 +138,7 @@ fn index_tuples(values: &[Value], at: usize, width: usize, start: u16, end: u16,
 
 // Every tuple is indexed. A caller lends noughts: an entry that is there already stays.
 pub fn index_all(variables: &[u16], values: &[Value], starts: &Starts, index: &mut Index)
-    requires { ⌜ Full (now index) × Laid (lists now variables values starts) ⌝ }
+    requires { ⌜ Full (now index) × SoundLists (lists now variables values starts) ⌝ }
     ensures { λ _. ⌜ Full (exit index) × Indexed (networkIn (lists entry variables values starts)) (exit index) ⌝ }
 {
     let relations = relation_count(starts);

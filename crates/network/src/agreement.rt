@@ -2,7 +2,7 @@
 ghost use mathlib.Core.Path.{_≡_};
 ghost use lib.ListN.{length};
 ghost use Rattle.model.specs.Agreement.{cells, agreeing};
-ghost use Rattle.layout.specs.Lent.{entry};
+ghost use Rattle.layout.specs.Loan.{entry};
 ghost use Rattle.layout.specs.Setting.{lists};
 ghost use Rattle.network.specs.Tuples.{Two, agreeAt};
 use layout::Starts;

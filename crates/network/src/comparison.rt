@@ -2,7 +2,7 @@
 ghost use mathlib.Core.Path.{_≡_};
 ghost use Rattle.model.specs.Agreement.{agree};
 ghost use Rattle.model.specs.Reply.{comparisonNumbers, compareReply};
-ghost use Rattle.layout.specs.Lent.{entry};
+ghost use Rattle.layout.specs.Loan.{entry};
 ghost use Rattle.layout.specs.Shape.{networkOf};
 ghost use Rattle.layout.specs.Setting.{lists, networkIn};
 ghost use Rattle.network.specs.Tuples.{TwoIds};

@@ -8,7 +8,7 @@ ghost use Rattle.model.specs.Limits.{maxRelations, variableCount};
 ghost use Rattle.model.specs.Lists.{from, sum, all, pairwise};
 ghost use Rattle.model.specs.Network.{variablesIn, tuplesIn, valuesIn};
 ghost use Rattle.model.specs.Fault.{properWidth, within, different, properScope, networkFaults, firstFault, refusal};
-ghost use Rattle.layout.specs.Lent.{entry};
+ghost use Rattle.layout.specs.Loan.{entry};
 ghost use Rattle.layout.specs.Shape.{relationsOf, networkOf};
 ghost use Rattle.network.specs.Scopes.{properScopes};
 use layout::Shape;

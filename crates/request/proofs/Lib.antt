@@ -1,5 +1,4 @@
 -- The laws of the crate's definitions.
-pub mod ForLayout
 pub mod Openings
 pub mod Removed
 pub mod Unlike

@@ -26,7 +26,7 @@ use Rattle.request.specs.declared.removal.Ids.{Ids}
 use Rattle.request.specs.Removal.{Lists, Holds}
 use Rattle.request.proofs.Removed.{withdraw-holds}
 use Rattle.request.specs.Checks.{testFaultsOn, Opened, idsRefusal, variableRefusal}
-use Rattle.request.proofs.ForLayout.{opened-instance, opened-sound}
+use Rattle.layout.proofs.Checked.{opened-instance, opened-sound}
 
 -- ---- Tables
 

@@ -25,12 +25,12 @@ use Rattle.model.proofs.LiveWords.{none-isLive, raised-isLive}
 use Rattle.model.proofs.Request.{choose-without, choose-at}
 use Rattle.layout.specs.Starts.{tupleStart, valueStart, recordsIn}
 use Rattle.layout.specs.Columns.{columnOf}
-use Rattle.layout.specs.Setting.{Lists, networkIn, Laid}
-use Rattle.layout.proofs.Framed.{relations-few, tuple-start, ids-rise}
+use Rattle.layout.specs.Setting.{Lists, networkIn, SoundLists}
+use Rattle.layout.proofs.SoundStarts.{relations-few, tuple-start, ids-rise}
 use Rattle.layout.proofs.Places.{exists, scope-length, values-length, value-at}
 use Rattle.layout.proofs.Columns.{column-found, column-none}
 use Rattle.request.specs.Removal.{Full, Holds, between, removedBy, removedIn, Added}
-use Rattle.request.proofs.ForLayout.{scope-proper, index-below, index-back, value-within}
+use Rattle.layout.proofs.Inside.{scope-proper, index-below, index-back, value-within}
 use Rattle.request.proofs.Removed.{blank-full, raised-full}
 
 -- ---- Ids from one on and below another
@@ -128,7 +128,7 @@ place-next a f g w k h =
     let d : (g - f + 1) * w ≡ (g - f) * w + w = rw add-one (suc-mul (g - f) w) in
     rw e (omega arith)
 
-module _ {L : Lists} (laid : Laid L) (r : ℕ) (h : r < maxRelations) where
+module _ {L : Lists} (laid : SoundLists L) (r : ℕ) (h : r < maxRelations) where
   abbrev N : Network
   N = networkIn L
 
@@ -193,7 +193,7 @@ pub record Unlike (L : Lists) (x v : ℕ) (ws : List ℕ) (r : ℕ) : Type 0 whe
   pub full : Full ws
   pub holds : Holds ws (λ (g : ℕ). between 0 (tupleStart (L .starts) r) g && removes (networkIn L) (choose x v) g)
 
-module _ {L : Lists} (laid : Laid L) (x v : ℕ) where
+module _ {L : Lists} (laid : SoundLists L) (x v : ℕ) where
   pub unlike-start : Unlike L x v (replicate 64 0) 0
   unlike-start =
       record {

@@ -7,7 +7,7 @@ use Rattle.model.specs.Limits.{wordBits}
 use Rattle.model.specs.TupleSet.{TupleSet, count}
 use Rattle.model.specs.Network.{total}
 use Rattle.model.specs.LiveWords.{living}
-use Rattle.layout.specs.Starts.{outline, Framed}
+use Rattle.layout.specs.Starts.{outline, SoundStarts}
 
 -- the live tuples
 abbrev pub livingIn : List ℕ → List ℕ → TupleSet
@@ -15,7 +15,7 @@ livingIn starts words = living (total (outline starts)) words
 
 -- There is a live bit for each tuple.
 pub record Covered (starts words : List ℕ) : Type 0 where
-  pub framed : Framed starts
+  pub framed : SoundStarts starts
   pub enough : total (outline starts) ≤ wordBits * length words
 
 -- the counts where before tuples lived at entry, kept of them after the change, and the tuples of L at the end

@@ -3,7 +3,7 @@ ghost use mathlib.Core.Path.{_≡_};
 ghost use Prim.Native.Nat.{_≤_};
 ghost use Rattle.model.specs.TupleSet.{count};
 ghost use Rattle.model.specs.Reply.{lowestEmpty, answerFor};
-ghost use Rattle.layout.specs.Lent.{entry};
+ghost use Rattle.layout.specs.Loan.{entry};
 ghost use Rattle.layout.specs.Starts.{outline};
 ghost use Rattle.request.specs.Answer.{livingIn, Covered, countsOf};
 use layout::Starts;

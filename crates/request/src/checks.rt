@@ -2,7 +2,7 @@
 ghost use mathlib.Core.Path.{_≡_};
 ghost use Rattle.model.specs.Request.{filter};
 ghost use Rattle.model.specs.Fault.{networkFaults, instanceFaults, faultsOn};
-ghost use Rattle.layout.specs.Lent.{entry};
+ghost use Rattle.layout.specs.Loan.{entry};
 ghost use Rattle.layout.specs.Shape.{relationsOf, networkOf, instanceOf};
 ghost use Rattle.request.specs.Checks.{Opened, testFaultsOn, idsRefusal, variableRefusal};
 use combination::needed;

@@ -5,8 +5,8 @@ ghost use lib.ListN.{length};
 ghost use Rattle.model.specs.Limits.{maxRelations};
 ghost use Rattle.model.specs.LiveWords.{isLive};
 ghost use Rattle.model.specs.Request.{choose};
-ghost use Rattle.layout.specs.Lent.{entry, exit};
-ghost use Rattle.layout.specs.Setting.{lists, networkIn, Laid};
+ghost use Rattle.layout.specs.Loan.{entry, exit};
+ghost use Rattle.layout.specs.Setting.{lists, networkIn, SoundLists};
 ghost use Rattle.request.specs.Removal.{added, above, Lists, Full, Holds, removedBy, removedIn, Added, Room, withoutIds};
 use layout::Starts;
 use layout::column_of;
@@ -66,7 +66,7 @@ fn unlike_in(
     v: Value,
     removed: &mut [u64],
 )
-    requires { ⌜ Laid (lists now variables values starts) × (r < maxRelations) × Full (now removed) ⌝ }
+    requires { ⌜ SoundLists (lists now variables values starts) × (r < maxRelations) × Full (now removed) ⌝ }
     ensures { λ _. ⌜ Added (entry removed) (exit removed) (removedIn (lists entry variables values starts) r (choose x v)) ⌝ }
 {
     let scope = variable_start(starts, r);
@@ -90,7 +90,7 @@ fn unlike_in(
 
 // The ids of all tuples, live or dead, with another value than v under variable x.
 pub fn unlike(variables: &[u16], values: &[u16], starts: &Starts, x: u16, v: Value) -> Words
-    requires { ⌜ Laid (lists now variables values starts) ⌝ }
+    requires { ⌜ SoundLists (lists now variables values starts) ⌝ }
     ensures { λ removed. ⌜ Holds removed (removedBy (networkIn (lists entry variables values starts)) (choose x v)) ⌝ }
 {
     let count = relation_count(starts);

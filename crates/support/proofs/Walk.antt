@@ -18,7 +18,7 @@ use Rattle.model.proofs.Lists.{all-getD, pairwise-getD, earlier-below}
 use Rattle.model.proofs.Network.{indexOf-at, before-within}
 use Rattle.model.proofs.Search.{reach, reach-skip, completion-early}
 use Rattle.layout.specs.Starts.{tupleStart}
-use Rattle.layout.proofs.Framed.{relations-few, tuples-few, tuple-start, tuple-end}
+use Rattle.layout.proofs.SoundStarts.{relations-few, tuples-few, tuple-start, tuple-end}
 use Rattle.support.specs.declared.Span.{Span}
 use Rattle.support.specs.Search.{Search, netOf, liveOf, seeker, SoundSearch, chosenIds, Prefix, spanAt, sought}
 use Rattle.support.proofs.Chosen.{chosen-indices}

@@ -16,7 +16,7 @@ use Rattle.model.specs.Support.{supportFrom, completion}
 use Rattle.model.specs.LiveWords.{living}
 use Rattle.model.specs.Fault.{properMembers}
 use Rattle.layout.specs.Starts.{tupleStart}
-use Rattle.layout.specs.Setting.{Lists, lists, networkIn, Laid}
+use Rattle.layout.specs.Setting.{Lists, lists, networkIn, SoundLists}
 use Rattle.narrowing.specs.Index.{Indexed}
 use Rattle.support.specs.declared.Found.{Found}
 use Rattle.support.specs.declared.Span.{Span}
@@ -56,7 +56,7 @@ seeker Q = idAt (netOf Q) (Q .members) (Q .place) (Q .own)
 -- What a search asks: laid lists, words for all tuples, members that exist and rise, the seeking tuple one of its member's, and a bound
 -- that has this tuple and otherwise indices, or a member's size.
 pub record SoundSearch (Q : Search) : Type 0 where
-  pub laid : Laid (Q .lists)
+  pub laid : SoundLists (Q .lists)
   pub words : total (netOf Q) ≤ wordBits * length (Q .words)
   pub members : properMembers (netOf Q) (Q .members) ≡ true
   pub few : length (Q .members) ≤ maxMembers
@@ -113,7 +113,7 @@ fits N c place own k chosen x = all (λ (y : ℕ). agree N y (idAt N c k x)) (id
 
 -- What the test of tuple x of member k asks.
 pub record Trial (L : Lists) (c : Combination) (place own k : ℕ) (chosen : List ℕ) (x : ℕ) : Type 0 where
-  pub laid : Laid L
+  pub laid : SoundLists L
   pub inside : k < length c
   pub few : length c ≤ maxMembers
   pub place-in : place < length c

@@ -3,7 +3,7 @@
 ghost use mathlib.Core.Path.{_≡_};
 ghost use Prim.Native.Nat.{_+_, _<_};
 ghost use Rattle.model.specs.Limits.{maxRelations, maxMembers};
-ghost use Rattle.layout.specs.Lent.{entry};
+ghost use Rattle.layout.specs.Loan.{entry};
 ghost use Rattle.layout.specs.Starts.{tupleStart};
 ghost use Rattle.layout.specs.Setting.{lists, networkIn};
 ghost use Rattle.narrowing.specs.Index.{Long};

@@ -1,4 +1,3 @@
 -- The laws of the queue and of the support list.
 pub mod Waiting
 pub mod Stretch
-pub mod ForLayout

@@ -5,9 +5,9 @@ ghost use mathlib.Core.List.{_++_};
 ghost use Prim.Native.Nat.{_+_, _-_, _≤_};
 ghost use lib.ListN.{length, take, drop, replicate};
 ghost use Rattle.model.specs.Limits.{maxMembers, noSupport};
-ghost use Rattle.layout.specs.Lent.{entry, exit};
-ghost use Rattle.layout.specs.Starts.{Framed};
-ghost use Rattle.layout.specs.Setting.{Paired};
+ghost use Rattle.layout.specs.Loan.{entry, exit};
+ghost use Rattle.layout.specs.Starts.{SoundStarts};
+ghost use Rattle.layout.specs.Setting.{SoundPairs};
 ghost use Rattle.worklist.specs.Supports.{replaced, SupportsFit, PairsBegin, Chosen, allLive};
 use layout::Starts;
 use layout::tuple_start;
@@ -75,7 +75,7 @@ pub fn blank(numbers: &mut [u16], at: usize, m: usize)
 
 // Where each pair's numbers begin in the support list, and behind the last pair how many numbers there are.
 pub fn pair_starts(starts: &Starts, members: &[u16], m: u16) -> PairStarts
-    requires { ⌜ Framed (now starts) × Paired (now starts) m (now members) × SupportsFit (now starts) m (now members) ⌝ }
+    requires { ⌜ SoundStarts (now starts) × SoundPairs (now starts) m (now members) × SupportsFit (now starts) m (now members) ⌝ }
     ensures { λ r. ⌜ PairsBegin (entry starts) m (entry members) r ⌝ }
 {
     let mut begins = [0u16; PAIR_STARTS];

@@ -7,7 +7,7 @@ ghost use lib.ListN.{length, take, drop};
 ghost use Rattle.model.specs.Limits.{maxPairs};
 ghost use Rattle.model.specs.Lists.{elem};
 ghost use Rattle.model.specs.LiveWords.{isLive, nextLive, cleared, raised};
-ghost use Rattle.layout.specs.Lent.{entry};
+ghost use Rattle.layout.specs.Loan.{entry};
 ghost use Rattle.layout.specs.Setting.{Whole};
 ghost use Rattle.worklist.specs.Pairs.{WaitToo, others, queues};
 use model::MAX_PAIRS;

@@ -10,7 +10,7 @@ use Rattle.model.specs.TupleSet.{count}
 use Rattle.model.specs.Network.{total}
 use Rattle.model.specs.LiveWords.{isLive, living}
 use Rattle.layout.specs.Setting.{Setting, network}
-use Rattle.layout.proofs.Framed.{tuple-count, tuples-few}
+use Rattle.layout.proofs.SoundStarts.{tuple-count, tuples-few}
 use Rattle.request.specs.Removal.{Room, withoutIds}
 use Rattle.engine.specs.Work.{Filtered}
 use Rattle.changes.proofs.Changed.{counted-all, cut-enough, cut-room, final-covered, final-fewer, final-reply}

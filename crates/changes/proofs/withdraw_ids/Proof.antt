@@ -14,7 +14,7 @@ use Rattle.model.specs.Request.{withdraw, removes}
 use Rattle.model.specs.Fault.{firstFault, refusal, changeFaults}
 use Rattle.layout.specs.Shape.{networkOf}
 use Rattle.layout.specs.Setting.{Setting, network}
-use Rattle.layout.proofs.Framed.{tuple-count}
+use Rattle.layout.proofs.SoundStarts.{tuple-count}
 use Rattle.request.specs.Checks.{idsRefusal}
 use Rattle.request.specs.Removal.{Lists, Full, Holds}
 use Rattle.request.proofs.Openings.{asked, ids-refusal, ids-held}

@@ -17,7 +17,7 @@ use Rattle.model.specs.Fault.{firstFault, refusal, within, properList, properMe
 use Rattle.model.proofs.Bools.{and-left, and-intro}
 use Rattle.model.proofs.Lists.{all-more}
 use Rattle.layout.specs.Setting.{lists, networkIn}
-use Rattle.layout.proofs.Framed.{relation-count}
+use Rattle.layout.proofs.SoundStarts.{relation-count}
 use Rattle.layout.proofs.Places.{sound}
 use Rattle.combination.specs.Masks.{known}
 use Rattle.combination.specs.Proper.{below, proper}

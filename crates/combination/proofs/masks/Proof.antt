@@ -11,7 +11,7 @@ use Rattle.model.specs.Lists.{all, elem}
 use Rattle.model.specs.Network.{scopeOf}
 use Rattle.layout.specs.Starts.{recordsIn}
 use Rattle.layout.specs.Setting.{Lists, lists, networkIn}
-use Rattle.layout.proofs.Framed.{relations-few, relation-count, scope-rises}
+use Rattle.layout.proofs.SoundStarts.{relations-few, relation-count, scope-rises}
 use Rattle.layout.proofs.Places.{scope-within, scope-is}
 use Rattle.combination.proofs.Found.{Found, found-start, found-next, found-end, scope-variables}
 use borrow.Author.Needs.{needs}

@@ -11,7 +11,7 @@ use Rattle.model.specs.Lists.{sum}
 use Rattle.model.specs.Network.{size}
 use Rattle.model.proofs.Combination.{needed-whole}
 use Rattle.layout.specs.Starts.{outline}
-use Rattle.layout.proofs.Framed.{ids-rise, ids-few, size-in}
+use Rattle.layout.proofs.SoundStarts.{ids-rise, ids-few, size-in}
 use Rattle.layout.proofs.Pairs.{member-below}
 use Rattle.combination.proofs.Members.{sum-next, sum-end}
 use borrow.Author.Needs.{needs}

@@ -4,7 +4,7 @@ use Prim.Native.Nat.{_*_, _-_, _≤_}
 use native.Mathlib.Nat.{mul-le-mul}
 use native.Mathlib.Omega.{arith}
 use borrow.Author.Needs.{needs}
-use Rattle.layout.proofs.Framed.{scope-rises}
+use Rattle.layout.proofs.SoundStarts.{scope-rises}
 use Rattle.layout.proofs.place_of.Statement.{statement}
 use Rattle.layout.proofs.place_of.Tie as tie
 

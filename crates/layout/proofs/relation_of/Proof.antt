@@ -6,7 +6,7 @@ use native.Mathlib.Omega.{arith}
 use borrow.Author.Needs.{needs}
 use borrow.Author.Count.{below-more}
 use Rattle.layout.specs.Starts.{tupleStart}
-use Rattle.layout.proofs.Framed.{relation-between, relation-later}
+use Rattle.layout.proofs.SoundStarts.{relation-between, relation-later}
 use Rattle.layout.proofs.relation_of.Statement.{statement}
 use Rattle.layout.proofs.relation_of.Tie as tie
 

@@ -8,7 +8,7 @@ use borrow.Author.Needs.{needs}
 use Rattle.model.specs.Network.{width}
 use Rattle.layout.specs.Starts.{variableStart, tupleStart, recordsIn}
 use Rattle.layout.specs.Setting.{Lists, networkIn}
-use Rattle.layout.proofs.Framed.{relations-few, relation-count, tuple-start, tuple-end, width-in, scope-rises, ids-rise, ids-few, columns-few}
+use Rattle.layout.proofs.SoundStarts.{relations-few, relation-count, tuple-start, tuple-end, width-in, scope-rises, ids-rise, ids-few, columns-few}
 use Rattle.layout.proofs.Places.{values-within}
 use Rattle.narrowing.proofs.Indexing.{IndexesBelow, relations-more, indexed-all}
 use Rattle.narrowing.proofs.index_all.Statement.{statement}

@@ -11,7 +11,7 @@ use Rattle.model.specs.Agreement.{cells}
 use Rattle.model.proofs.Agreement.{cellsOf-at}
 use Rattle.layout.specs.declared.Place.{Place}
 use Rattle.layout.specs.Setting.{Lists, networkIn}
-use Rattle.layout.proofs.Framed.{tuple-start, tuple-end, ids-few}
+use Rattle.layout.proofs.SoundStarts.{tuple-start, tuple-end, ids-few}
 use Rattle.layout.proofs.Places.{Within, below-limit, place-within, place-lengths, place-cells, place-rises, place-inside, place-scope, place-few}
 use Rattle.narrowing.proofs.Narrowing.{narrows-agreeing}
 use Rattle.narrowing.proofs.narrow.Statement.{statement}

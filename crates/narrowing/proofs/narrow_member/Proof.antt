@@ -9,7 +9,7 @@ use borrow.Author.Needs.{needs}
 use borrow.Author.Tests.{ltb-false}
 use Rattle.model.specs.Network.{Network, size, firstId}
 use Rattle.layout.specs.Setting.{networkIn}
-use Rattle.layout.proofs.Framed.{tuple-start, tuple-end, ids-few}
+use Rattle.layout.proofs.SoundStarts.{tuple-start, tuple-end, ids-few}
 use Rattle.narrowing.proofs.Narrowing.{dead-past}
 use Rattle.narrowing.proofs.narrow_member.Statement.{statement}
 use Rattle.narrowing.proofs.narrow_member.Tie as tie

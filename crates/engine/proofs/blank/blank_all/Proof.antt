@@ -8,7 +8,7 @@ use borrow.Author.Needs.{needs}
 use Rattle.model.specs.Network.{size, firstId}
 use Rattle.model.specs.Consistency.{supportStart}
 use Rattle.layout.specs.Starts.{outline}
-use Rattle.layout.proofs.Framed.{tuple-start, size-in, ids-rise, ids-within}
+use Rattle.layout.proofs.SoundStarts.{tuple-start, size-in, ids-rise, ids-within}
 use Rattle.layout.proofs.Pairs.{member-below, pair-within}
 use Rattle.engine.specs.Blank.{Blanked}
 use Rattle.engine.proofs.Blanks.{blank-as, blanked-none, blanked-more}

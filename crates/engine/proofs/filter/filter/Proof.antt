@@ -14,7 +14,7 @@ use Rattle.model.specs.LiveWords.{written}
 use Rattle.model.proofs.LiveWords.{living-same, written-length, written-copy}
 use Rattle.layout.specs.Setting.{Setting, network, listed, liveIn}
 use Rattle.engine.specs.Work.{WordArray}
-use Rattle.layout.proofs.Framed.{tuples-few}
+use Rattle.layout.proofs.SoundStarts.{tuples-few}
 use Rattle.layout.proofs.Outline.{needed-outline}
 use Rattle.engine.proofs.filter.filter.Statement.{statement}
 use Rattle.engine.proofs.filter.filter.Tie as tie

@@ -12,7 +12,7 @@ use Rattle.model.specs.Limits.{noSupport}
 use Rattle.model.specs.TupleSet.{TupleSet}
 use Rattle.model.specs.Consistency.{supportList, needed}
 use Rattle.worklist.proofs.Waiting.{Words, words-of}
-use Rattle.worklist.proofs.ForLayout.{pairs-end}
+use Rattle.layout.proofs.Pairs.{pairs-end}
 use Rattle.layout.proofs.Outline.{needed-outline}
 use Rattle.engine.proofs.Blanks.{blanked-network}
 use Rattle.layout.specs.Setting.{Setting, network, listed, Sound}

@@ -20,7 +20,7 @@ use Rattle.layout.specs.Starts.{tupleStart}
 use Rattle.layout.specs.Setting.{Setting, network, Sound}
 use Rattle.layout.specs.Pairs.{combinationOf, tupleId, placeOf}
 use Rattle.engine.specs.Work.{Seeker, Renewed}
-use Rattle.layout.proofs.Framed.{tuples-few, tuple-start}
+use Rattle.layout.proofs.SoundStarts.{tuples-few, tuple-start}
 use Rattle.layout.proofs.Pairs.{member-below, tuple-below, base-within}
 use Rattle.engine.proofs.Bounds.{held-inside, loaded, lead, chosen, renewed-held, lowOf, low-none, low-held, searched, ready, renewed-found, renewed-none}
 use Rattle.engine.proofs.visit.renew.Statement.{statement}

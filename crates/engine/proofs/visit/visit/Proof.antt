@@ -18,7 +18,7 @@ use Rattle.layout.specs.Starts.{tupleStart}
 use Rattle.layout.specs.Setting.{Setting, Sound}
 use Rattle.layout.specs.Pairs.{placeOf}
 use Rattle.engine.specs.Work.{Working}
-use Rattle.layout.proofs.Framed.{tuples-few}
+use Rattle.layout.proofs.SoundStarts.{tuples-few}
 use Rattle.layout.proofs.Outline.{supportStart-outline}
 use Rattle.layout.proofs.Pairs.{member-below}
 use Rattle.engine.proofs.Visiting.{VisitOf, going-kept, going-removed, still-waits, requeued-waits}

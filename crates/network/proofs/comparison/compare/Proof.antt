@@ -15,8 +15,8 @@ use Rattle.model.specs.Fault.{firstFault, networkFaults, idsFault, compareFault
 use Rattle.model.specs.Reply.{comparisonNumbers, comparisonFor, compareReply}
 use Rattle.model.proofs.Fault.{fault-here, fault-next, firstFault-append-none, firstFault-append-some, refusal-some, refusal-none}
 use Rattle.layout.specs.Shape.{networkOf}
-use Rattle.layout.specs.Setting.{Lists, networkIn, Laid}
-use Rattle.layout.proofs.Framed.{tuple-count}
+use Rattle.layout.specs.Setting.{Lists, networkIn, SoundLists}
+use Rattle.layout.proofs.SoundStarts.{tuple-count}
 use Rattle.layout.proofs.Bridge.{shape-bounded, network-is, laid-of}
 use Rattle.network.specs.Tuples.{TwoIds}
 use Rattle.network.proofs.comparison.compare.Statement.{statement}
@@ -61,10 +61,10 @@ given c =
     let s = start (c .before) in
     record { variables = s .args .variables .now; values = s .args .values .now; starts = c .starts-of .result }
 
-laid : (c : tie.After-starts-of) → Laid (given c)
+laid : (c : tie.After-starts-of) → SoundLists (given c)
 laid c =
     let s = start (c .before) in
-    subst (λ (xs : List ℕ). Laid (record { variables = s .args .variables .now; values = s .args .values .now; starts = xs })) (sym (c .starts-of .ensures)) (laid-of (s .args .shape) (s .args .variables .now) (s .args .values .now) (sound (c .before)))
+    subst (λ (xs : List ℕ). SoundLists (record { variables = s .args .variables .now; values = s .args .values .now; starts = xs })) (sym (c .starts-of .ensures)) (laid-of (s .args .shape) (s .args .variables .now) (s .args .values .now) (sound (c .before)))
 
 described : (c : tie.After-starts-of) → networkIn (given c) ≡ network (start (c .before))
 described c =

@@ -7,9 +7,9 @@ use native.Mathlib.Omega.{arith}
 use borrow.Author.Needs.{needs}
 use Rattle.model.specs.Network.{size, total, firstId, relationOf}
 use Rattle.model.specs.Agreement.{agree}
-use Rattle.layout.specs.Starts.{tupleStart, outline, Framed}
+use Rattle.layout.specs.Starts.{tupleStart, outline, SoundStarts}
 use Rattle.layout.specs.Setting.{networkIn}
-use Rattle.layout.proofs.Framed.{id-relation, id-begun, id-index, id-back}
+use Rattle.layout.proofs.SoundStarts.{id-relation, id-begun, id-index, id-back}
 use Rattle.network.proofs.comparison.ids_agree.Statement.{statement}
 use Rattle.network.proofs.comparison.ids_agree.Tie as tie
 
@@ -20,7 +20,7 @@ record Found (xs : List ℕ) (g r at : ℕ) : Type 0 where
   index : at ≡ tupleStart xs r → g - at < size (outline xs) r
   back : at ≡ tupleStart xs r → firstId (outline xs) r + (g - at) ≡ g
 
-found : {xs : List ℕ} → Framed xs → (g r at : ℕ) → g < total (outline xs) → r ≡ relationOf (outline xs) g → Found xs g r at
+found : {xs : List ℕ} → SoundStarts xs → (g r at : ℕ) → g < total (outline xs) → r ≡ relationOf (outline xs) g → Found xs g r at
 found {xs} framed g r at h e =
     subst (λ (r : ℕ). Found xs g r at) (sym e)
     (record {

@@ -11,7 +11,7 @@ use Rattle.model.specs.Network.{total}
 use Rattle.model.specs.LiveWords.{livingFrom, living}
 use Rattle.model.proofs.Reply.{answer-emptied, answer-settled}
 use Rattle.layout.specs.Starts.{recordsIn, outline}
-use Rattle.layout.proofs.Framed.{relation-count, tuple-count, tuples-few}
+use Rattle.layout.proofs.SoundStarts.{relation-count, tuple-count, tuples-few}
 use Rattle.request.specs.Answer.{livingIn}
 use borrow.Author.Needs.{needs}
 use Rattle.request.proofs.answer.answer_for.Statement.{statement}

@@ -17,8 +17,8 @@ use Rattle.model.specs.Reply.{isEmptied, lowestEmpty}
 use Rattle.model.proofs.Lists.{first-unique}
 use Rattle.model.proofs.LiveWords.{nextLive-first}
 use Rattle.model.proofs.Reply.{lowestEmpty-first, isEmptied-next}
-use Rattle.layout.specs.Starts.{tupleStart, recordsIn, outline, Framed}
-use Rattle.layout.proofs.Framed.{relations-few, relation-count, tuple-start, tuple-end, ids-rise, ids-within, ids-asks}
+use Rattle.layout.specs.Starts.{tupleStart, recordsIn, outline, SoundStarts}
+use Rattle.layout.proofs.SoundStarts.{relations-few, relation-count, tuple-start, tuple-end, ids-rise, ids-within, ids-asks}
 use Rattle.request.specs.Answer.{livingIn}
 use borrow.Author.Needs.{needs}
 use Rattle.request.proofs.answer.lowest_empty.Statement.{statement}
@@ -32,7 +32,7 @@ abbrev μ-loop : tie.MeasureT-loop
 μ-loop starts words relations r₀ r = relations - r
 
 -- relation r is empty exactly if no live id lies in it
-emptied : (starts words : List ℕ) → Framed starts → (r : ℕ) → r < maxRelations → isEmptied (outline starts) (livingIn starts words) r ≡ not (ltb (nextLive words (tupleStart starts r) (tupleStart starts (r + 1))) (tupleStart starts (r + 1)))
+emptied : (starts words : List ℕ) → SoundStarts starts → (r : ℕ) → r < maxRelations → isEmptied (outline starts) (livingIn starts words) r ≡ not (ltb (nextLive words (tupleStart starts r) (tupleStart starts (r + 1))) (tupleStart starts (r + 1)))
 emptied starts words f r h =
     isEmptied-next (outline starts) words r (tupleStart starts (r + 1)) (tuple-end f r h) (ids-within f r h)
     ∙ ap (λ (a : ℕ). not (ltb (nextLive words a (tupleStart starts (r + 1))) (tupleStart starts (r + 1)))) (sym (tuple-start f r (omega arith)))

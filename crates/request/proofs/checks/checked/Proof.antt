@@ -10,7 +10,7 @@ use Rattle.model.proofs.Fault.{firstFault-front, firstFault-back}
 use Rattle.layout.specs.Shape.{relationsOf, instanceOf}
 use Rattle.combination.specs.Refusals.{supportsRefusal}
 use Rattle.request.specs.Checks.{testFaultsOn}
-use Rattle.request.proofs.ForLayout.{opened-laid, opened-paired, opened-needed}
+use Rattle.layout.proofs.Checked.{opened-laid, opened-paired, opened-needed}
 use Rattle.request.proofs.Openings.{opened-none, opened-front, opened-back}
 use borrow.Author.Needs.{needs}
 use Rattle.request.proofs.checks.checked.Statement.{statement}

@@ -5,7 +5,7 @@ use mathlib.Core.Option.{none}
 use Rattle.model.specs.Request.{Instance}
 use Rattle.model.specs.Fault.{firstFault, refusal, networkFaults, combinationFaults}
 use Rattle.layout.specs.Shape.{relationsOf, instanceOf}
-use Rattle.request.proofs.ForLayout.{opened-laid, opened-instance}
+use Rattle.layout.proofs.Checked.{opened-laid, opened-instance}
 use Rattle.request.proofs.Openings.{opened-none, opened-front, opened-back}
 use borrow.Author.Needs.{needs}
 use Rattle.request.proofs.checks.instance_checked.Statement.{statement}

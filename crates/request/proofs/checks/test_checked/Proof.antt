@@ -9,7 +9,7 @@ use Rattle.model.specs.Fault.{firstFault, networkFaults, combinationFaults, ins
 use Rattle.model.proofs.Fault.{firstFault-front}
 use Rattle.layout.specs.Shape.{relationsOf, instanceOf}
 use Rattle.combination.specs.Refusals.{wordsRefusal}
-use Rattle.request.proofs.ForLayout.{opened-total}
+use Rattle.layout.proofs.Checked.{opened-total}
 use Rattle.request.proofs.Openings.{opened-none, opened-front, opened-back}
 use borrow.Author.Needs.{needs}
 use Rattle.request.proofs.checks.test_checked.Statement.{statement}

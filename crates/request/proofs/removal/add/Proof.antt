@@ -5,7 +5,7 @@ use mathlib.Core.Logic.{⊎-elim}
 use Prim.Native.Nat.{ℕ, _+_}
 use native.Mathlib.Omega.{arith}
 use lib.ListN.{length}
-use Rattle.request.specs.Removal.{added, above}
+use Rattle.request.specs.Removal.{added}
 use Rattle.request.proofs.Removed.{added-inside, added-outside, added-length, above-lower, above-higher}
 use borrow.Author.Needs.{needs}
 use Rattle.request.proofs.removal.add.Statement.{statement}

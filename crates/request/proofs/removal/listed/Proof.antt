@@ -2,7 +2,6 @@
 -- From the laws of ids added one after the other.
 use mathlib.Core.Path.{refl, sym}
 use Prim.Native.Nat.{_-_}
-use native.Mathlib.Omega.{arith}
 use lib.ListN.{length}
 use Rattle.request.proofs.Removed.{Filled, filled-start, filled-next, filled-end}
 use borrow.Author.Needs.{needs}

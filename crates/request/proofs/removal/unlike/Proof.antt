@@ -6,7 +6,7 @@ use native.Mathlib.Omega.{arith}
 use lib.ListN.{length}
 use denote.Ref.{now}
 use Rattle.layout.specs.Starts.{recordsIn}
-use Rattle.layout.proofs.Framed.{relations-few, relation-count}
+use Rattle.layout.proofs.SoundStarts.{relations-few, relation-count}
 use Rattle.request.proofs.Unlike.{Unlike, unlike-start, unlike-next, unlike-end}
 use borrow.Author.Needs.{needs}
 use Rattle.request.proofs.removal.unlike.Statement.{statement}

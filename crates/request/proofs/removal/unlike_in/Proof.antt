@@ -15,7 +15,7 @@ use Rattle.model.specs.Request.{choose, removes}
 use Rattle.layout.specs.Starts.{tupleStart, valueStart}
 use Rattle.layout.specs.Columns.{columnOf}
 use Rattle.layout.specs.Setting.{Lists, lists, networkIn}
-use Rattle.layout.proofs.Framed.{width-in, scope-rises, ids-rise, ids-few}
+use Rattle.layout.proofs.SoundStarts.{width-in, scope-rises, ids-rise, ids-few}
 use Rattle.layout.proofs.Places.{scope-within, scope-is}
 use Rattle.request.specs.Removal.{between, Added}
 use Rattle.request.proofs.Unlike.{added-none, added-set, added-kept, place-next, valueAt, place-within, unlike-column, unlike-absent}

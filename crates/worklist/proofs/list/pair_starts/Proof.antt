@@ -11,9 +11,9 @@ use borrow.Author.Needs.{needs}
 use Rattle.model.specs.Combination.{pairMember}
 use Rattle.model.specs.Consistency.{supportStart}
 use Rattle.layout.specs.Starts.{tupleStart, outline}
-use Rattle.layout.proofs.Framed.{ids-rise}
+use Rattle.layout.proofs.SoundStarts.{ids-rise}
 use Rattle.layout.proofs.Pairs.{member-below, pair-next, pair-within}
-use Rattle.worklist.proofs.ForLayout.{pair-first}
+use Rattle.layout.proofs.Pairs.{pair-first}
 use Rattle.worklist.proofs.list.pair_starts.Statement.{statement}
 use Rattle.worklist.proofs.list.pair_starts.Tie as tie
 

@@ -16,7 +16,7 @@ use Rattle.model.specs.Fault.{within}
 use Rattle.model.proofs.Bools.{and-right}
 use Rattle.model.proofs.Lists.{mem-from, all-getD}
 use Rattle.model.proofs.Network.{relationOf-ids, ids-relationOf, index-bounds, before-suc, before-past, before-le}
-use Rattle.layout.specs.Starts.{table, variableStart, tupleStart, valueStart, relationCount, recordsIn, outline, Framed}
+use Rattle.layout.specs.Starts.{table, variableStart, tupleStart, valueStart, relationCount, recordsIn, outline, SoundStarts}
 use Rattle.layout.specs.Places.{widthIn}
 use Rattle.layout.proofs.Starts.{variableStart-of, tupleStart-of, valueStart-of, relationCount-of}
 
@@ -33,7 +33,7 @@ before-next f z Rs r = rw add-one (go (decLt r (length Rs)))
         let e : f (getD Rs r noRelation) ≡ 0 = ap f (past Rs r (omega arith)) ∙ z in
         omega (arith, e, before-past f Rs r (omega arith), before-past f Rs (suc r) (omega arith))
 
-module _ {xs : List ℕ} (framed : Framed xs) where
+module _ {xs : List ℕ} (framed : SoundStarts xs) where
   abbrev N : Network
   N = outline xs
 
