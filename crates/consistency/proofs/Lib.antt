@@ -1,3 +1,2 @@
 -- The laws of the crate's definitions.
 pub mod Pairs
-pub mod Accepted

@@ -1,92 +1,76 @@
 -- `test` answers as the definition of the call says: the first fault, or whether the live tuples are consistent.
--- From what its parts ensure, the laws of the reply by its first fault, and what a request without faults has.
-use mathlib.Core.Path.{_≡_, refl, sym, ap, subst, _∙_}
+-- From what its parts ensure, the laws of the reply by its first fault, and what a call without fault has.
+use mathlib.Core.Path.{_≡_, sym, ap, subst, _∙_}
 use mathlib.Core.Bool.{Bool, true, false}
 use mathlib.Core.Option.{none}
 use Prim.Native.Nat.{ℕ}
 use lib.ListN.{length}
 use borrow.Author.Needs.{needs}
-use Rattle.model.specs.Network.{Network, total}
-use Rattle.model.specs.Combination.{combinations}
+use Rattle.model.specs.Network.{total}
 use Rattle.model.specs.Consistency.{isConsistent}
 use Rattle.model.specs.LiveWords.{living}
 use Rattle.model.specs.Request.{Instance, combinationsOf}
 use Rattle.model.specs.Fault.{firstFault, refusal, testFaults}
 use Rattle.model.specs.Reply.{verdictNumbers, verdictFor, testReply}
-use Rattle.model.proofs.Fault.{refusal-none}
 use Rattle.model.proofs.Reply.{testReply-refused, testReply-checked}
 use Rattle.layout.specs.Shape.{instanceOf}
-use Rattle.request.specs.Checks.{testFaultsOn}
-use Rattle.request.proofs.Instance.{network-bounded}
-use Rattle.request.proofs.Change.{testFaults-on}
-use Rattle.consistency.specs.Setting.{setting, network, live, Sound}
-use Rattle.consistency.proofs.Accepted.{network-sound, described, accepted-sound}
+use Rattle.layout.specs.Setting.{Setting, setting, Sound, instanceIn}
+use Rattle.request.proofs.Openings.{testFaults-on, tested-instance, tested-sound}
+use Rattle.consistency.specs.Consistent.{allConsistent}
 use Rattle.consistency.proofs.test.Statement.{statement}
 use Rattle.consistency.proofs.test.Tie as tie
-
-abbrev instance : tie.Start → Instance
-instance a = instanceOf (a .args .shape) (a .args .variables .now) (a .args .values .now) (a .args .m) (a .args .members .now)
 
 abbrev start : tie.After-test-checked → tie.Start
 start c = c .before .before .before .before .before
 
+abbrev instance : tie.Start → Instance
+instance a = instanceOf (a .args .shape) (a .args .variables .now) (a .args .values .now) (a .args .m) (a .args .members .now)
+
 -- the number answered is that of the first fault of the words lent
-fault : (c : tie.After-test-checked) → c .test-checked .result ≡ refusal (firstFault (testFaults (instance (start c)) (start c .args .words .now)))
-fault c = c .test-checked .ensures ∙ ap (λ fs. refusal (firstFault fs)) (testFaults-on (instance (start c)) (start c .args .words .now))
+fault : (c : tie.After-test-checked) → c .test-checked .result .fault ≡ refusal (firstFault (testFaults (instance (start c)) (start c .args .words .now)))
+fault c =
+    c .test-checked .ensures .fault ∙ ap (λ fs. refusal (firstFault fs)) (testFaults-on (instance (start c)) (start c .args .words .now))
 
 returns : tie.Need-returns
 returns c =
-    let a = start (c .before) in
-    sym (testReply-refused (instance a) (a .args .words .now) (c .before .test-checked .result) (fault (c .before)) (c .if1 .taken))
+    let k = c .before .before in
+    let a = start k in
+    sym (testReply-refused (instance a) (a .args .words .now) (k .test-checked .result .fault) (fault k) (c .if1 .taken))
 
--- ---- A request without faults
+-- ---- Without fault
 
-faultless : (c : tie.Else1) → (let a = start (c .before) in firstFault (testFaultsOn (instance a) (length (a .args .words .now))) ≡ none)
-faultless c =
-    let a = start (c .before) in
-    refusal-none (testFaultsOn (instance a) (length (a .args .words .now))) refl (sym (c .before .test-checked .ensures) ∙ c .if1 .left)
+-- the lists with the starts found, and combinations of k members each
+abbrev given : tie.After-test-checked → ℕ → Setting
+given c k =
+    let a = start c .args in
+    setting (λ xs. xs) (a .variables .now) (a .values .now) (c .test-checked .result .starts) (a .members .now) k
 
-offsets-requires : tie.Need-offsets-requires
-offsets-requires c κs =
-    let a = start (c .before) in
-    network-bounded (a .args .shape) (a .args .variables .now) (a .args .values .now) (network-sound (instance a) (length (a .args .words .now)) (faultless c))
+module _ (c : tie.After-test-checked) (z : c .test-checked .result .fault ≡ 0) where
+  sound : Sound (given c (start c .args .m))
+  sound =
+      let a = start c .args in
+      tested-sound (a .shape) (a .variables .now) (a .values .now) (a .m) (a .members .now) (length (a .words .now)) (c .test-checked .result) z (c .test-checked .ensures)
 
-abbrev tables : tie.After-wide → tie.After-offsets
-tables c = c .before .before .before .before .before .before .before
+  given-is : instanceIn (given c (start c .args .m)) ≡ instance (start c)
+  given-is =
+      let a = start c .args in
+      tested-instance (a .shape) (a .variables .now) (a .values .now) (a .m) (a .members .now) (length (a .words .now)) (c .test-checked .result) z (c .test-checked .ensures)
 
-sound : (c : tie.After-wide) → (let a = start (tables c .before .before) .args in let t = tables c .offsets .result in Sound (setting (a .variables .now) (a .values .now) (t .variables) (t .tuples) (t .values) (a .words .now) (a .members .now) (c .wide .result)))
-sound c =
-    let a = start (tables c .before .before) .args in
-    let t = tables c .offsets .result in
-    subst (λ (k : ℕ). Sound (setting (a .variables .now) (a .values .now) (t .variables) (t .tuples) (t .values) (a .words .now) (a .members .now) k)) (sym (c .wide .ensures .0))
-    (accepted-sound (a .shape) (a .variables .now) (a .values .now) (t .variables) (t .tuples) (t .values) (a .words .now) (a .members .now) (a .m) (faultless (tables c .before)) (tables c .offsets .ensures .0) (tables c .offsets .ensures .1 .1) (tables c .offsets .ensures .1 .0))
+abbrev passed : tie.After-wide → tie.Else1
+passed c = c .before .before .before
 
-all-supported-requires : tie.Need-all-supported-requires
-all-supported-requires c κs = sound c
-
--- what is answered of the live tuples
-decided : (c : tie.After-all-supported) → (let a = start (tables (c .before) .before .before) in let I = instance a in isConsistent (I .network) (combinationsOf I) (living (total (I .network)) (a .args .words .now)) ≡ c .all-supported .result)
-decided c =
-    let o = tables (c .before) in
-    let a = start (o .before .before) .args in
-    let t = o .offsets .result in
-    sym (c .all-supported .ensures
-    ∙ ap (λ (k : ℕ). isConsistent (network (setting (a .variables .now) (a .values .now) (t .variables) (t .tuples) (t .values) (a .words .now) (a .members .now) k)) (combinations k (a .members .now)) (live (setting (a .variables .now) (a .values .now) (t .variables) (t .tuples) (t .values) (a .words .now) (a .members .now) k))) (c .before .wide .ensures .0)
-    ∙ ap (λ (N : Network). isConsistent N (combinations (a .m) (a .members .now)) (living (total N) (a .words .now)))
-    (described (a .shape) (a .variables .now) (a .values .now) (t .variables) (t .tuples) (t .values) (a .words .now) (a .members .now) (a .m) (faultless (o .before)) (o .offsets .ensures .0) (o .offsets .ensures .1 .1)))
-
-reply : (c : tie.After-all-supported) (b : Bool) → c .all-supported .result ≡ b → (let a = start (tables (c .before) .before .before) in verdictNumbers (verdictFor none b) ≡ testReply (instance a) (a .args .words .now))
+-- what is answered of the live tuples is the reply
+reply : (c : tie.After-all-supported) (b : Bool) → c .all-supported .result ≡ b → (let a = start (passed (c .before) .before .before) in verdictNumbers (verdictFor none b) ≡ testReply (instance a) (a .args .words .now))
 reply c b e =
-    let k = tables (c .before) .before in
-    let a = start (k .before) in
-    sym (testReply-checked (instance a) (a .args .words .now) (sym (k .if1 .left) ∙ fault (k .before))
-    ∙ ap (λ (x : Bool). verdictNumbers (verdictFor none x)) (decided c ∙ e))
-
-returns-2 : tie.Need-returns-2
-returns-2 c = reply (c .before) true (c .if2 .taken)
-
-returns-3 : tie.Need-returns-3
-returns-3 c = reply (c .before) false (c .if2 .left)
+    let z = passed (c .before) .if1 .left in
+    let k = passed (c .before) .before .before in
+    let a = start k in
+    let decided = ap (λ (I : Instance). isConsistent (I .network) (combinationsOf I) (living (total (I .network)) (a .args .words .now))) (sym (given-is k z))
+    ∙ ap (λ (n : ℕ). allConsistent (given k n) (a .args .words .now)) (sym (c .before .wide .ensures .0))
+    ∙ sym (c .all-supported .ensures)
+    ∙ e in
+    sym
+    (testReply-checked (instance a) (a .args .words .now) (sym z ∙ fault k) ∙ ap (λ (x : Bool). verdictNumbers (verdictFor none x)) decided)
 
 pub test-spec : {M : Type 1} → statement M
 test-spec =
@@ -94,8 +78,7 @@ test-spec =
     (tie.spec
     (λ c κs. search needs)
     returns
-    offsets-requires
     (λ c κs. search needs)
-    all-supported-requires
-    returns-2
-    returns-3)
+    (λ c κs. let k = passed c .before .before in subst (λ (n : ℕ). Sound (given k n)) (sym (c .wide .ensures .0)) (sound k (passed c .if1 .left)))
+    (λ c. reply (c .before) true (c .if2 .taken))
+    (λ c. reply (c .before) false (c .if2 .left)))
