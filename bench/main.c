@@ -112,7 +112,7 @@ static void filters(const char *kind, size_t m, size_t relations, size_t tuples,
         for (size_t g = 0; g < relations * tuples; g++) live_r[g / 64] |= 1ull << (g % 64);
         memcpy(live_c, live_r, sizeof live_c);
         double t = now();
-        bench_filter(n.variables, n.variable_count, n.values, n.value_count, n.variable_starts, n.tuple_starts, n.value_starts, n.members, n.pairs, (uint16_t)m, n.needed, live_r, WORDS, numbers_r, NUMBERS);
+        bench_filter(n.variables, n.variable_count, n.values, n.value_count, n.variable_starts, n.members, n.pairs, (uint16_t)m, live_r, WORDS, numbers_r, NUMBERS);
         double u = now();
         c_filter(&n, live_c, numbers_c);
         best_r = least(best_r, u - t);

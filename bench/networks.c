@@ -12,7 +12,7 @@ enum { WIDTH = 3 };
 
 void draw_network(network *n, size_t m, size_t relations, size_t tuples, unsigned values, unsigned factor, size_t step) {
     seed = 7 + m * 1000 + relations * 10 + values;
-    *n = (network){.m = m, .relations = relations};
+    *n = (network){.m = m, .relations = (uint16_t)relations};
     for (size_t r = 0; r < relations; r++) {
         for (size_t j = 0; j < WIDTH; j++) n->variables[n->variable_count++] = (uint16_t)((r + (j + r) % WIDTH) % 64);
         for (size_t i = 0; i < tuples * WIDTH; i++) n->values[n->value_count++] = (uint16_t)(draw(values) * factor);

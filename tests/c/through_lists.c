@@ -5,7 +5,7 @@
 #define LISTS BOOK, uint16_t, const uint16_t *, size_t, uint64_t *, size_t, uint16_t *, size_t
 void plain_filter(LISTS, uint16_t *);
 void plain_withdraw(LISTS, const uint16_t *, size_t, uint16_t *);
-void plain_choose(LISTS, uint16_t, uint16_t, uint16_t *);
+void plain_choose(LISTS, const uint16_t *, uint16_t *);
 uint32_t plain_test(BOOK, uint16_t, const uint16_t *, size_t, const uint64_t *, size_t);
 uint32_t plain_compare(BOOK, uint16_t, uint16_t);
 
@@ -17,7 +17,7 @@ bool put_to_library(request *q, words marks, uint16_t out[5]) {
     switch (q->call) {
     case FILTER: plain_filter(LENT, out); break;
     case WITHDRAW: plain_withdraw(LENT, q->rows.at, q->rows.n, out); break;
-    case CHOOSE: plain_choose(LENT, q->question, q->code, out); break;
+    case CHOOSE: plain_choose(LENT, (uint16_t[]){q->question, q->code}, out); break;
     default:
         short_answer = q->call == TEST ? plain_test(GIVEN, q->m, q->members.at, q->members.n, marks.at, marks.n)
                                        : plain_compare(GIVEN, q->rows.at[0], q->rows.at[1]);

@@ -2,10 +2,10 @@
 ghost use mathlib.Core.Path.{_≡_};
 ghost use Prim.Native.Nat.{_*_, _≤_};
 ghost use lib.ListN.{length};
-ghost use Rattle.model.specs.Limits.{wordBits};
-ghost use Rattle.model.specs.Network.{total};
-ghost use Rattle.model.specs.Consistency.{needed};
-ghost use Rattle.engine.specs.Setting.{setting, network, listed, Sound};
+ghost use Rattle.layout.specs.Setting.{setting, Sound};
+ghost use Rattle.engine.specs.Work.{Room};
+use layout::Starts;
+use model::Value;
 
 #[no_mangle]
 pub extern "C" fn bench_agree(scope_a: &[u16], a: &[u16], scope_b: &[u16], b: &[u16]) -> bool
@@ -31,28 +31,14 @@ pub extern "C" fn bench_count(words: &[u64], start: u16, end: u16) -> u16
 #[no_mangle]
 pub extern "C" fn bench_filter(
     variables: &[u16],
-    values: &[u16],
-    variable_starts: &[u16; 65],
-    tuple_starts: &[u16; 65],
-    value_starts: &[u16; 65],
+    values: &[Value],
+    starts: &Starts,
     members: &[u16],
     m: u16,
-    wanted: usize,
     words: &mut [u64],
     numbers: &mut [u16],
 )
-    requires { ⌜ (let G = setting (now variables) (now values) (now «variable_starts») (now «tuple_starts») (now «value_starts») (now members) m in Sound G × ((total (network G) ≤ wordBits * length (now words)) × ((wanted ≡ needed (network G) (listed G)) × (wanted ≤ length (now numbers))))) ⌝ }
+    requires { ⌜ Sound (setting now variables values starts members m) × Room (setting now variables values starts members m) (now words) (now numbers) ⌝ }
 {
-    engine::filter::filter(
-        variables,
-        values,
-        variable_starts,
-        tuple_starts,
-        value_starts,
-        members,
-        m,
-        wanted,
-        words,
-        numbers,
-    );
+    engine::filter::filter(variables, values, starts, members, m, words, numbers);
 }

@@ -1,23 +1,27 @@
 // The change calls on bytes: decode, run, encode.
 ghost use mathlib.Core.Path.{_≡_};
-ghost use mathlib.Core.Bool.{_&&_};
 ghost use Prim.Native.Nat.{_*_, _%_, _≤_};
 ghost use lib.ListN.{length};
 ghost use Rattle.model.specs.Edges.{cutInstance};
-ghost use Rattle.model.specs.Reply.{reply, request, replied};
+ghost use Rattle.model.specs.Reply.{reply};
+ghost use Rattle.layout.specs.Loan.{entry};
 ghost use Rattle.layout.specs.Shape.{instanceOf};
-ghost use Rattle.encoding.specs.Whole.{whole};
-ghost use Rattle.encoding.specs.Packed.{outcome, encoded, writtenBack};
-ghost use Rattle.capi.specs.Call.{instanceIn, lent, wholeLent, asked, answered, changeIn};
+ghost use Rattle.changes.specs.Change.{Replies};
+ghost use Rattle.encoding.specs.Packed.{encoded};
+ghost use Rattle.capi.specs.Call.{instanceAt, byteLists, asked, left, leavesBack, changeIn, changeCall};
 use super::NOT_WHOLE;
 use changes::choose;
 use changes::filter;
+use changes::withdraw_ids;
+use encoding::ids::ids_at;
 use encoding::lengths::change_whole;
 use encoding::sheets::shape_at;
-use encoding::withdrawal::withdraw;
 use encoding::writing::write_back;
 use layout::Shape;
+use live::WORDS;
 use model::Answer;
+use model::MAX_SUPPORT_NUMBERS;
+use model::Value;
 use wire::load16;
 use wire::load64;
 
@@ -33,18 +37,18 @@ fn change(
     call: Call,
     shape: Shape,
     variables: &[u16],
-    values: &[u16],
+    values: &[Value],
     m: u16,
     members: &[u16],
     words: &mut [u64],
     numbers: &mut [u16],
     ids: &[u8],
 ) -> Answer
-    ensures { λ a. ⌜ replied a (now (words .exit)) (now (numbers .exit)) ≡ reply (request (instanceOf shape (now (variables .entry)) (now (values .entry)) m (now (members .entry))) (now (words .entry)) (now (numbers .entry)) (changeIn call (now (ids .entry)))) ⌝ }
+    ensures { λ a. ⌜ Replies a (instanceOf shape (entry variables) (entry values) m (entry members)) words numbers (changeIn call (entry ids)) ⌝ }
 {
     match call {
         Call::Filter => filter(shape, variables, values, m, members, words, numbers),
-        Call::Withdraw => withdraw(shape, variables, values, m, members, words, numbers, ids),
+        Call::Withdraw => withdraw_ids(shape, variables, values, m, members, words, numbers, ids_at(ids)),
         Call::Choose(x, v) => choose(shape, variables, values, m, members, words, numbers, x, v),
     }
 }
@@ -61,7 +65,7 @@ fn change_entries(
     numbers: &mut [u16],
     ids: &[u8],
 ) -> Answer
-    ensures { λ a. ⌜ replied a (now (words .exit)) (now (numbers .exit)) ≡ reply (request (cutInstance (instanceIn (now (sheets .entry)) (now (questions .entry)) (now (codes .entry)) m (now (combinations .entry)))) (now (words .entry)) (now (numbers .entry)) (changeIn call (now (ids .entry)))) ⌝ }
+    ensures { λ a. ⌜ Replies a (cutInstance (instanceAt entry sheets questions codes m combinations)) words numbers (changeIn call (entry ids)) ⌝ }
 {
     let mut variables = [0u16; 513];
     let mut values = [0u16; 32769];
@@ -98,7 +102,7 @@ fn change_back(
     ids: &[u8],
 ) -> u64
     requires { ⌜ (8 * length (now words) ≤ length (now marks)) × (2 * length (now numbers) ≤ length (now supports)) ⌝ }
-    ensures { λ n. ⌜ outcome n (now (marks .exit)) (now (supports .exit)) ≡ writtenBack (reply (request (cutInstance (instanceIn (now (sheets .entry)) (now (questions .entry)) (now (codes .entry)) m (now (combinations .entry)))) (now (words .entry)) (now (numbers .entry)) (changeIn call (now (ids .entry))))) (now (marks .entry)) (now (supports .entry)) ⌝ }
+    ensures { λ n. ⌜ left n marks supports ≡ leavesBack call (cutInstance (instanceAt entry sheets questions codes m combinations)) words numbers marks supports (entry ids) ⌝ }
 {
     let a = change_entries(
         call,
@@ -127,10 +131,10 @@ fn change_bytes(
     ids: &[u8],
 ) -> u64
     requires { ⌜ (length (now marks) % 8 ≡ 0) × (length (now supports) % 2 ≡ 0) ⌝ }
-    ensures { λ n. ⌜ outcome n (now (marks .exit)) (now (supports .exit)) ≡ encoded (reply (asked (lent (now (sheets .entry)) (now (questions .entry)) (now (codes .entry)) m (now (combinations .entry)) (now (marks .entry)) (now (supports .entry))) (changeIn call (now (ids .entry))))) ⌝ }
+    ensures { λ n. ⌜ left n marks supports ≡ encoded (reply (asked (byteLists entry sheets questions codes m combinations marks supports) (changeIn call (entry ids)))) ⌝ }
 {
-    let mut words = [0u64; 64];
-    let mut numbers = [0u16; 32768];
+    let mut words = [0u64; WORDS];
+    let mut numbers = [0u16; MAX_SUPPORT_NUMBERS];
     let word_count = load64(marks, &mut words);
     let number_count = load16(supports, &mut numbers);
     change_back(
@@ -160,7 +164,7 @@ pub fn change_call(
     supports: &mut [u8],
     ids: &[u8],
 ) -> u64
-    ensures { λ n. ⌜ (let L = lent (now (sheets .entry)) (now (questions .entry)) (now (codes .entry)) m (now (combinations .entry)) (now (marks .entry)) (now (supports .entry)) in outcome n (now (marks .exit)) (now (supports .exit)) ≡ answered (wholeLent L && whole 2 (length (now (ids .entry)))) L (changeIn call (now (ids .entry)))) ⌝ }
+    ensures { λ n. ⌜ left n marks supports ≡ changeCall call (byteLists entry sheets questions codes m combinations marks supports) (entry ids) ⌝ }
 {
     let whole = change_whole(
         sheets.len(),

@@ -1,7 +1,7 @@
 // The calls from C: numbers and lists of bytes. include/wakhvosi.h says what each byte means.
 ghost use mathlib.Core.Path.{_≡_};
-ghost use Rattle.encoding.specs.Packed.{outcome};
-ghost use Rattle.capi.specs.Call.{lent, filterCall, withdrawCall, chooseCall, testCall, compareCall};
+ghost use Rattle.layout.specs.Loan.{entry};
+ghost use Rattle.capi.specs.Call.{byteLists, left, filterCall, withdrawCall, chooseCall, testCall, compareCall};
 use change::Call;
 use change::change_call;
 use encoding::lengths::instance_whole;
@@ -26,7 +26,7 @@ pub extern "C" fn wakhvosi_filter(
     marks: &mut [u8],
     supports: &mut [u8],
 ) -> u64
-    ensures { λ n. ⌜ outcome n (now (marks .exit)) (now (supports .exit)) ≡ filterCall (lent (now (sheets .entry)) (now (questions .entry)) (now (codes .entry)) m (now (combinations .entry)) (now (marks .entry)) (now (supports .entry))) ⌝ }
+    ensures { λ n. ⌜ left n marks supports ≡ filterCall (byteLists entry sheets questions codes m combinations marks supports) ⌝ }
 {
     change_call(
         Call::Filter,
@@ -53,7 +53,7 @@ pub extern "C" fn wakhvosi_withdraw(
     supports: &mut [u8],
     ids: &[u8],
 ) -> u64
-    ensures { λ n. ⌜ outcome n (now (marks .exit)) (now (supports .exit)) ≡ withdrawCall (lent (now (sheets .entry)) (now (questions .entry)) (now (codes .entry)) m (now (combinations .entry)) (now (marks .entry)) (now (supports .entry))) (now (ids .entry)) ⌝ }
+    ensures { λ n. ⌜ left n marks supports ≡ withdrawCall (byteLists entry sheets questions codes m combinations marks supports) (entry ids) ⌝ }
 {
     change_call(
         Call::Withdraw,
@@ -81,7 +81,7 @@ pub extern "C" fn wakhvosi_choose(
     question: u16,
     code: u16,
 ) -> u64
-    ensures { λ n. ⌜ outcome n (now (marks .exit)) (now (supports .exit)) ≡ chooseCall (lent (now (sheets .entry)) (now (questions .entry)) (now (codes .entry)) m (now (combinations .entry)) (now (marks .entry)) (now (supports .entry))) question code ⌝ }
+    ensures { λ n. ⌜ left n marks supports ≡ chooseCall (byteLists entry sheets questions codes m combinations marks supports) question code ⌝ }
 {
     change_call(
         Call::Choose(question, code),
@@ -106,7 +106,7 @@ pub extern "C" fn wakhvosi_test(
     combinations: &[u8],
     marks: &[u8],
 ) -> u64
-    ensures { λ n. ⌜ n ≡ testCall (now (sheets .entry)) (now (questions .entry)) (now (codes .entry)) m (now (combinations .entry)) (now (marks .entry)) ⌝ }
+    ensures { λ n. ⌜ n ≡ testCall (entry sheets) (entry questions) (entry codes) m (entry combinations) (entry marks) ⌝ }
 {
     if !instance_whole(
         sheets.len(),
@@ -131,7 +131,7 @@ pub extern "C" fn wakhvosi_compare(
     a: u16,
     b: u16,
 ) -> u64
-    ensures { λ n. ⌜ n ≡ compareCall (now (sheets .entry)) (now (questions .entry)) (now (codes .entry)) a b ⌝ }
+    ensures { λ n. ⌜ n ≡ compareCall (entry sheets) (entry questions) (entry codes) a b ⌝ }
 {
     if !network_whole(sheets.len(), questions.len(), codes.len()) {
         return NOT_WHOLE;

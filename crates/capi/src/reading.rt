@@ -1,9 +1,10 @@
 // The calls that write nothing, on bytes: decode and run.
 ghost use mathlib.Core.Path.{_≡_};
 ghost use Rattle.model.specs.Reply.{testReply, compareReply};
+ghost use Rattle.layout.specs.Loan.{entry};
 ghost use Rattle.wire.specs.Entries.{entries64};
 ghost use Rattle.encoding.specs.Packed.{packedPair};
-ghost use Rattle.capi.specs.Call.{networkIn, instanceIn};
+ghost use Rattle.capi.specs.Call.{byteNetwork, instanceAt};
 use consistency::test;
 use encoding::packing::pack_comparison;
 use encoding::packing::pack_verdict;
@@ -21,7 +22,7 @@ pub fn test_bytes(
     combinations: &[u8],
     marks: &[u8],
 ) -> u64
-    ensures { λ n. ⌜ n ≡ packedPair (testReply (instanceIn (now (sheets .entry)) (now (questions .entry)) (now (codes .entry)) m (now (combinations .entry))) (entries64 (now (marks .entry)))) ⌝ }
+    ensures { λ n. ⌜ n ≡ packedPair (testReply (instanceAt entry sheets questions codes m combinations) (entries64 (entry marks))) ⌝ }
 {
     let mut variables = [0u16; 513];
     let mut values = [0u16; 32769];
@@ -44,7 +45,7 @@ pub fn test_bytes(
 
 // Compare, on lists that are whole.
 pub fn compare_bytes(sheets: &[u8], questions: &[u8], codes: &[u8], a: u16, b: u16) -> u64
-    ensures { λ n. ⌜ n ≡ packedPair (compareReply (networkIn (now (sheets .entry)) (now (questions .entry)) (now (codes .entry))) a b) ⌝ }
+    ensures { λ n. ⌜ n ≡ packedPair (compareReply (byteNetwork (entry sheets) (entry questions) (entry codes)) a b) ⌝ }
 {
     let mut variables = [0u16; 513];
     let mut values = [0u16; 32769];

@@ -25,6 +25,7 @@ use model::MAX_MEMBERS;
 use model::MAX_RELATIONS;
 use model::MAX_SUPPORT_NUMBERS;
 use model::MIN_MEMBERS;
+use model::Value;
 use model::WORD_BITS;
 use model::refusal;
 
@@ -46,7 +47,7 @@ fn mask_of(scope: &[u16]) -> u64
 }
 
 // Of each relation the set of its scope's variables.
-fn masks(variables: &[u16], values: &[u16], starts: &Starts) -> Masks
+fn masks(variables: &[u16], values: &[Value], starts: &Starts) -> Masks
     requires { ⌜ SoundLists (lists now variables values starts) ⌝ }
     ensures { λ ms. ⌜ Masks (networkIn (lists entry variables values starts)) ms ⌝ }
 {
@@ -188,7 +189,7 @@ fn all_connected(masks: &Masks, m: usize, members: &[u16]) -> bool
 }
 
 // The number of the combinations' first fault, 7 to 10, or 0.
-pub fn fault(variables: &[u16], values: &[u16], starts: &Starts, m: u16, members: &[u16]) -> u8
+pub fn fault(variables: &[u16], values: &[Value], starts: &Starts, m: u16, members: &[u16]) -> u8
     requires { ⌜ SoundLists (lists now variables values starts) ⌝ }
     ensures { λ f. ⌜ f ≡ refusal (firstFault (combinationFaults (instanceIn (setting entry variables values starts members m)))) ⌝ }
 {

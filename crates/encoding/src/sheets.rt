@@ -1,5 +1,6 @@
 // Relation records as bytes.
 ghost use mathlib.Core.Path.{_≡_};
+ghost use Rattle.layout.specs.Loan.{entry};
 ghost use Rattle.layout.specs.Shape.{shapeOf};
 ghost use Rattle.encoding.specs.Records.{records};
 use layout::Shape;
@@ -9,7 +10,7 @@ use wire::u16_at;
 
 // The relation records taken apart.
 pub fn shape_at(sheets: &[u8]) -> Shape
-    ensures { λ s. ⌜ s ≡ shapeOf (records (now (sheets .entry))) ⌝ }
+    ensures { λ s. ⌜ s ≡ shapeOf (records (entry sheets)) ⌝ }
 {
     let count = sheets.len() / 4;
     let first = least(count, MAX_RELATIONS);

@@ -3,6 +3,7 @@ ghost use mathlib.Core.Path.{_≡_};
 ghost use Prim.Native.Nat.{_*_, _≤_, _<_};
 ghost use lib.ListN.{length};
 ghost use Rattle.model.specs.Reply.{answerNumbers, replied};
+ghost use Rattle.layout.specs.Loan.{entry, exit};
 ghost use Rattle.encoding.specs.Packed.{outcome, writtenBack};
 use super::packing::kind_of;
 use super::packing::pack;
@@ -20,7 +21,7 @@ pub fn write_back(
 ) -> u64
     requires { ⌜ answerNumbers a .subject < 256 ⌝ }
     requires { ⌜ (8 * length (now words) ≤ length (now marks)) × (2 * length (now numbers) ≤ length (now supports)) ⌝ }
-    ensures { λ n. ⌜ outcome n (now (marks .exit)) (now (supports .exit)) ≡ writtenBack (replied a (now (words .entry)) (now (numbers .entry))) (now (marks .entry)) (now (supports .entry)) ⌝ }
+    ensures { λ n. ⌜ outcome n (exit marks) (exit supports) ≡ writtenBack (replied a (entry words) (entry numbers)) (entry marks) (entry supports) ⌝ }
 {
     if kind_of(a) == 2 {
         return pack(a);

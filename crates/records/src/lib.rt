@@ -1,16 +1,19 @@
-// The five calls over a lent list of relation records.
+// The five calls over a list of relation records.
 ghost use mathlib.Core.Path.{_≡_};
 ghost use Prim.Native.Nat.{_<_};
 ghost use Rattle.model.specs.Limits.{maxRelations};
 ghost use Rattle.model.specs.Request.{filter, withdraw, choose};
-ghost use Rattle.model.specs.Reply.{reply, verdictNumbers, testReply, comparisonNumbers, compareReply, request, replied};
+ghost use Rattle.model.specs.Reply.{verdictNumbers, testReply, comparisonNumbers, compareReply};
+ghost use Rattle.layout.specs.Loan.{entry};
 ghost use Rattle.layout.specs.Shape.{shapeOf};
-ghost use Rattle.records.specs.Records.{network, instance, lesser, unread, withRecord};
+ghost use Rattle.changes.specs.Change.{Replies};
+ghost use Rattle.records.specs.Records.{entryNetwork, entryInstance, lesser, unread, withRecord};
 use layout::Shape;
 use model::Answer;
 use model::Comparison;
 use model::MAX_RELATIONS;
 use model::Relation;
+use model::Value;
 use model::Verdict;
 
 // n, or 64 where n is more.
@@ -60,13 +63,13 @@ pub fn shape_of(relations: &[Relation]) -> Shape
 pub fn filter(
     relations: &[Relation],
     variables: &[u16],
-    values: &[u16],
+    values: &[Value],
     m: u16,
     members: &[u16],
     words: &mut [u64],
     supports: &mut [u16],
 ) -> Answer
-    ensures { λ a. ⌜ replied a (now (words .exit)) (now (supports .exit)) ≡ reply (request (instance (now (relations .entry)) (now (variables .entry)) (now (values .entry)) m (now (members .entry))) (now (words .entry)) (now (supports .entry)) filter) ⌝ }
+    ensures { λ a. ⌜ Replies a (entryInstance relations variables values m members) words supports filter ⌝ }
 {
     let shape = shape_of(relations);
     changes::filter(shape, variables, values, m, members, words, supports)
@@ -76,14 +79,14 @@ pub fn filter(
 pub fn withdraw(
     relations: &[Relation],
     variables: &[u16],
-    values: &[u16],
+    values: &[Value],
     m: u16,
     members: &[u16],
     words: &mut [u64],
     supports: &mut [u16],
     ids: &[u16],
 ) -> Answer
-    ensures { λ a. ⌜ replied a (now (words .exit)) (now (supports .exit)) ≡ reply (request (instance (now (relations .entry)) (now (variables .entry)) (now (values .entry)) m (now (members .entry))) (now (words .entry)) (now (supports .entry)) (withdraw (now (ids .entry)))) ⌝ }
+    ensures { λ a. ⌜ Replies a (entryInstance relations variables values m members) words supports (withdraw (entry ids)) ⌝ }
 {
     let shape = shape_of(relations);
     changes::withdraw(shape, variables, values, m, members, words, supports, ids)
@@ -93,15 +96,15 @@ pub fn withdraw(
 pub fn choose(
     relations: &[Relation],
     variables: &[u16],
-    values: &[u16],
+    values: &[Value],
     m: u16,
     members: &[u16],
     words: &mut [u64],
     supports: &mut [u16],
     x: u16,
-    v: u16,
+    v: Value,
 ) -> Answer
-    ensures { λ a. ⌜ replied a (now (words .exit)) (now (supports .exit)) ≡ reply (request (instance (now (relations .entry)) (now (variables .entry)) (now (values .entry)) m (now (members .entry))) (now (words .entry)) (now (supports .entry)) (choose x v)) ⌝ }
+    ensures { λ a. ⌜ Replies a (entryInstance relations variables values m members) words supports (choose x v) ⌝ }
 {
     let shape = shape_of(relations);
     changes::choose(shape, variables, values, m, members, words, supports, x, v)
@@ -111,12 +114,12 @@ pub fn choose(
 pub fn test(
     relations: &[Relation],
     variables: &[u16],
-    values: &[u16],
+    values: &[Value],
     m: u16,
     members: &[u16],
     words: &[u64],
 ) -> Verdict
-    ensures { λ v. ⌜ verdictNumbers v ≡ testReply (instance (now (relations .entry)) (now (variables .entry)) (now (values .entry)) m (now (members .entry))) (now (words .entry)) ⌝ }
+    ensures { λ v. ⌜ verdictNumbers v ≡ testReply (entryInstance relations variables values m members) (entry words) ⌝ }
 {
     let shape = shape_of(relations);
     consistency::test(shape, variables, values, m, members, words)
@@ -126,11 +129,11 @@ pub fn test(
 pub fn compare(
     relations: &[Relation],
     variables: &[u16],
-    values: &[u16],
+    values: &[Value],
     g: u16,
     h: u16,
 ) -> Comparison
-    ensures { λ a. ⌜ comparisonNumbers a ≡ compareReply (network (now (relations .entry)) (now (variables .entry)) (now (values .entry))) g h ⌝ }
+    ensures { λ a. ⌜ comparisonNumbers a ≡ compareReply (entryNetwork relations variables values) g h ⌝ }
 {
     let shape = shape_of(relations);
     network::comparison::compare(shape, variables, values, g, h)

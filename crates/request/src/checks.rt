@@ -15,6 +15,7 @@ use layout::starts_of;
 use layout::tuple_count;
 use layout::wide;
 use model::VARIABLES;
+use model::Value;
 use model::refusal;
 
 // The number of the first fault, or 0; and if it is 0, where each relation begins in the lists.
@@ -24,7 +25,7 @@ pub struct Opening {
 }
 
 // The network's first fault, 2 to 6, or where its relations begin.
-pub fn network_checked(shape: Shape, variables: &[u16], values: &[u16]) -> Opening
+pub fn network_checked(shape: Shape, variables: &[u16], values: &[Value]) -> Opening
     ensures { λ o. ⌜ Opened o (networkFaults (networkOf shape (entry variables) (entry values))) (relationsOf shape) ⌝ }
 {
     let fault = network::faults::fault(shape, variables, values);
@@ -44,7 +45,7 @@ pub fn network_checked(shape: Shape, variables: &[u16], values: &[u16]) -> Openi
 fn instance_checked(
     shape: Shape,
     variables: &[u16],
-    values: &[u16],
+    values: &[Value],
     m: u16,
     members: &[u16],
 ) -> Opening
@@ -63,7 +64,7 @@ fn instance_checked(
 pub fn test_checked(
     shape: Shape,
     variables: &[u16],
-    values: &[u16],
+    values: &[Value],
     m: u16,
     members: &[u16],
     words: usize,
@@ -83,7 +84,7 @@ pub fn test_checked(
 pub fn checked(
     shape: Shape,
     variables: &[u16],
-    values: &[u16],
+    values: &[Value],
     m: u16,
     members: &[u16],
     words: usize,

@@ -59,7 +59,7 @@ pub fn listed(ids: &[u16]) -> Ids
 // The ids of relation r's tuples with another value than v under variable x are set, and every other bit stays.
 fn unlike_in(
     variables: &[u16],
-    values: &[u16],
+    values: &[Value],
     starts: &Starts,
     r: u16,
     x: u16,
@@ -89,7 +89,7 @@ fn unlike_in(
 }
 
 // The ids of all tuples, live or dead, with another value than v under variable x.
-pub fn unlike(variables: &[u16], values: &[u16], starts: &Starts, x: u16, v: Value) -> Words
+pub fn unlike(variables: &[u16], values: &[Value], starts: &Starts, x: u16, v: Value) -> Words
     requires { ⌜ SoundLists (lists now variables values starts) ⌝ }
     ensures { λ removed. ⌜ Holds removed (removedBy (networkIn (lists entry variables values starts)) (choose x v)) ⌝ }
 {

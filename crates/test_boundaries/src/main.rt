@@ -1,5 +1,6 @@
 // Document 01's boundaries: the last request that passes each limit, and the first that does not.
 use layout::Shape;
+use model::Value;
 use request::checks::checked;
 
 // So many relations, all with this width and tuple count.
@@ -22,11 +23,11 @@ fn sheets(variables: &[u16]) -> u8 {
         &none,
         0,
         0,
-    )
+    ).fault
 }
 
 // One relation with these tuples of one value, on so many live words.
-fn rows(count: u16, values: &[u16], words: usize) -> u8 {
+fn rows(count: u16, values: &[Value], words: usize) -> u8 {
     let variables = [0u16; 1];
     let members = [0u16; 0];
     checked(
@@ -37,14 +38,14 @@ fn rows(count: u16, values: &[u16], words: usize) -> u8 {
         &members,
         words,
         0,
-    )
+    ).fault
 }
 
 // One combination of m of five relations that share a variable.
 fn combination(m: u16, members: &[u16]) -> u8 {
     let variables = [0u16; 5];
     let values = [0u16; 5];
-    checked(uniform(5, 1, 1), &variables, &values, m, members, 1, 25)
+    checked(uniform(5, 1, 1), &variables, &values, m, members, 1, 25).fault
 }
 
 // A line with the refusal number, 0 where there is none.

@@ -5,6 +5,7 @@ use changes::withdraw;
 use layout::Shape;
 use model::Answer;
 use model::Comparison;
+use model::Value;
 use model::Verdict;
 
 // The records of a list that holds each relation's width and tuple count.
@@ -43,7 +44,7 @@ fn put(answer: Answer, out: &mut [u16; 5]) {
 pub extern "C" fn plain_filter(
     records: &[u16],
     variables: &[u16],
-    values: &[u16],
+    values: &[Value],
     m: u16,
     members: &[u16],
     words: &mut [u64],
@@ -66,7 +67,7 @@ pub extern "C" fn plain_filter(
 pub extern "C" fn plain_withdraw(
     records: &[u16],
     variables: &[u16],
-    values: &[u16],
+    values: &[Value],
     m: u16,
     members: &[u16],
     words: &mut [u64],
@@ -87,17 +88,17 @@ pub extern "C" fn plain_withdraw(
     put(answer, out);
 }
 
+// The choice is a variable and its value.
 #[no_mangle]
 pub extern "C" fn plain_choose(
     records: &[u16],
     variables: &[u16],
-    values: &[u16],
+    values: &[Value],
     m: u16,
     members: &[u16],
     words: &mut [u64],
     supports: &mut [u16],
-    x: u16,
-    v: u16,
+    choice: &[u16; 2],
     out: &mut [u16; 5],
 ) {
     let answer = choose(
@@ -108,8 +109,8 @@ pub extern "C" fn plain_choose(
         members,
         words,
         supports,
-        x,
-        v,
+        choice[0],
+        choice[1],
     );
     put(answer, out);
 }
@@ -119,7 +120,7 @@ pub extern "C" fn plain_choose(
 pub extern "C" fn plain_test(
     records: &[u16],
     variables: &[u16],
-    values: &[u16],
+    values: &[Value],
     m: u16,
     members: &[u16],
     words: &[u64],
@@ -137,7 +138,7 @@ pub extern "C" fn plain_test(
 pub extern "C" fn plain_compare(
     records: &[u16],
     variables: &[u16],
-    values: &[u16],
+    values: &[Value],
     g: u16,
     h: u16,
 ) -> u32 {

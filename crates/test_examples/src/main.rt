@@ -7,6 +7,7 @@ use layout::Shape;
 use model::Answer;
 use model::Comparison;
 use model::Counts;
+use model::Value;
 use model::Verdict;
 use network::comparison::compare;
 
@@ -72,7 +73,7 @@ fn say_numbers(what: &[u8], first: u16, second: u16) {
 }
 
 // P1 and P2: book A filtered, and tested before and after.
-fn filtered(variables: &[u16], values: &[u16], words: &mut [u64; 1], supports: &mut [u16; 40]) {
+fn filtered(variables: &[u16], values: &[Value], words: &mut [u64; 1], supports: &mut [u16; 40]) {
     let shape = triangle(3, 2, 2);
     let pairs = [0u16, 1, 0, 2, 1, 2];
     say_verdict(
@@ -92,7 +93,7 @@ fn filtered(variables: &[u16], values: &[u16], words: &mut [u64; 1], supports: &
 fn withdrawn(
     what: &[u8],
     variables: &[u16],
-    values: &[u16],
+    values: &[Value],
     words: &mut [u64; 1],
     supports: &mut [u16; 40],
     id: u16,
@@ -113,7 +114,7 @@ fn withdrawn(
 }
 
 // P9: fresh A with value 6 chosen under variable 2; and two comparisons.
-fn chosen(variables: &[u16], values: &[u16], words: &mut [u64; 1], supports: &mut [u16; 40]) {
+fn chosen(variables: &[u16], values: &[Value], words: &mut [u64; 1], supports: &mut [u16; 40]) {
     let shape = triangle(3, 2, 2);
     let pairs = [0u16, 1, 0, 2, 1, 2];
     let p9 = choose(shape, variables, values, 2, &pairs, words, supports, 2, 6);

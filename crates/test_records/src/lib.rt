@@ -1,28 +1,30 @@
-// The calls over a lent list of relation records, exported for the test drivers of tests/c: each runs a call of `lent`, and packs its
+// The calls over a list of relation records, exported for the test drivers of tests/c: each runs a call of `records`, and packs its
 // answer.
 ghost use mathlib.Core.Path.{_≡_};
 ghost use Rattle.model.specs.Request.{filter, withdraw, choose};
-ghost use Rattle.model.specs.Reply.{reply, testReply, compareReply, request};
-ghost use Rattle.records.specs.Records.{network, instance};
+ghost use Rattle.model.specs.Reply.{testReply, compareReply};
+ghost use Rattle.layout.specs.Loan.{entry};
+ghost use Rattle.records.specs.Records.{entryNetwork, entryInstance};
 ghost use Rattle.encoding.specs.Packed.{packedPair};
-ghost use Rattle.test_records.specs.Packing.{repliedIn};
+ghost use Rattle.test_records.specs.Packing.{RepliesIn};
 use encoding::packing::pack;
 use encoding::packing::pack_comparison;
 use encoding::packing::pack_verdict;
 use model::Relation;
+use model::Value;
 
 // Filters what lives.
 #[no_mangle]
 pub extern "C" fn records_filter(
     relations: &[Relation],
     variables: &[u16],
-    values: &[u16],
+    values: &[Value],
     m: u16,
     members: &[u16],
     words: &mut [u64],
     supports: &mut [u16],
 ) -> u64
-    ensures { λ n. ⌜ repliedIn n (now (words .exit)) (now (supports .exit)) ≡ reply (request (instance (now (relations .entry)) (now (variables .entry)) (now (values .entry)) m (now (members .entry))) (now (words .entry)) (now (supports .entry)) filter) ⌝ }
+    ensures { λ n. ⌜ RepliesIn n (entryInstance relations variables values m members) words supports filter ⌝ }
 {
     let answer = records::filter(relations, variables, values, m, members, words, supports);
     pack(answer)
@@ -33,14 +35,14 @@ pub extern "C" fn records_filter(
 pub extern "C" fn records_withdraw(
     relations: &[Relation],
     variables: &[u16],
-    values: &[u16],
+    values: &[Value],
     m: u16,
     members: &[u16],
     words: &mut [u64],
     supports: &mut [u16],
     ids: &[u16],
 ) -> u64
-    ensures { λ n. ⌜ repliedIn n (now (words .exit)) (now (supports .exit)) ≡ reply (request (instance (now (relations .entry)) (now (variables .entry)) (now (values .entry)) m (now (members .entry))) (now (words .entry)) (now (supports .entry)) (withdraw (now (ids .entry)))) ⌝ }
+    ensures { λ n. ⌜ RepliesIn n (entryInstance relations variables values m members) words supports (withdraw (entry ids)) ⌝ }
 {
     let answer = records::withdraw(
         relations,
@@ -60,15 +62,15 @@ pub extern "C" fn records_withdraw(
 pub extern "C" fn records_choose(
     relations: &[Relation],
     variables: &[u16],
-    values: &[u16],
+    values: &[Value],
     m: u16,
     members: &[u16],
     words: &mut [u64],
     supports: &mut [u16],
     x: u16,
-    v: u16,
+    v: Value,
 ) -> u64
-    ensures { λ n. ⌜ repliedIn n (now (words .exit)) (now (supports .exit)) ≡ reply (request (instance (now (relations .entry)) (now (variables .entry)) (now (values .entry)) m (now (members .entry))) (now (words .entry)) (now (supports .entry)) (choose x v)) ⌝ }
+    ensures { λ n. ⌜ RepliesIn n (entryInstance relations variables values m members) words supports (choose x v) ⌝ }
 {
     let answer = records::choose(
         relations,
@@ -89,12 +91,12 @@ pub extern "C" fn records_choose(
 pub extern "C" fn records_test(
     relations: &[Relation],
     variables: &[u16],
-    values: &[u16],
+    values: &[Value],
     m: u16,
     members: &[u16],
     words: &[u64],
 ) -> u64
-    ensures { λ n. ⌜ n ≡ packedPair (testReply (instance (now (relations .entry)) (now (variables .entry)) (now (values .entry)) m (now (members .entry))) (now (words .entry))) ⌝ }
+    ensures { λ n. ⌜ n ≡ packedPair (testReply (entryInstance relations variables values m members) (entry words)) ⌝ }
 {
     let answer = records::test(relations, variables, values, m, members, words);
     pack_verdict(answer)
@@ -105,11 +107,11 @@ pub extern "C" fn records_test(
 pub extern "C" fn records_compare(
     relations: &[Relation],
     variables: &[u16],
-    values: &[u16],
+    values: &[Value],
     g: u16,
     h: u16,
 ) -> u64
-    ensures { λ n. ⌜ n ≡ packedPair (compareReply (network (now (relations .entry)) (now (variables .entry)) (now (values .entry))) g h) ⌝ }
+    ensures { λ n. ⌜ n ≡ packedPair (compareReply (entryNetwork relations variables values) g h) ⌝ }
 {
     let answer = records::compare(relations, variables, values, g, h);
     pack_comparison(answer)

@@ -1,8 +1,8 @@
 -- Read this first: the mission's three points, of the calls themselves and from nothing but their contracts.
 --
--- A change call answers a and leaves the live words and the support list it was lent. The contract of each of
+-- A change call answers a and leaves the live words and the support list. The contract of each of
 --   changes::filter, changes::withdraw, changes::choose    (plain lists)
---   lent::filter, lent::withdraw, lent::choose             (the records as one lent slice)
+--   records::filter, records::withdraw, records::choose    (the relation records as one slice)
 -- is `Keeps q a words supports` and nothing more, with q the request of its arguments at entry. It has no `requires`.
 -- The functions for C give the same replies, as one number and bytes (capi/specs/Call.antt).
 -- test and compare write nothing; their contracts are the equations `Tested` and `Compared`.

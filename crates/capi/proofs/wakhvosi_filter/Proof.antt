@@ -3,7 +3,7 @@
 use mathlib.Core.Path.{ap, _∙_}
 use mathlib.Core.Bool.{Bool}
 use Rattle.model.specs.Request.{filter}
-use Rattle.capi.specs.Call.{lent, wholeLent, answered, filterCall, changeIn}
+use Rattle.capi.specs.Call.{byteLists, wholeLists, answered, filterCall, changeIn}
 use Rattle.capi.proofs.Calls.{whole-alone}
 use borrow.Author.Needs.{needs}
 use Rattle.capi.proofs.wakhvosi_filter.Statement.{statement}
@@ -13,8 +13,8 @@ returns : tie.Need-returns
 unfolding filterCall changeIn
 returns c =
     let a = c .before .before .before .before .before .before .before .before .before .before .before .before .before .before .args in
-    let given = lent (a .sheets .now) (a .questions .now) (a .codes .now) (a .m) (a .combinations .now) (a .marks .now) (a .supports .now) in
-    c .before .before .before .before .change-call .ensures ∙ ap (λ (b : Bool). answered b given filter) (whole-alone (wholeLent given))
+    let given = byteLists (λ (l : List ℕ). l) (a .sheets .now) (a .questions .now) (a .codes .now) (a .m) (a .combinations .now) (a .marks .now) (a .supports .now) in
+    c .before .before .before .before .change-call .ensures ∙ ap (λ (b : Bool). answered b given filter) (whole-alone (wholeLists given))
 
 pub wakhvosi-filter-spec : {M : Type 1} → statement M
 wakhvosi-filter-spec =

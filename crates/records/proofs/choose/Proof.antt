@@ -18,7 +18,7 @@ use Rattle.changes.proofs.choose as work
 use Rattle.changes.proofs.choose.Symbol as work-def
 use Rattle.changes.proofs.choose.Symbol.{name as #changes·choose}
 use Rattle.changes.proofs.choose.Met as work-thm
-use Rattle.records.specs.Records.{instance}
+use Rattle.records.specs.Records.{recordInstance}
 use Rattle.records.proofs.Walk.{URA, named, w16, vint, vptr, SProp, ent, id⊢, flft, Memory, Routine, Heap, WpFn, Tables, Atoms, sem, Lfts, Shares, Fun, givenOf, tables, tablesOf, Given, ‵, raw, _⊛_, _$_, _∵_, !, qed, move, whole, sub, look-in, agg, look, hop, fld, load, addr, and-then, assigns, init, stop, from, no-more, land, enter, params1, pass1, pass0, fmOf, owns, flat, Are, Ises, RefT, now, ptr, slice-vals, uint-vals, uint-tells, shr-slice-tells, mut-slice-tells, typesAt, u16, u64, Contract, Triple, Args, Vals, alive, onEntry, Meets, tripleOf, entered, cited, ensured, lasts}
 use Rattle.records.proofs.Locals.{sv, list-typed, others, allocated, operand, met, retold}
 use Rattle.records.proofs.Pass.{ShapeOf, records, takes-apart, answers}
@@ -68,7 +68,7 @@ module _ {M : Type 1} (𝓤 : URA M) (H : Heap 𝓤) (A : Atoms 𝓤) (W : Given
   tells r =
       retold 𝓤 (λ zs. (tt, zs .1)) (λ zs. sem 𝓤 H A (lasts f.ended κs a zs))
       (λ zs. Replies (instanceOf (shapeOf (now relations)) (now variables) (now values) m (now members)) r (zs .1 .1 .1 .1 .1 .0) (zs .1 .1 .1 .1 .1 .1 .0))
-      (λ zs. Replies (instance (now relations) (now variables) (now values) m (now members)) r (zs .1 .1 .1 .1 .1 .0) (zs .1 .1 .1 .1 .1 .1 .0))
+      (λ zs. Replies (recordInstance (now relations) (now variables) (now values) m (now members)) r (zs .1 .1 .1 .1 .1 .0) (zs .1 .1 .1 .1 .1 .1 .0))
       (λ zs e. e ∙ reply-shapeOf (now relations) (now variables) (now values) m (now members) (now words) (now supports) (choose x v))
 
   walk : (𝓣 : Tables 𝓤 H) → Triple 𝓤 (𝓣 .C #records·shape-of) (ShapeOf 𝓤 H A mem run) → Triple 𝓤 (𝓣 .C #changes·choose) (Work 𝓤 H A mem run)

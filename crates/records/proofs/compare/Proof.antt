@@ -18,7 +18,7 @@ use Rattle.network.proofs.comparison.compare as work
 use Rattle.network.proofs.comparison.compare.Symbol as work-def
 use Rattle.network.proofs.comparison.compare.Symbol.{name as #network·comparison·compare}
 use Rattle.network.proofs.comparison.compare.Met as work-thm
-use Rattle.records.specs.Records.{network}
+use Rattle.records.specs.Records.{recordNetwork}
 use Rattle.records.proofs.Walk.{URA, named, w16, vint, SProp, ent, id⊢, flft, Memory, Routine, Heap, WpFn, Tables, Atoms, sem, Lfts, Shares, Fun, givenOf, tables, tablesOf, Given, ‵, raw, _⊛_, _$_, _∵_, !, qed, move, init, stop, from, no-more, land, enter, params1, pass1, pass0, fmOf, owns, flat, Are, Ises, RefT, now, slice-vals, uint-vals, uint-tells, shr-slice-tells, typesAt, u16, Contract, Triple, Args, Vals, alive, onEntry, Meets, tripleOf, entered, cited, ensured, lasts}
 use Rattle.records.proofs.Locals.{sv, list-typed, others, allocated, operand, met, retold}
 use Rattle.records.proofs.Pass.{ShapeOf, records, takes-apart, answers}
@@ -68,7 +68,7 @@ module _ {M : Type 1} (𝓤 : URA M) (H : Heap 𝓤) (A : Atoms 𝓤) (W : Given
   tells r =
       retold 𝓤 (λ zs. (tt, zs .1)) (λ zs. sem 𝓤 H A (lasts f.ended κs a zs))
       (λ zs. Replies (networkOf (shapeOf (now relations)) (now variables) (now values)) r)
-      (λ zs. Replies (network (now relations) (now variables) (now values)) r)
+      (λ zs. Replies (recordNetwork (now relations) (now variables) (now values)) r)
       (λ zs e. e ∙ compareReply-shapeOf (now relations) (now variables) (now values) g h)
 
   walk : (𝓣 : Tables 𝓤 H) → Triple 𝓤 (𝓣 .C #records·shape-of) (ShapeOf 𝓤 H A mem run) → Triple 𝓤 (𝓣 .C #network·comparison·compare) (Work 𝓤 H A mem run)

@@ -18,7 +18,7 @@ use Rattle.consistency.proofs.test as work
 use Rattle.consistency.proofs.test.Symbol as work-def
 use Rattle.consistency.proofs.test.Symbol.{name as #consistency·test}
 use Rattle.consistency.proofs.test.Met as work-thm
-use Rattle.records.specs.Records.{instance}
+use Rattle.records.specs.Records.{recordInstance}
 use Rattle.records.proofs.Walk.{URA, named, w16, vint, SProp, ent, id⊢, flft, Memory, Routine, Heap, WpFn, Tables, Atoms, sem, Lfts, Shares, Fun, givenOf, tables, tablesOf, Given, ‵, raw, _⊛_, _$_, _∵_, !, qed, move, init, stop, from, no-more, land, enter, params1, pass1, pass0, fmOf, owns, flat, Are, Ises, RefT, now, slice-vals, uint-vals, uint-tells, shr-slice-tells, typesAt, u16, u64, Contract, Triple, Args, Vals, alive, onEntry, Meets, tripleOf, entered, cited, ensured, lasts}
 use Rattle.records.proofs.Locals.{sv, list-typed, others, allocated, operand, met, retold}
 use Rattle.records.proofs.Pass.{ShapeOf, records, takes-apart, answers}
@@ -68,7 +68,7 @@ module _ {M : Type 1} (𝓤 : URA M) (H : Heap 𝓤) (A : Atoms 𝓤) (W : Given
   tells r =
       retold 𝓤 (λ zs. (tt, zs .1)) (λ zs. sem 𝓤 H A (lasts f.ended κs a zs))
       (λ zs. Replies (instanceOf (shapeOf (now relations)) (now variables) (now values) m (now members)) r)
-      (λ zs. Replies (instance (now relations) (now variables) (now values) m (now members)) r)
+      (λ zs. Replies (recordInstance (now relations) (now variables) (now values) m (now members)) r)
       (λ zs e. e ∙ testReply-shapeOf (now relations) (now variables) (now values) m (now members) (now words))
 
   walk : (𝓣 : Tables 𝓤 H) → Triple 𝓤 (𝓣 .C #records·shape-of) (ShapeOf 𝓤 H A mem run) → Triple 𝓤 (𝓣 .C #consistency·test) (Work 𝓤 H A mem run)

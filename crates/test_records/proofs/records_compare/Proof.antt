@@ -14,7 +14,7 @@ use Rattle.model.proofs.Relation as T
 use Rattle.model.proofs.Comparison as R
 use Rattle.model.proofs.Comparison.Laws as R′
 use Rattle.encoding.specs.Packed.{packedPair}
-use Rattle.records.specs.Records.{network}
+use Rattle.records.specs.Records.{recordNetwork}
 use Rattle.records.proofs.compare as work
 use Rattle.records.proofs.compare.Symbol as work-def
 use Rattle.records.proofs.compare.Symbol.{name as #records·compare}
@@ -70,7 +70,7 @@ module _ {M : Type 1} (𝓤 : URA M) (H : Heap 𝓤) (A : Atoms 𝓤) (W : Given
 
   -- the reply
   abbrev reply : ℕ × ℕ
-  reply = compareReply (network (now relations) (now variables) (now values)) g h
+  reply = compareReply (recordNetwork (now relations) (now variables) (now values)) g h
 
   fits : (r : Comparison) → ent 𝓤 (Said r) (sep 𝓤 (Said r) (fact 𝓤 (Fits r)))
   fits r = shown W Last (λ zs. comparisonNumbers r ≡ reply) (Fits r) (λ zs e. tt)

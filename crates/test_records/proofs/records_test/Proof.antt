@@ -14,7 +14,7 @@ use Rattle.model.proofs.Relation as T
 use Rattle.model.proofs.Verdict as R
 use Rattle.model.proofs.Verdict.Laws as R′
 use Rattle.encoding.specs.Packed.{packedPair}
-use Rattle.records.specs.Records.{instance}
+use Rattle.records.specs.Records.{recordInstance}
 use Rattle.records.proofs.test as work
 use Rattle.records.proofs.test.Symbol as work-def
 use Rattle.records.proofs.test.Symbol.{name as #records·test}
@@ -70,7 +70,7 @@ module _ {M : Type 1} (𝓤 : URA M) (H : Heap 𝓤) (A : Atoms 𝓤) (W : Given
 
   -- the reply
   abbrev reply : ℕ × ℕ
-  reply = testReply (instance (now relations) (now variables) (now values) m (now members)) (now words)
+  reply = testReply (recordInstance (now relations) (now variables) (now values) m (now members)) (now words)
 
   fits : (r : Verdict) → ent 𝓤 (Said r) (sep 𝓤 (Said r) (fact 𝓤 (Fits r)))
   fits r = shown W Last (λ zs. verdictNumbers r ≡ reply) (Fits r) (λ zs e. tt)

@@ -16,7 +16,7 @@ use Rattle.model.proofs.Answer as R
 use Rattle.model.proofs.Answer.Laws as R′
 use Rattle.encoding.specs.Packed.{packed}
 use Rattle.test_records.specs.Packing.{repliedIn}
-use Rattle.records.specs.Records.{instance}
+use Rattle.records.specs.Records.{recordInstance}
 use Rattle.records.proofs.withdraw as work
 use Rattle.records.proofs.withdraw.Symbol as work-def
 use Rattle.records.proofs.withdraw.Symbol.{name as #records·withdraw}
@@ -74,7 +74,7 @@ module _ {M : Type 1} (𝓤 : URA M) (H : Heap 𝓤) (A : Atoms 𝓤) (W : Given
 
   -- the request
   abbrev q : Request
-  q = request (instance (now relations) (now variables) (now values) m (now members)) (now words) (now supports) (withdraw (now ids))
+  q = request (recordInstance (now relations) (now variables) (now values) m (now members)) (now words) (now supports) (withdraw (now ids))
 
   -- the lists at the end, with an answer, are its reply
   abbrev Replies : (List ℕ → List ℕ → Reply) → Lasts f.ended κs a → Type 0

@@ -6,20 +6,20 @@ use mathlib.Core.Bool.{Bool, true, _&&_}
 use borrow.Author.Tests.{not-true, not-false, eq-eqb, ne-eqb}
 use lib.ListN.{length}
 use Rattle.encoding.specs.Whole.{whole}
-use Rattle.capi.specs.Call.{Lent, lent, wholeLent, answered}
+use Rattle.capi.specs.Call.{ByteLists, byteLists, wholeLists, answered}
 use borrow.Author.Needs.{needs}
 use Rattle.capi.proofs.change.change_call.Statement.{statement}
 use Rattle.capi.proofs.change.change_call.Tie as tie
 
-abbrev given : tie.Start → Lent
+abbrev given : tie.Start → ByteLists
 given c =
     let a = c .args in
-    lent (a .sheets .now) (a .questions .now) (a .codes .now) (a .m) (a .combinations .now) (a .marks .now) (a .supports .now)
+    byteLists (λ (l : List ℕ). l) (a .sheets .now) (a .questions .now) (a .codes .now) (a .m) (a .combinations .now) (a .marks .now) (a .supports .now)
 
 abbrev ids-whole : tie.Start → Bool
 ids-whole c = whole 2 (length (c .args .ids .now))
 
-all-whole : (c : tie.Else1) → wholeLent (given (c .before .before .before .before .before .before .before .before .before)) ≡ true
+all-whole : (c : tie.Else1) → wholeLists (given (c .before .before .before .before .before .before .before .before .before)) ≡ true
 all-whole c = sym (c .before .change-whole .ensures) ∙ not-false _ (c .if1 .left)
 
 returns : tie.Need-returns
