@@ -8,24 +8,23 @@ use native.Mathlib.Decide.{ℕ-discrete, decLt}
 use native.Mathlib.Omega.{arith}
 use lib.ListN.{length, getD, replicate}
 use lib.Seq.{getD-set-same, getD-set-other}
-use Rattle.model.specs.Limits.{maxMembers}
+use Rattle.model.specs.Limits.{maxMembers, wordBits}
 use Rattle.model.specs.Lists.{any}
 use Rattle.model.specs.TupleSet.{TupleSet, has}
-use Rattle.model.specs.Network.{Network, size, total, firstId, idsOf, tuplesIn}
+use Rattle.model.specs.Network.{Network, size, total, firstId, idsOf}
 use Rattle.model.specs.Combination.{Combination, pairMember}
 use Rattle.model.specs.Support.{candidates, isSupport}
 use Rattle.model.specs.LiveWords.{nextLive}
 use Rattle.model.proofs.Bools.{iff-eq, implies-intro, implies-elim, not-both}
 use Rattle.model.proofs.Lists.{all-at, all-intro, any-at, any-intro, from-mem, mem-from}
-use Rattle.model.proofs.Network.{before-within}
 use Rattle.model.proofs.LiveWords.{living-length, living-has, nextLive-first}
 use Rattle.model.proofs.Support.{Supported}
 use Rattle.model.proofs.Consistency.{isConsistent-pairs}
-use Rattle.layout.specs.Starts.{tupleStart}
 use Rattle.layout.specs.Setting.{Setting, network, liveIn, Sound}
 use Rattle.layout.specs.Pairs.{combinationOf, sizeOf}
-use Rattle.layout.proofs.SoundStarts.{tuples-few, tuple-start, tuple-end}
-use Rattle.layout.proofs.Pairs.{combination-length, combination-proper, place-below, member-at, member-exists, member-below}
+use Rattle.layout.proofs.SoundStarts.{tuples-few}
+use Rattle.layout.proofs.Pairs.{combination-length, combination-proper, place-below, member-at}
+use Rattle.layout.proofs.Rows.{Row, row-total, row-index, row-id}
 use Rattle.narrowing.specs.Index.{Long}
 use Rattle.support.specs.Search.{Search, SoundSearch}
 use Rattle.consistency.specs.Consistent.{lowest, hasSupport, consistentIn, pairConsistent, allConsistent}
@@ -91,34 +90,14 @@ module _ {G : Setting} (sound : Sound G) (words : List ℕ) where
 
 -- ---- One pair
 
--- The ids of the tuples of pair p's member, from `first` on and below `end`, and an array of live words.
-pub record Row (G : Setting) (words : List ℕ) (p first end : ℕ) : Type 0 where
-  pub sound : Sound G
-  pub long : Long words
-  pub pair : p < length (G .members)
-  pub is-first : first ≡ firstId (network G) (pairMember (G .members) p)
-  pub is-end : end ≡ first + sizeOf G p
-
-pub row-of : {G : Setting} {words : List ℕ} {p first end : ℕ} → Sound G → Long words → p < length (G .members) → first ≡ tupleStart (G .lists .starts) (pairMember (G .members) p) → end ≡ tupleStart (G .lists .starts) (pairMember (G .members) p + 1) → Row G words p first end
-row-of {G} {p = p} sound long h es ee =
-    let b = member-below (sound .laid .framed) (sound .paired) p h in
-    let s = es ∙ tuple-start (sound .laid .framed) (pairMember (G .members) p) (omega arith) in
-    record {
-      sound = sound;
-      long = long;
-      pair = h;
-      is-first = s;
-      is-end = omega (arith, ee, s, tuple-end (sound .laid .framed) (pairMember (G .members) p) b);
-    }
-
--- The walk over these ids has come to id g, which is live or the end: every live tuple before it has a support.
+-- The walk over the ids of pair p's member has come to id g, which is live or the end: every live tuple before it has a support.
 pub record WalkAt (G : Setting) (words : List ℕ) (p first end g : ℕ) : Type 0 where
   pub from-first : first ≤ g
   pub to-end : g ≤ end
   pub lives : g < end → has (liveIn G words) g ≡ true
   pub passed : (i : ℕ) → first ≤ i → i < g → has (liveIn G words) i ≡ true → Supported (network G) (liveIn G words) (combinationOf G p) i
 
-module _ {G : Setting} {words : List ℕ} {p first end : ℕ} (row : Row G words p first end) where
+module _ {G : Setting} {words : List ℕ} {p first end : ℕ} (long : Long words) (row : Row G p first end) where
   abbrev N : Network
   N = network G
 
@@ -131,15 +110,8 @@ module _ {G : Setting} {words : List ℕ} {p first end : ℕ} (row : Row G words
   abbrev place : ℕ
   place = p % G .m
 
-  inside : end ≤ total N
-  inside =
-      omega (arith, row .is-first, row .is-end, before-within tuplesIn (N .relations) (pairMember (G .members) p) (member-exists (row .sound .laid .framed) (row .sound .paired) p (row .pair)))
-
-  -- what `next` asks
-  pub walk-asks : (g : ℕ) → g ≤ end → (g ≤ end) × (end ≤ 64 * length words) × (end ≤ 4096)
-  walk-asks g h =
-      let t : end ≤ 4096 = omega (arith, inside, tuples-few (row .sound .laid .framed)) in
-      (h, omega (arith, row .long), t)
+  pub words-enough : total N ≤ wordBits * length words
+  words-enough = omega (arith, long, tuples-few (row .sound .laid .framed))
 
   -- from i on to the next that lives
   walk-next : (i : ℕ) → first ≤ i → i ≤ end → ((j : ℕ) → first ≤ j → j < i → has S j ≡ true → Supported N S c j) → WalkAt G words p first end (nextLive words i end)
@@ -148,7 +120,7 @@ module _ {G : Setting} {words : List ℕ} {p first end : ℕ} (row : Row G words
       record {
         from-first = omega (arith, f .from-i);
         to-end = f .to-end;
-        lives = λ l. living-has (total N) words (nextLive words i end) (omega (arith, inside)) ∙ f .passes l;
+        lives = λ l. living-has (total N) words (nextLive words i end) (omega (arith, row-total row)) ∙ f .passes l;
         passed = λ j k l e. earlier j k l e (decLt j i);
       }
     where
@@ -156,7 +128,7 @@ module _ {G : Setting} {words : List ℕ} {p first end : ℕ} (row : Row G words
       earlier j k l e (yes b) = before j k b e
       earlier j k l e (no b) =
           let f = nextLive-first words i end high in
-          absurd (not-both e (living-has (total N) words j (omega (arith, f .to-end, inside)) ∙ f .none-before j (omega arith) l))
+          absurd (not-both e (living-has (total N) words j (omega (arith, f .to-end, row-total row)) ∙ f .none-before j (omega arith) l))
 
   pub walk-starts : WalkAt G words p first end (nextLive words first end)
   walk-starts = walk-next first (omega arith) (omega (arith, row .is-end)) (λ j k l _. absurd (omega arith))
@@ -181,7 +153,7 @@ module _ {G : Setting} {words : List ℕ} {p first end : ℕ} (row : Row G words
       own-is = member-at (row .sound .laid .framed) (row .sound .paired) p (row .pair)
 
       own-within : g - first < size N (getD c place 0)
-      own-within = omega (arith, ap (size N) own-is, row .is-end, w .from-first)
+      own-within = omega (arith, ap (size N) own-is, row-index row (w .from-first) b)
 
       own-low : getD (lowest place (g - first)) place 0 ≡ g - first
       own-low =
@@ -197,7 +169,7 @@ module _ {G : Setting} {words : List ℕ} {p first end : ℕ} (row : Row G words
           let few = combination-length (row .sound .laid .framed) (row .sound .paired) p (row .pair) in
           record {
             laid = row .sound .laid;
-            words = omega (arith, row .long, tuples-few (row .sound .laid .framed));
+            words = words-enough;
             members = combination-proper (row .sound .laid .framed) (row .sound .paired) p (row .pair);
             few = omega (arith, few, row .sound .paired .list .few);
             place = omega (arith, few, place-below (row .sound .laid .framed) (row .sound .paired) p (row .pair));
@@ -209,8 +181,7 @@ module _ {G : Setting} {words : List ℕ} {p first end : ℕ} (row : Row G words
       -- it seeks for g
       searched-is : hasSupport searched ≡ any (isSupport N S g) (candidates N c)
       searched-is =
-          let e : firstId N (pairMember (G .members) p) + (g - first) ≡ g = omega (arith, row .is-first, w .from-first) in
-          ap (λ (h : ℕ). any (isSupport N S h) (candidates N c)) (ap (λ (r : ℕ). firstId N r + (g - first)) own-is ∙ e)
+          ap (λ (h : ℕ). any (isSupport N S h) (candidates N c)) (ap (λ (r : ℕ). firstId N r + (g - first)) own-is ∙ row-id row (w .from-first))
 
       -- there is none
       pub walk-fails : false ≡ hasSupport searched → false ≡ pairConsistent G words p
@@ -227,7 +198,3 @@ module _ {G : Setting} {words : List ℕ} {p first end : ℕ} (row : Row G words
           before j l a (no d) m =
               let s : g ≡ j = omega arith in
               subst (Supported N S c) s (any-at (isSupport N S g) (candidates N c) (sym (e ∙ searched-is)))
-
-      -- it comes nearer to the end
-      pub walk-ahead : (g < nextLive words (g + 1) end) × (nextLive words (g + 1) end ≤ end)
-      walk-ahead = let f = nextLive-first words (g + 1) end (omega arith) in (omega (arith, f .from-i), f .to-end)

@@ -13,14 +13,14 @@ use Rattle.model.specs.Network.{total}
 use Rattle.model.specs.LiveWords.{living}
 use Rattle.model.specs.Request.{filter, Request}
 use Rattle.model.specs.Fault.{accepts}
-use Rattle.model.specs.Reply.{Reply, answerNumbers, remainder, accepted, leaving, reply, request, replied}
+use Rattle.model.specs.Reply.{Reply, remainder, accepted, leaving, reply, request, replied}
 use Rattle.model.proofs.Bools.{not-both}
 use Rattle.model.proofs.LiveWords.{written-length}
 use Rattle.model.proofs.Fault.{accepts-network, accepts-words}
 use Rattle.model.proofs.Reply.{reply-accepted, reply-refused}
 use Rattle.layout.specs.declared.Shape.{Shape}
-use Rattle.layout.specs.Shape.{instanceOf}
-use Rattle.printing.specs.Lines.{Printable}
+use Rattle.layout.specs.Shape.{networkOf, instanceOf}
+use Rattle.printing.specs.Lines.{isRefusal, Accepted}
 
 -- a reply that is not of kind 2 is to a request without fault
 kind-accepts : (q : Request) (b : Bool) → accepts q ≡ b → eqb ((reply q) .answer .kind) 2 ≡ false → accepts q ≡ true
@@ -40,8 +40,8 @@ module _ (S : Shape) (variables values : List ℕ) (m : ℕ) (members words supp
   abbrev q : Request
   q = request (instanceOf S variables values m members) words supports filter
 
-  pub reply-printable : (a : Answer) (left numbers : List ℕ) → replied a left numbers ≡ reply q → eqb ((answerNumbers a) .kind) 2 ≡ false → Printable S values left
+  pub reply-printable : (a : Answer) (left numbers : List ℕ) → replied a left numbers ≡ reply q → isRefusal a ≡ false → Accepted (networkOf S variables values) left
   reply-printable a left numbers e k =
       let fine = kind-accepts q (accepts q) refl (sym (ap (λ (p : Reply). eqb (p .answer .kind) 2) e) ∙ k) in
       let long : length left ≡ length words = ap (λ (p : Reply). length (p .words)) (e ∙ reply-accepted q fine) ∙ accepted-words q in
-      record { variables = variables; faultless = accepts-network q fine; enough = omega (arith, accepts-words q fine) }
+      record { faultless = accepts-network q fine; enough = omega (arith, accepts-words q fine) }

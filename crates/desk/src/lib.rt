@@ -5,17 +5,25 @@ ghost use Prim.Native.Nat.{_≤_};
 ghost use lib.ListN.{length, take};
 ghost use Rattle.model.specs.Text.{textOf};
 ghost use Rattle.model.specs.Listing.{linesFor, listing};
+ghost use Rattle.layout.specs.Loan.{entry, exit};
 ghost use Rattle.layout.specs.Shape.{instanceOf};
 use changes::filter;
 use layout::Shape;
+use live::WORDS;
+use model::MAX_SUPPORT_NUMBERS;
+use model::Value;
+use printing::answer::OUTPUT;
 use printing::answer::print;
 use printing::text::line;
+use reading::MAX_MEMBER_LIST;
+use reading::MAX_VALUES;
+use reading::MAX_VARIABLES;
 use reading::read;
 
 // Writes that a text is not in the form; the number of bytes written.
-fn refused(out: &mut [u8; 262144]) -> usize
-    ensures count { λ n. ⌜ n ≤ length (now (out .exit)) ⌝ }
-    ensures text { λ n. ⌜ take n (now (out .exit)) ≡ textOf (linesFor none) ⌝ }
+fn refused(out: &mut [u8; OUTPUT]) -> usize
+    ensures count { λ n. ⌜ n ≤ length (exit out) ⌝ }
+    ensures text { λ n. ⌜ take n (exit out) ≡ textOf (linesFor none) ⌝ }
 {
     let fields = [2u16, 1, 0, 0];
     line(out, 0, &fields)
@@ -25,16 +33,16 @@ fn refused(out: &mut [u8; 262144]) -> usize
 fn filtered(
     shape: Shape,
     variables: &[u16],
-    values: &[u16],
+    values: &[Value],
     m: u16,
     members: &[u16],
-    out: &mut [u8; 262144],
+    out: &mut [u8; OUTPUT],
 ) -> usize
-    ensures count { λ n. ⌜ n ≤ length (now (out .exit)) ⌝ }
-    ensures text { λ n. ⌜ take n (now (out .exit)) ≡ textOf (linesFor (some (instanceOf shape (now (variables .entry)) (now (values .entry)) m (now (members .entry))))) ⌝ }
+    ensures count { λ n. ⌜ n ≤ length (exit out) ⌝ }
+    ensures text { λ n. ⌜ take n (exit out) ≡ textOf (linesFor (some (instanceOf shape (entry variables) (entry values) m (entry members)))) ⌝ }
 {
-    let mut words = [u64::MAX; 64];
-    let mut supports = [0u16; 32768];
+    let mut words = [u64::MAX; WORDS];
+    let mut supports = [0u16; MAX_SUPPORT_NUMBERS];
     let answer = filter(
         shape,
         variables,
@@ -44,17 +52,17 @@ fn filtered(
         &mut words,
         &mut supports,
     );
-    print(shape, values, answer, &words, out)
+    print(shape, variables, values, answer, &words, out)
 }
 
 // The listing of a text of any length, at the front of the buffer; the number of bytes written.
-pub fn listing(text: &[u8], out: &mut [u8; 262144]) -> usize
-    ensures count { λ n. ⌜ (n ≤ length (now (out .exit))) × (n ≡ length (take n (now (out .exit)))) ⌝ }
-    ensures text { λ n. ⌜ take n (now (out .exit)) ≡ listing (now (text .entry)) ⌝ }
+pub fn listing(text: &[u8], out: &mut [u8; OUTPUT]) -> usize
+    ensures count { λ n. ⌜ (n ≤ length (exit out)) × (n ≡ length (take n (exit out))) ⌝ }
+    ensures text { λ n. ⌜ take n (exit out) ≡ listing (entry text) ⌝ }
 {
-    let mut variables = [0u16; 512];
-    let mut values = [0u16; 32768];
-    let mut members = [0u16; 1024];
+    let mut variables = [0u16; MAX_VARIABLES];
+    let mut values = [0u16; MAX_VALUES];
+    let mut members = [0u16; MAX_MEMBER_LIST];
     let book = read(text, &mut variables, &mut values, &mut members);
     if !book.ok {
         return refused(out);

@@ -3,43 +3,21 @@
 use mathlib.Core.Path.{_≡_, _∙_, ap, subst}
 use mathlib.Core.Bool.{Bool, true, false}
 use mathlib.Core.List.{List}
-use Prim.Native.Nat.{ℕ, suc, _+_, _-_, _*_, _≤_, _<_}
+use Prim.Native.Nat.{ℕ, suc, _+_, _-_, _≤_, _<_}
 use native.Mathlib.Omega.{arith}
-use lib.ListN.{length}
-use Rattle.model.specs.Limits.{maxSupportNumbers, wordBits}
+use Rattle.model.specs.Limits.{maxSupportNumbers}
 use Rattle.model.specs.TupleSet.{has}
-use Rattle.model.specs.Network.{total, firstId, tuplesIn}
-use Rattle.model.specs.Combination.{pairMember}
+use Rattle.model.specs.Network.{total}
 use Rattle.model.specs.LiveWords.{isLive, nextLive}
-use Rattle.model.proofs.Network.{before-within}
 use Rattle.model.proofs.LiveWords.{living-has, nextLive-first}
-use Rattle.layout.specs.Starts.{tupleStart}
-use Rattle.layout.specs.Setting.{Setting, network, Sound, liveIn}
-use Rattle.layout.specs.Pairs.{sizeOf, tupleId, placeOf}
+use Rattle.layout.specs.Setting.{Setting, network, liveIn}
+use Rattle.layout.specs.Pairs.{tupleId, placeOf}
 use Rattle.engine.specs.Work.{Working, Visited}
 use Rattle.layout.proofs.Pairs.{place-within}
-use Rattle.layout.proofs.SoundStarts.{tuples-few, tuple-start, tuple-end}
-use Rattle.layout.proofs.Pairs.{member-exists, member-below, tuple-below}
+use Rattle.layout.proofs.Pairs.{tuple-below}
+use Rattle.layout.proofs.Rows.{Row, row-total, row-index, row-id}
 use Rattle.engine.proofs.Steps.{Small}
 use Rattle.engine.proofs.Visiting.{VisitOf, going-start, going-skip, going-end}
-
--- The ids of the tuples of pair p's member: from `first` on and below `end`.
-pub record Row (G : Setting) (p first end : ℕ) : Type 0 where
-  pub sound : Sound G
-  pub pair : p < length (G .members)
-  pub is-first : first ≡ firstId (network G) (pairMember (G .members) p)
-  pub is-end : end ≡ first + sizeOf G p
-
-pub row-of : {G : Setting} → Sound G → (p first end : ℕ) → p < length (G .members) → first ≡ tupleStart (G .lists .starts) (pairMember (G .members) p) → end ≡ tupleStart (G .lists .starts) (pairMember (G .members) p + 1) → Row G p first end
-row-of {G} sound p first end h es ee =
-    let b = member-below (sound .laid .framed) (sound .paired) p h in
-    let s = es ∙ tuple-start (sound .laid .framed) (pairMember (G .members) p) (omega arith) in
-    record {
-      sound = sound;
-      pair = h;
-      is-first = s;
-      is-end = omega (arith, ee, s, tuple-end (sound .laid .framed) (pairMember (G .members) p) b);
-    }
 
 -- The walk has come to id g: it is live, or the end.
 pub record WalkAt (G : Setting) (p first end : ℕ) (queue words numbers queue′ words′ numbers′ : List ℕ) (shrunk : Bool) (g : ℕ) : Type 0 where
@@ -49,18 +27,11 @@ pub record WalkAt (G : Setting) (p first end : ℕ) (queue words numbers queue�
   pub lives : g < end → isLive words′ g ≡ true
 
 module _ {G : Setting} {p first end : ℕ} (row : Row G p first end) where
-  pub end-total : end ≤ total (network G)
-  end-total = omega (arith, row .is-first, row .is-end, before-within tuplesIn (network G .relations) (pairMember (G .members) p) (member-exists (row .sound .laid .framed) (row .sound .paired) p (row .pair)))
-
-  -- what `next` asks
-  pub walk-asks : (ws : List ℕ) (g : ℕ) → total (network G) ≤ wordBits * length ws → g ≤ end → (g ≤ end) × (end ≤ 64 * length ws) × (end ≤ 4096)
-  walk-asks ws g enough h = let t = end-total in (h, omega arith, omega (arith, tuples-few (row .sound .laid .framed)))
-
   -- ids that are not live are passed over
   come-next : {queue words numbers queue′ words′ numbers′ : List ℕ} {shrunk : Bool} (i : ℕ) → first ≤ i → i ≤ end → VisitOf G p queue words numbers queue′ words′ numbers′ shrunk (i - first) → WalkAt G p first end queue words numbers queue′ words′ numbers′ shrunk (nextLive words′ i end)
   come-next {words′ = words′} i l h I =
       let f = nextLive-first words′ i end h in
-      let t = end-total in
+      let t = row-total row in
       record {
         going = going-skip (row .sound) (row .pair) I (nextLive words′ i end - first)
             (λ x a b.
@@ -85,16 +56,10 @@ module _ {G : Setting} {p first end : ℕ} (row : Row G p first end) where
         going-end (row .sound) (row .pair) (C .going) (omega (arith, row .is-end))
 
     module _ (inside : g < end) where
-      pub index-inside : g - first < sizeOf G p
-      index-inside = omega (arith, row .is-end, C .from-first)
-
-      pub id-back : tupleId G p (g - first) ≡ g
-      id-back = omega (arith, row .is-first, C .from-first)
-
       pub index-lives : has (liveIn G words′) (tupleId G p (g - first)) ≡ true
       index-lives =
-          living-has (total (network G)) words′ (tupleId G p (g - first)) (tuple-below (row .sound) p (g - first) (row .pair) index-inside)
-          ∙ ap (isLive words′) id-back
+          living-has (total (network G)) words′ (tupleId G p (g - first)) (tuple-below (row .sound) p (g - first) (row .pair) (row-index row (C .from-first) inside))
+          ∙ ap (isLive words′) (row-id row (C .from-first))
           ∙ C .lives inside
 
       -- once its tuple is done, the walk goes on
@@ -104,10 +69,6 @@ module _ {G : Setting} {p first end : ℕ} (row : Row G p first end) where
           come-next (g + 1) (omega (arith, C .from-first)) (omega arith)
           (subst (VisitOf G p queue words numbers queue″ words″ numbers″ shrunk′) e I)
 
-      -- it comes nearer to the end
-      pub come-ahead : (ws : List ℕ) → (g < nextLive ws (g + 1) end) × (nextLive ws (g + 1) end ≤ end)
-      come-ahead ws = let f = nextLive-first ws (g + 1) end (omega arith) in (omega (arith, f .from-i), f .to-end)
-
       -- where its numbers begin
       pub place-short : placeOf G p (g - first) + G .m ≤ maxSupportNumbers
-      place-short = omega (arith, place-within (row .sound) p (g - first) (row .pair) index-inside, C .going .working .space .short)
+      place-short = omega (arith, place-within (row .sound) p (g - first) (row .pair) (row-index row (C .from-first) inside), C .going .working .space .short)

@@ -7,6 +7,7 @@ pub mod Inside
 pub mod Columns
 pub mod Outline
 pub mod Pairs
+pub mod Rows
 pub mod Bridge
 pub mod Checked
 pub mod Records

@@ -11,7 +11,9 @@ use borrow.Author.Tests.{not-true, not-false}
 use Rattle.layout.specs.Setting.{Setting, setting}
 use Rattle.layout.proofs.Pairs.{base-within, member-below}
 use Rattle.consistency.specs.Consistent.{hasSupport, PairAt}
-use Rattle.consistency.proofs.Pairs.{Row, row-of, WalkAt, walk-asks, searched, searched-sound, walk-starts, walk-goes, walk-ahead, walk-fails, walk-ends}
+use Rattle.consistency.proofs.Pairs.{WalkAt, words-enough, searched, searched-sound, walk-starts, walk-goes, walk-fails, walk-ends}
+use Rattle.narrowing.specs.Index.{Long}
+use Rattle.layout.proofs.Rows.{Row, row-of, row-asks, next-ahead}
 use Rattle.consistency.proofs.pair_supported.Statement.{statement}
 use Rattle.consistency.proofs.pair_supported.Tie as tie
 
@@ -48,8 +50,15 @@ entry c = c .before .before .before .before .before .before
 abbrev first : tie.After-tuple-start2 Inv-loop μ-loop → ℕ
 first c = c .before .tuple-start .result
 
-row : (c : tie.After-tuple-start2 Inv-loop μ-loop) → (let a = entry c in Row (G a) (a .args .words .now) (a .args .p) (first c) (c .tuple-start2 .result))
-row c = let a = entry c in row-of (asked a .sound) (a .pre .0) (asked a .pair) (c .before .tuple-start .ensures) (c .tuple-start2 .ensures)
+row : (c : tie.After-tuple-start2 Inv-loop μ-loop) → (let a = entry c in Row (G a) (a .args .p) (first c) (c .tuple-start2 .result))
+row c = let a = entry c in row-of (asked a .sound) (a .args .p) (first c) (c .tuple-start2 .result) (asked a .pair) (c .before .tuple-start .ensures) (c .tuple-start2 .ensures)
+
+long : (c : tie.After-tuple-start2 Inv-loop μ-loop) → Long (entry c .args .words .now)
+long c = entry c .pre .0
+
+-- what `next` asks from id g on
+asks : (c : tie.After-tuple-start2 Inv-loop μ-loop) (g : ℕ) → g ≤ c .tuple-start2 .result → (g ≤ c .tuple-start2 .result) × (c .tuple-start2 .result ≤ 64 * length (entry c .args .words .now)) × (c .tuple-start2 .result ≤ 4096)
+asks c g h = row-asks (row c) (entry c .args .words .now) g (words-enough (long c) (row c)) h
 
 -- ---- One turn
 
@@ -62,24 +71,24 @@ has-support-requires c κs =
     let a = entry b in (
       a .pre .0,
       record {
-        sound = rw add-sub-cancel-left (searched-sound (row b) (c .before .before .loop .inv) (c .before .loop-test .taken));
+        sound = rw add-sub-cancel-left (searched-sound (long b) (row b) (c .before .before .loop .inv) (c .before .loop-test .taken));
         indexed = asked a .indexed;
       },
     )
 
 -- what is answered of the tuple at g
-decided : (c : tie.After-has-support Inv-loop μ-loop) → (let turn = c .before .before in c .has-support .result ≡ hasSupport (searched (row (begun turn)) (turn .before .loop .inv) (turn .loop-test .taken)))
+decided : (c : tie.After-has-support Inv-loop μ-loop) → (let turn = c .before .before in c .has-support .result ≡ hasSupport (searched (long (begun turn)) (row (begun turn)) (turn .before .loop .inv) (turn .loop-test .taken)))
 decided c = rw add-sub-cancel-left at (c .has-support .ensures)
 
 returns : tie.Need-returns Inv-loop μ-loop
 returns c =
     let turn = c .before .before .before in
-    walk-fails (row (begun turn)) (turn .before .loop .inv) (turn .loop-test .taken) (sym (not-true _ (c .if1 .taken)) ∙ decided (c .before))
+    walk-fails (long (begun turn)) (row (begun turn)) (turn .before .loop .inv) (turn .loop-test .taken) (sym (not-true _ (c .if1 .taken)) ∙ decided (c .before))
 
 loop-less : tie.Need-loop-less Inv-loop μ-loop
 loop-less c =
     let turn = c .before .before .before .before .before in
-    let f = walk-ahead (row (begun turn)) (turn .before .loop .inv) (turn .loop-test .taken) in
+    let f = next-ahead (entry (begun turn) .args .words .now) (turn .loop-test .taken) in
     omega (arith, f .0, f .1, c .next2 .ensures, turn .loop-test .taken)
 
 loop-again : tie.Need-loop-again Inv-loop μ-loop
@@ -88,7 +97,7 @@ loop-again c =
     let b = begun turn in
     let a = entry b in
     subst (WalkAt (G a) (a .args .words .now) (a .args .p) (first b) (b .tuple-start2 .result)) (sym (c .next2 .ensures))
-    (walk-goes (row b) (turn .before .loop .inv) (turn .loop-test .taken) (sym (not-false _ (c .before .before .if1 .left)) ∙ decided (c .before .before .before)))
+    (walk-goes (long b) (row b) (turn .before .loop .inv) (turn .loop-test .taken) (sym (not-false _ (c .before .before .if1 .left)) ∙ decided (c .before .before .before)))
 
 pub pair-supported-spec : {M : Type 1} → statement M
 pair-supported-spec =
@@ -103,8 +112,8 @@ pair-supported-spec =
     (λ c κs. omega (arith, few (c .before .before .before .before)))
     (λ c. omega (arith, few (c .before .before .before .before .before)))
     (λ c κs. omega (arith, few (c .before .before .before .before .before)))
-    (λ c κs. walk-asks (row (c .before)) (first (c .before)) (omega (arith, row (c .before) .is-end)))
-    (λ c. let b = c .before .before in let a = entry b in subst (WalkAt (G a) (a .args .words .now) (a .args .p) (first b) (b .tuple-start2 .result)) (sym (c .next .ensures)) (walk-starts (row b)))
+    (λ c κs. asks (c .before) (first (c .before)) (omega (arith, row (c .before) .is-end)))
+    (λ c. let b = c .before .before in let a = entry b in subst (WalkAt (G a) (a .args .words .now) (a .args .p) (first b) (b .tuple-start2 .result)) (sym (c .next .ensures)) (walk-starts (long b) (row b)))
     (λ c. omega (arith, within (entry (begun c))))
     (λ c. omega (arith, within (entry (begun c))))
     (λ c. omega (arith, within (entry (begun c))))
@@ -113,8 +122,8 @@ pair-supported-spec =
     (λ c. c .before .before .loop .inv .from-first)
     has-support-requires
     returns
-    (λ c. let turn = c .before .before .before .before in omega (arith, turn .loop-test .taken, walk-asks (row (begun turn)) (turn .before .loop .g) (turn .before .loop .inv .to-end) .2))
-    (λ c κs. let turn = c .before .before .before .before in walk-asks (row (begun turn)) (turn .before .loop .g + 1) (omega (arith, turn .loop-test .taken)))
+    (λ c. let turn = c .before .before .before .before in omega (arith, turn .loop-test .taken, asks (begun turn) (turn .before .loop .g) (turn .before .loop .inv .to-end) .2))
+    (λ c κs. let turn = c .before .before .before .before in asks (begun turn) (turn .before .loop .g + 1) (omega (arith, turn .loop-test .taken)))
     loop-less
     loop-again
-    (λ c. let l = c .before in walk-ends (row (l .before .before .before)) (l .loop .inv) (c .loop-test .left)))
+    (λ c. let l = c .before in walk-ends (long (l .before .before .before)) (row (l .before .before .before)) (l .loop .inv) (c .loop-test .left)))

@@ -32,7 +32,7 @@ returns : tie.Need-returns
 returns c =
     let f = c .before .before .before .before .before in
     let a = start f .args in
-    (c .print .ensures .0, c .print .ensures .1 (a .variables .now) (f .filter .last .1 .1 .1 .1 .1 .1 .0) ∙ ap (λ (r : Reply). textOf (replyLines (networkOf (a .shape) (a .variables .now) (a .values .now)) r)) (answered f))
+    (c .print .ensures .0, c .print .ensures .1 (f .filter .last .1 .1 .1 .1 .1 .1 .0) ∙ ap (λ (r : Reply). textOf (replyLines (networkOf (a .shape) (a .variables .now) (a .values .now)) r)) (answered f))
 
 pub filtered-spec : {M : Type 1} → statement M
 filtered-spec =

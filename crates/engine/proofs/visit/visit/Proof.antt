@@ -22,7 +22,8 @@ use Rattle.layout.proofs.SoundStarts.{tuples-few}
 use Rattle.layout.proofs.Outline.{supportStart-outline}
 use Rattle.layout.proofs.Pairs.{member-below}
 use Rattle.engine.proofs.Visiting.{VisitOf, going-kept, going-removed, still-waits, requeued-waits}
-use Rattle.engine.proofs.Walking.{Row, row-of, WalkAt, end-total, walk-asks, come-first, come-end, index-inside, index-lives, come-more, come-ahead, place-short}
+use Rattle.engine.proofs.Walking.{WalkAt, come-first, come-end, index-lives, come-more, place-short}
+use Rattle.layout.proofs.Rows.{Row, row-of, row-total, row-asks, row-index, next-ahead}
 use Rattle.engine.proofs.visit.visit.Statement.{statement}
 use Rattle.engine.proofs.visit.visit.Tie as tie
 
@@ -135,7 +136,7 @@ turned-kept c e =
     let a = entry b in
     let l = i .before .loop in
     going-kept (sound a) (in-members a) (l .inv .going)
-    (index-inside (row b) (l .inv) (i .loop-test .taken))
+    (row-index (row b) (l .inv .from-first) (i .loop-test .taken))
     (c .renew .ensures) e
 
 turned-removed : (c : tie.After-renew Inv-loop μ-loop) (waiting : Queue) → c .renew .result ≡ false → (let i = turning c in let a = entry (begun i) in (q : ℕ) → q < length (a .args .members .now) → isLive (waiting .words) q ≡ false → (isLive (i .before .loop .waiting .words) q ≡ false) × (queues (a .args .m) (a .args .members .now) (a .args .p) q ≡ false)) → Turned c waiting true
@@ -145,7 +146,7 @@ turned-removed c waiting e waits =
     let a = entry b in
     let l = i .before .loop in
     going-removed (sound a) (in-members a) (l .inv .going)
-    (index-inside (row b) (l .inv) (i .loop-test .taken))
+    (row-index (row b) (l .inv .from-first) (i .loop-test .taken))
     (c .renew .ensures)
     (index-lives (row b) (l .inv) (i .loop-test .taken))
     (waiting .words) waits e
@@ -179,7 +180,7 @@ next-requires : tie.Need-next-requires Inv-loop μ-loop
 next-requires c κs =
     let b = c .before .before in
     let a = entry b in
-    walk-asks (row b) (a .args .words .now) (first b) (work a .space .enough) (omega (arith, row b .is-end))
+    row-asks (row b) (a .args .words .now) (first b) (work a .space .enough) (omega (arith, row b .is-end))
 
 loop-holds : tie.Need-loop-holds Inv-loop μ-loop
 loop-holds c =
@@ -201,7 +202,7 @@ renew-requires c κs =
           sound = sound a;
           working = l .inv .going .working;
           pair = in-members a;
-          index = index-inside (row b) (l .inv) (i .loop-test .taken);
+          index = row-index (row b) (l .inv .from-first) (i .loop-test .taken);
           lives = index-lives (row b) (l .inv) (i .loop-test .taken);
         };
         indexed = a .pre .1 .prepared .indexed;
@@ -219,7 +220,7 @@ add-next c =
     let i = turning (renewed (c .before .before)) in
     let b = begun i in
     let a = entry b in
-    omega (arith, i .loop-test .taken, end-total (row b), tuples-few (sound a .laid .framed))
+    omega (arith, i .loop-test .taken, row-total (row b), tuples-few (sound a .laid .framed))
 
 next-requires-2 : tie.Need-next-requires-2 Inv-loop μ-loop
 next-requires-2 c κs =
@@ -227,7 +228,7 @@ next-requires-2 c κs =
     let i = turning n in
     let b = begun i in
     let a = entry b in
-    walk-asks (row b) (words-after n) (i .before .loop .g + 1) (turned (c .before .before) .working .space .enough) (omega (arith, i .loop-test .taken))
+    row-asks (row b) (words-after n) (i .before .loop .g + 1) (turned (c .before .before) .working .space .enough) (omega (arith, i .loop-test .taken))
 
 loop-less : tie.Need-loop-less Inv-loop μ-loop
 loop-less c =
@@ -236,7 +237,7 @@ loop-less c =
     let b = begun i in
     let a = entry b in
     let l = i .before .loop in
-    let f = come-ahead (row b) (l .inv) (i .loop-test .taken) (words-after n) in
+    let f = next-ahead (words-after n) (i .loop-test .taken) in
     omega (arith, f .0, f .1, c .next2 .ensures, i .loop-test .taken)
 
 loop-again : tie.Need-loop-again Inv-loop μ-loop
