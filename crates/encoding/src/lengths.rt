@@ -1,9 +1,8 @@
-// Whether lists of bytes are whole numbers of entries: four bytes for a relation record, two for a 16-bit entry, eight for a live
-// word.
+// Tests that lists of bytes are cut between entries. A relation record takes four bytes, a 16-bit entry two, a live word eight.
 ghost use mathlib.Core.Path.{_≡_};
 ghost use Rattle.encoding.specs.Whole.{wholeNetwork, wholeInstance, wholeChange};
 
-// Whether those of a network are, by their lengths.
+// Tests the three lists of a network, by their lengths in bytes.
 pub fn network_whole(sheets: usize, questions: usize, codes: usize) -> bool
     ensures { λ b. ⌜ b ≡ wholeNetwork sheets questions codes ⌝ }
 {
@@ -16,7 +15,7 @@ pub fn network_whole(sheets: usize, questions: usize, codes: usize) -> bool
     codes % 2 == 0
 }
 
-// Whether those of a network and its combinations are.
+// Tests the lists of a network and the list of its combinations.
 pub fn instance_whole(sheets: usize, questions: usize, codes: usize, combinations: usize) -> bool
     ensures { λ b. ⌜ b ≡ wholeInstance sheets questions codes combinations ⌝ }
 {
@@ -26,7 +25,7 @@ pub fn instance_whole(sheets: usize, questions: usize, codes: usize, combination
     combinations % 2 == 0
 }
 
-// Whether those of a change call are.
+// Tests every list of a change call but the ids.
 pub fn change_whole(
     sheets: usize,
     questions: usize,

@@ -17,14 +17,14 @@ use Rattle.worklist.specs.Supports.{PairsBegin}
 abbrev pub BlankAt : ℕ → ℕ → ℕ → List ℕ → List ℕ → List ℕ → Type 0
 BlankAt m at g words numbers numbers′ = take m (drop at numbers′) ≡ cond (isLive words g) (take m (drop at numbers)) (replicate m noSupport)
 
--- So are those of the n tuples with ids from g on, one behind the other from a place on; nothing else changes.
+-- The same of n tuples, with ids from g on, whose numbers lie one behind the other from a place on; nothing else changes.
 pub record Blank (m at g n : ℕ) (words numbers numbers′ : List ℕ) : Type 0 where
   pub long : length numbers′ ≡ length numbers
   pub before : take at numbers′ ≡ take at numbers
   pub after : drop (at + n * m) numbers′ ≡ drop (at + n * m) numbers
   pub at-each : (x : ℕ) → x < n → BlankAt m (at + x * m) (g + x) words numbers numbers′
 
--- So are those of the first k pairs; nothing else changes.
+-- The same of all tuples of the first k pairs; nothing else changes.
 pub record Blanked (N : Network) (m : ℕ) (members : List ℕ) (k : ℕ) (words numbers numbers′ : List ℕ) : Type 0 where
   pub long : length numbers′ ≡ length numbers
   pub after : drop (supportStart N m members k) numbers′ ≡ drop (supportStart N m members k) numbers
@@ -32,14 +32,14 @@ pub record Blanked (N : Network) (m : ℕ) (members : List ℕ) (k : ℕ) (words
 
 -- ---- Contracts
 
--- What the numbers of n tuples with ids from first on ask, which begin at `start`, m each.
+-- The tuples with ids from `first` on and below `end` have their bits, and their numbers, m each from `start` on, are in the list.
 pub record BlankAsks (m start first end : ℕ) (words numbers : List ℕ) : Type 0 where
   pub few : m ≤ maxMembers
   pub rises : first ≤ end
   pub bits : end ≤ wordBits * length words
   pub inside : start + (end - first) * m ≤ length numbers
 
--- What the numbers of all pairs ask.
+-- Every tuple has its bit, and the numbers of all pairs are in the list.
 pub record BlankAllAsks (starts : List ℕ) (m : ℕ) (members begins words numbers : List ℕ) : Type 0 where
   pub framed : SoundStarts starts
   pub paired : SoundPairs starts m members

@@ -10,8 +10,8 @@ use layout::wide;
 use worklist::list::PairStarts;
 use worklist::list::blank;
 
-// Of the tuples with ids from first on and below end, whose numbers lie from the given place on, m each: every dead one's
-// numbers are 65,535. All other numbers stay.
+// The tuples with ids from `first` on and below `end` have m numbers each, one tuple behind the other from place `start` on. Those of
+// a dead tuple become 65,535; all other numbers stay.
 fn blank_dead(words: &[u64], numbers: &mut [u16], m: u16, first: u16, end: u16, start: usize)
     requires { ⌜ BlankAsks m start first end (now words) (now numbers) ⌝ }
     ensures { λ _. ⌜ Blank m start first (end - first) (entry words) (entry numbers) (exit numbers) ⌝ }
@@ -28,7 +28,7 @@ fn blank_dead(words: &[u64], numbers: &mut [u16], m: u16, first: u16, end: u16, 
     }
 }
 
-// Every dead tuple's numbers are 65,535. All other numbers stay.
+// The numbers of every dead tuple become 65,535; all other numbers stay.
 pub fn blank_all(
     starts: &Starts,
     members: &[u16],

@@ -12,7 +12,7 @@ ghost use Rattle.layout.specs.Setting.{Whole};
 ghost use Rattle.worklist.specs.Pairs.{WaitToo, others, queues};
 use model::MAX_PAIRS;
 
-// The words of 1,024 pairs.
+// How many words 1,024 pairs take, a bit each.
 pub const QUEUE_WORDS: usize = 16;
 
 // A bit for each pair: 1 if it waits.
@@ -20,14 +20,14 @@ pub struct Queue {
     pub words: [u64; QUEUE_WORDS],
 }
 
-// The lowest pair that waits, 1,024 if none does, and the queue without it.
+// The lowest pair that waits, or 1,024 if there is none, and the queue without that pair.
 pub struct Taken {
     pub pair: u16,
     pub rest: Queue,
 }
 
 impl Queue {
-    // A queue of the pairs below the number given.
+    // The queue in which every pair below the given number waits.
     pub fn full(pairs: u16) -> Queue
         requires { ⌜ pairs ≤ maxPairs ⌝ }
         ensures { λ r. ⌜ ((q : ℕ) → q < maxPairs → isLive (r .words) q ≡ ltb q pairs) ⌝ }
@@ -84,7 +84,7 @@ fn holds(members: &[u16], base: usize, m: usize, r: u16) -> bool
     false
 }
 
-// Adds those of the m pairs from `base` on whose member is not relation r.
+// Of the m pairs from `base` on, adds each one whose member is another relation than r.
 fn put_others(queue: Queue, members: &[u16], base: usize, m: usize, r: u16) -> Queue
     requires { ⌜ (base + m ≤ length (now members)) × (length (now members) ≤ maxPairs) ⌝ }
     ensures { λ s. ⌜ WaitToo (queue .words) (others base (base + m) (entry members) r) (s .words) ⌝ }
@@ -101,8 +101,8 @@ fn put_others(queue: Queue, members: &[u16], base: usize, m: usize, r: u16) -> Q
     queue
 }
 
-// Adds the pairs to visit again once relation members[p] has shrunk in pair p's combination: those of the other members, in every
-// other combination that holds the relation.
+// Relation members[p] has lost a tuple in pair p's combination. In every other combination that holds the relation, the pairs of the
+// other members must be visited again, and are added.
 pub fn requeue(queue: Queue, members: &[u16], m: u16, p: u16) -> Queue
     requires { ⌜ Whole m (now members) ⌝ }
     requires { ⌜ p < length (now members) ⌝ }
