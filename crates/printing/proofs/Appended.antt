@@ -1,5 +1,5 @@
--- Laws of a text written behind what stands at a buffer's front: one byte, one text behind another, a text part by part; and
--- how far it goes. From the definition alone.
+-- Laws of appended texts: one byte, one text behind another, where a text ends, and a text written part by part.
+-- From the definition alone.
 use mathlib.Core.Path.{_≡_, refl, sym, _∙_, ap, subst}
 use mathlib.Core.List.{List, [], _∷_, _++_, append-assoc, append-nil}
 use Prim.Native.Nat.{ℕ, _+_, _≤_, _<_}
@@ -21,7 +21,7 @@ appended-then {s} {t} {before = before} {at = at} a b =
       front = b .front ∙ ap (λ (u : List ℕ). u ++ t) (a .front) ∙ append-assoc (take at before) s t;
     }
 
--- the same text, written otherwise
+-- the same text in another form
 pub appended-same : {s t : List ℕ} {before after : List ℕ} {at n : ℕ} → s ≡ t → Appended s before at after n → Appended t before at after n
 appended-same {before} {after} {at} {n} e a = subst (λ (u : List ℕ). Appended u before at after n) e a
 
@@ -33,7 +33,7 @@ appended-end {text} {before} {after} {at} {n} h a =
 
 -- ---- A text written part by part
 
--- To write `rest` behind the k bytes at the front of `now` completes the writing of `whole` behind the `at` bytes of `before`.
+-- With `rest` behind the first k bytes of `now`, `whole` stands behind the first `at` bytes of `before`.
 pub record Remains (rest : List ℕ) (now : List ℕ) (k : ℕ) (whole before : List ℕ) (at : ℕ) : Type 0 where
   pub long : length now ≡ length before
   pub fits : k ≤ length now

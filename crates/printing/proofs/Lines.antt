@@ -1,25 +1,26 @@
--- Laws of lines: a field with the byte behind it is short, and a line is its first field and the line of the others.
+-- Laws of lines: where a field and a tuple's line end at the latest, and a line as its first field and the line of the others.
 -- From the laws of decimals.
-use mathlib.Core.Path.{_≡_, sym, _∙_, ap, ap₂}
+use mathlib.Core.Path.{_≡_, sym, _∙_, ap}
 use mathlib.Core.List.{List, [], _∷_, _++_, append-assoc}
-use Prim.Native.Nat.{ℕ, _+_, _-_, _≤_, _<_}
+use Prim.Native.Nat.{ℕ, _+_, _≤_, _<_}
 use native.Mathlib.Numerals.{add-one}
 use native.Mathlib.Omega.{arith}
-use lib.ListN.{length, take, drop, getD, length-append, length-drop, drop-of-length-le}
+use lib.ListN.{length, drop, getD, length-append, length-drop, drop-of-length-le}
 use lib.Seq.{drop-cons}
+use Rattle.model.specs.Limits.{maxWidth}
 use Rattle.model.specs.Text.{comma, newline, decimal, lineText}
 use Rattle.printing.specs.Appended.{Appended}
-use Rattle.printing.specs.Lines.{Part, placeIn, lineIn}
+use Rattle.printing.specs.Lines.{fieldRoom, lineRoom}
 use Rattle.model.proofs.Text.{decimal-length, lineText-length}
 use Rattle.printing.proofs.Appended.{appended-end}
 
 -- where a field ends
-pub field-end : {before after : List ℕ} {at n : ℕ} (v end : ℕ) → at ≤ length before → Appended (decimal v ++ (end ∷ [])) before at after n → n ≤ at + 6
+pub field-end : {before after : List ℕ} {at n : ℕ} (v end : ℕ) → at ≤ length before → Appended (decimal v ++ (end ∷ [])) before at after n → n ≤ at + fieldRoom
 field-end v end h a =
     let l : length (decimal v ++ (end ∷ [])) ≡ length (decimal v) + 1 = length-append (decimal v) (end ∷ []) in
     omega (arith, appended-end h a, decimal-length v)
 
-pub lineText-front : (n : ℕ) (ns : List ℕ) → 0 < length ns → lineText (n ∷ ns) ≡ (decimal n ++ (comma ∷ [])) ++ lineText ns
+lineText-front : (n : ℕ) (ns : List ℕ) → 0 < length ns → lineText (n ∷ ns) ≡ (decimal n ++ (comma ∷ [])) ++ lineText ns
 lineText-front n [] h = absurd (omega arith)
 lineText-front n (k ∷ ks) h = sym (append-assoc (decimal n) (comma ∷ []) (lineText (k ∷ ks)))
 
@@ -28,14 +29,8 @@ pub lineText-tuple : (r x : ℕ) (values : List ℕ) → 0 < length values → l
 lineText-tuple r x values h = lineText-front r (x ∷ values) (omega arith) ∙ ap (λ (t : List ℕ). (decimal r ++ (comma ∷ [])) ++ t) (lineText-front x values h)
 
 -- where it ends
-pub tuple-end : {before after : List ℕ} {at n : ℕ} (r x : ℕ) (values : List ℕ) → length values ≤ 8 → at ≤ length before → Appended (lineText (r ∷ x ∷ values)) before at after n → n ≤ at + 60
+pub tuple-end : {before after : List ℕ} {at n : ℕ} (r x : ℕ) (values : List ℕ) → length values ≤ maxWidth → at ≤ length before → Appended (lineText (r ∷ x ∷ values)) before at after n → n ≤ at + lineRoom
 tuple-end r x values w h a = omega (arith, appended-end h a, lineText-length r (x ∷ values))
-
--- the line of a relation's tuple, whose values are read from a place on
-pub lineIn-part : (values : List ℕ) (p : Part) (g place : ℕ) → place ≡ placeIn p g → p .relation ∷ (g - p .start) ∷ take (place + p .width - place) (drop place values) ≡ lineIn values p g
-lineIn-part values p g place e =
-    let w : place + p .width - place ≡ p .width = omega arith in
-    ap₂ (λ (k i : ℕ). p .relation ∷ (g - p .start) ∷ take k (drop i values)) w e
 
 module _ (fields : List ℕ) (i : ℕ) where
   at-front : i < length fields → drop i fields ≡ getD fields i 0 ∷ drop (i + 1) fields

@@ -1,14 +1,14 @@
--- Laws of the lines of the ids in a range that pass a test: in two parts, from one that passes, up to the first that passes.
+-- Laws of the lines of the ids in a range that pass a test: a range in two parts, and a range from an id that passes.
 -- From the laws of ranges, of tests on lists, and of texts.
-use mathlib.Core.Path.{_≡_, refl, sym, _∙_, ap, ap₂}
+use mathlib.Core.Path.{_≡_, sym, _∙_, ap}
 use mathlib.Core.Bool.{Bool, true, false}
-use mathlib.Core.List.{List, [], _∷_, _++_, map, map-append, List·Memᴰ, List·Memᴰ·tail}
+use mathlib.Core.List.{List, [], _++_, map, map-append}
 use Prim.Native.Nat.{ℕ, _+_, _-_, _≤_, _<_}
 use native.Mathlib.Omega.{arith}
 use Rattle.model.specs.Lists.{from, select, keepIf}
 use Rattle.model.specs.Text.{lineText, textOf}
 use Rattle.model.proofs.Bools.{not-both}
-use Rattle.model.proofs.Lists.{here, First, from-append, from-cons, from-mem, select-append, select-none, select-mem}
+use Rattle.model.proofs.Lists.{First, from-append, from-cons, from-mem, select-append, select-none}
 use Rattle.printing.specs.Lines.{textOver}
 use Rattle.model.proofs.Text.{textOf-cons, textOf-append}
 
@@ -43,13 +43,3 @@ module _ (line : ℕ → List ℕ) (p : ℕ → Bool) where
       ap (λ (gs : List ℕ). textOf (map line (select p gs))) (from-cons g end h)
       ∙ ap (λ (b : Bool). textOf (map line (keepIf b g (select p (from (g + 1) (end - (g + 1))))))) t
       ∙ textOf-cons (line g) (map line (select p (from (g + 1) (end - (g + 1)))))
-
--- the lines of the ids there are all that matters
-pub over-cong : (f h : ℕ → List ℕ) (p : ℕ → Bool) (a end : ℕ) → a ≤ end → ((g : ℕ) → a ≤ g → g < end → f g ≡ h g) → textOver f p a end ≡ textOver h p a end
-unfolding textOver
-over-cong f h p a end k e =
-    ap textOf (map-same (select p (from a (end - a))) (λ g m. let b = from-mem a (end - a) g (select-mem p (from a (end - a)) m .0) in e g (b .0) (omega (arith, b .1))))
-  where
-    map-same : (gs : List ℕ) → ((g : ℕ) → List·Memᴰ g gs → f g ≡ h g) → map f gs ≡ map h gs
-    map-same [] s = refl
-    map-same (g ∷ gs) s = ap₂ (λ (x : List ℕ) (xs : List (List ℕ)). x ∷ xs) (s g here) (map-same gs (λ k m. s k (List·Memᴰ·tail m)))

@@ -1,10 +1,10 @@
--- A text written into a buffer behind what stands at its front.
+-- A text appended to the bytes at the front of a buffer.
 use mathlib.Core.Path.{_≡_}
 use mathlib.Core.List.{List, _++_}
 use Prim.Native.Nat.{ℕ, _≤_}
 use lib.ListN.{length, take}
 
--- The buffer was `before`, with `at` bytes at its front; now it is `after`, and its first n bytes are those and the text.
+-- The first n bytes of the buffer `after` are the first `at` bytes of `before`, and then the text.
 pub record Appended (text before : List ℕ) (at : ℕ) (after : List ℕ) (n : ℕ) : Type 0 where
   pub long : length after ≡ length before
   pub fits : n ≤ length after

@@ -1,46 +1,65 @@
--- The lines of live tuples, by the numbers that the tables give for a relation.
+-- The lines of live tuples, and what they are written from.
 use mathlib.Core.Path.{_≡_}
 use mathlib.Core.Bool.{Bool}
 use mathlib.Core.Option.{none}
-use mathlib.Core.List.{List, _∷_, map}
+use mathlib.Core.List.{List, [], map}
 use Prim.Native.Nat.{ℕ, _+_, _-_, _*_, _≤_}
-use lib.ListN.{length, take, drop}
-use Rattle.model.specs.Limits.{wordBits}
+use lib.Dec.{eqb}
+use lib.ListN.{length}
+use Rattle.model.specs.declared.Answer.{Answer}
+use Rattle.model.specs.Limits.{maxRelations, wordBits}
 use Rattle.model.specs.Lists.{from, select}
-use Rattle.model.specs.Network.{total}
+use Rattle.model.specs.Network.{Network, total}
+use Rattle.model.specs.LiveWords.{isLive}
 use Rattle.model.specs.Fault.{networkFaults, firstFault}
+use Rattle.model.specs.Reply.{answerNumbers, replied}
 use Rattle.model.specs.Text.{textOf}
-use Rattle.layout.specs.declared.Shape.{Shape}
-use Rattle.layout.specs.Shape.{networkOf}
+use Rattle.model.specs.Listing.{tupleLine, replyLines}
+use Rattle.layout.specs.Starts.{tupleStart, valueStart, recordsIn, SoundStarts}
 
--- A tuple's line has at most ten fields, and a field with the byte behind it at most six bytes.
+-- the most bytes of a field: five digits, and the byte that ends it
+abbrev pub fieldRoom : ℕ
+fieldRoom = 6
+
+-- the most bytes of a tuple's line: ten fields
 abbrev pub lineRoom : ℕ
 lineRoom = 60
-
--- A relation's number, the id of its first tuple, where its first value stands, and its width.
-pub record Part : Type 0 where
-  pub relation : ℕ
-  pub start : ℕ
-  pub first : ℕ
-  pub width : ℕ
-
-abbrev pub part : ℕ → ℕ → ℕ → ℕ → Part
-part relation start first width = record { relation = relation; start = start; first = first; width = width }
-
--- where the values of its tuple g begin
-abbrev pub placeIn : Part → ℕ → ℕ
-placeIn p g = p .first + (g - p .start) * p .width
-
--- tuple g: the relation, its index, its values
-abbrev pub lineIn : List ℕ → Part → ℕ → List ℕ
-lineIn values p g = p .relation ∷ (g - p .start) ∷ take (p .width) (drop (placeIn p g) values)
 
 -- the line of each id from g on and below end that passes the test
 unfoldable pub textOver : (ℕ → List ℕ) → (ℕ → Bool) → ℕ → ℕ → List ℕ
 textOver line p g end = textOf (map line (select p (from g (end - g))))
 
--- What tuples can be printed from: with some list of variables the network has no fault, and there are enough live words.
-pub record Printable (S : Shape) (values words : List ℕ) : Type 0 where
-  pub variables : List ℕ
-  pub faultless : firstFault (networkFaults (networkOf S variables values)) ≡ none
-  pub enough : total (networkOf S variables values) ≤ wordBits * length words
+-- ---- By starts and values
+
+-- the network of these starts and values; it has no scopes, and no line shows one
+abbrev pub rows : List ℕ → List ℕ → Network
+rows starts values = record { relations = recordsIn starts; variables = []; values = values }
+
+-- the lines of relation r's live tuples
+abbrev pub relationText : List ℕ → List ℕ → List ℕ → ℕ → List ℕ
+relationText starts values words r =
+    textOver (tupleLine (rows starts values)) (isLive words) (tupleStart starts r) (tupleStart starts (r + 1))
+
+-- the most bytes of them
+abbrev pub relationRoom : List ℕ → ℕ → ℕ
+relationRoom starts r = lineRoom * (tupleStart starts (r + 1) - tupleStart starts r)
+
+-- The starts are sound, every value stands in the list, and every tuple has its bit.
+pub record Printable (starts values words : List ℕ) : Type 0 where
+  pub framed : SoundStarts starts
+  pub all-values : valueStart starts maxRelations ≤ length values
+  pub all-bits : tupleStart starts maxRelations ≤ wordBits * length words
+
+-- ---- A reply
+
+abbrev pub isRefusal : Answer → Bool
+isRefusal a = eqb (answerNumbers a .kind) 2
+
+-- A network without the faults 2 to 6, and enough words for its tuples.
+pub record Accepted (N : Network) (words : List ℕ) : Type 0 where
+  pub faultless : firstFault (networkFaults N) ≡ none
+  pub enough : total N ≤ wordBits * length words
+
+-- the text of the reply that has this answer and leaves these words, with any supports
+abbrev pub IsReply : List ℕ → Network → Answer → List ℕ → Type 0
+IsReply text N answer words = (supports : List ℕ) → text ≡ textOf (replyLines N (replied answer words supports))

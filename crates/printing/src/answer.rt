@@ -1,47 +1,63 @@
 // The answer's line, and a whole reply.
 ghost use mathlib.Core.Path.{_≡_};
 ghost use mathlib.Core.Bool.{false};
-ghost use mathlib.Core.List.{List};
-ghost use Prim.Native.Nat.{ℕ, _≤_};
-ghost use lib.Dec.{eqb};
+ghost use Prim.Native.Nat.{_≤_};
 ghost use lib.ListN.{length, take};
-ghost use Rattle.model.specs.Reply.{answerNumbers, replied};
-ghost use Rattle.model.specs.Text.{textOf};
-ghost use Rattle.model.specs.Listing.{answerLine, replyLines};
+ghost use Rattle.model.specs.Reply.{answerNumbers};
+ghost use Rattle.model.specs.Listing.{answerLine};
+ghost use Rattle.layout.specs.Loan.{entry, exit};
 ghost use Rattle.layout.specs.Shape.{networkOf};
-ghost use Rattle.printing.specs.Lines.{Printable};
+ghost use Rattle.printing.specs.Lines.{isRefusal, Accepted, IsReply};
 use super::text::line;
 use super::tuples::tuple_lines;
 use layout::Shape;
+use layout::starts_of;
 use model::Answer;
+use model::Value;
+
+// Room for every reply: the answer's line takes at most 24 bytes, and each of 4,096 tuples at most 60.
+pub const OUTPUT: usize = 262144;
+
+// An answer's kind.
+const SETTLED: u16 = 0;
+
+const EMPTIED: u16 = 1;
+
+const REFUSED: u16 = 2;
+
+// The subject of a settled answer: no relation is empty.
+const NO_RELATION: u16 = 64;
 
 // The fields of the answer's line: kind, subject, left, deleted.
 fn answer_fields(answer: Answer) -> [u16; 4]
     ensures { λ fields. ⌜ fields ≡ answerLine (answerNumbers answer) ⌝ }
 {
     match answer {
-        Answer::Settled(k) => [0, 64, k.left, k.deleted],
-        Answer::Emptied(r, k) => [1, r, k.left, k.deleted],
-        Answer::Refused(f) => [2, f as u16, 0, 0],
+        Answer::Settled(k) => [SETTLED, NO_RELATION, k.left, k.deleted],
+        Answer::Emptied(r, k) => [EMPTIED, r, k.left, k.deleted],
+        Answer::Refused(f) => [REFUSED, f as u16, 0, 0],
     }
 }
 
-// The lines of a reply that has this answer and leaves these words; the number of bytes written.
+// Writes the reply that has this answer and leaves these words, and gives the number of bytes. No line shows a variable: they are lent
+// for the contract.
 pub fn print(
     shape: Shape,
-    values: &[u16],
+    variables: &[u16],
+    values: &[Value],
     answer: Answer,
     words: &[u64],
-    out: &mut [u8; 262144],
+    out: &mut [u8; OUTPUT],
 ) -> usize
-    requires { ⌜ (eqb (answerNumbers answer .kind) 2 ≡ false → Printable shape (now values) (now words)) ⌝ }
-    ensures count { λ n. ⌜ n ≤ length (now (out .exit)) ⌝ }
-    ensures text { λ n. ⌜ ((variables supports : List ℕ) → take n (now (out .exit)) ≡ textOf (replyLines (networkOf shape variables (now (values .entry))) (replied answer (now (words .entry)) supports))) ⌝ }
+    requires { ⌜ (isRefusal answer ≡ false → Accepted (networkOf shape (now variables) (now values)) (now words)) ⌝ }
+    ensures count { λ n. ⌜ n ≤ length (exit out) ⌝ }
+    ensures text { λ n. ⌜ IsReply (take n (exit out)) (networkOf shape (entry variables) (entry values)) answer (entry words) ⌝ }
 {
     let fields = answer_fields(answer);
     let n = line(out, 0, &fields);
-    if fields[0] == 2 {
+    if fields[0] == REFUSED {
         return n;
     }
-    tuple_lines(shape, values, words, out, n)
+    let starts = starts_of(shape);
+    tuple_lines(values, &starts, words, out, n)
 }

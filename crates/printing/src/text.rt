@@ -3,20 +3,23 @@ ghost use mathlib.Core.List.{[], _∷_, _++_};
 ghost use Prim.Native.Nat.{_+_, _*_, _≤_, _<_};
 ghost use lib.ListN.{length};
 ghost use Rattle.model.specs.Text.{decimal, lineText};
+ghost use Rattle.layout.specs.Loan.{entry, exit};
 ghost use Rattle.printing.specs.Appended.{Appended};
+ghost use Rattle.printing.specs.Lines.{fieldRoom};
+use model::Value;
 
-// The bytes that end a field: the last of a line, and any other.
+// A newline ends a line's last field, a comma every other.
 const NEWLINE: u8 = 10;
 
 const COMMA: u8 = 44;
 
-// The digit nought; the other nine follow it.
+// The digit 0; the other nine follow it.
 const NOUGHT: u8 = 48;
 
-// The decimal digits of v at a place of the buffer, and the place behind them.
+// Writes v in decimal, from `at` on. Every function here gives the place behind what it wrote.
 fn digits(out: &mut [u8], at: usize, v: u16) -> usize
     requires { ⌜ at + length (decimal v) ≤ length (now out) ⌝ }
-    ensures { λ n. ⌜ Appended (decimal v) (now (out .entry)) at (now (out .exit)) n ⌝ }
+    ensures { λ n. ⌜ Appended (decimal v) (entry out) at (exit out) n ⌝ }
 {
     if v < 10 {
         out[at] = NOUGHT + v as u8;
@@ -27,20 +30,20 @@ fn digits(out: &mut [u8], at: usize, v: u16) -> usize
     n + 1
 }
 
-// A field, and the byte that ends it.
+// Writes a field and the byte that ends it.
 fn field(out: &mut [u8], at: usize, v: u16, end: u8) -> usize
-    requires { ⌜ at + 6 ≤ length (now out) ⌝ }
-    ensures { λ n. ⌜ Appended (decimal v ++ (end ∷ [])) (now (out .entry)) at (now (out .exit)) n ⌝ }
+    requires { ⌜ at + fieldRoom ≤ length (now out) ⌝ }
+    ensures { λ n. ⌜ Appended (decimal v ++ (end ∷ [])) (entry out) at (exit out) n ⌝ }
 {
     let n = digits(out, at, v);
     out[n] = end;
     n + 1
 }
 
-// A line of these fields.
+// Writes a line of these fields.
 pub fn line(out: &mut [u8], at: usize, fields: &[u16]) -> usize
-    requires { ⌜ (0 < length (now fields)) × (at + 6 * length (now fields) ≤ length (now out)) ⌝ }
-    ensures { λ n. ⌜ Appended (lineText (now (fields .entry))) (now (out .entry)) at (now (out .exit)) n ⌝ }
+    requires { ⌜ (0 < length (now fields)) × (at + fieldRoom * length (now fields) ≤ length (now out)) ⌝ }
+    ensures { λ n. ⌜ Appended (lineText (entry fields)) (entry out) at (exit out) n ⌝ }
 {
     let last = fields.len() - 1;
     let mut n = at;
@@ -52,10 +55,10 @@ pub fn line(out: &mut [u8], at: usize, fields: &[u16]) -> usize
     field(out, n, fields[last], NEWLINE)
 }
 
-// A tuple's line: its relation, its index, its values.
-pub fn tuple_line(out: &mut [u8], at: usize, relation: u16, index: u16, values: &[u16]) -> usize
-    requires { ⌜ (0 < length (now values)) × (at + 6 * (2 + length (now values)) ≤ length (now out)) ⌝ }
-    ensures { λ n. ⌜ Appended (lineText (relation ∷ index ∷ now (values .entry))) (now (out .entry)) at (now (out .exit)) n ⌝ }
+// Writes a tuple's line: its relation, its index, its values.
+pub fn tuple_line(out: &mut [u8], at: usize, relation: u16, index: u16, values: &[Value]) -> usize
+    requires { ⌜ (0 < length (now values)) × (at + fieldRoom * (2 + length (now values)) ≤ length (now out)) ⌝ }
+    ensures { λ n. ⌜ Appended (lineText (relation ∷ index ∷ entry values)) (entry out) at (exit out) n ⌝ }
 {
     let k = field(out, at, relation, COMMA);
     let n = field(out, k, index, COMMA);

@@ -1,73 +1,69 @@
 // The lines of live tuples.
-ghost use Prim.Native.Nat.{ℕ, _+_, _-_, _*_, _≤_, _<_};
-ghost use mathlib.Core.List.{List};
+ghost use Prim.Native.Nat.{_+_, _*_, _≤_, _<_};
 ghost use lib.ListN.{length};
 ghost use Rattle.model.specs.Limits.{maxTuples};
-ghost use Rattle.model.specs.LiveWords.{isLive};
 ghost use Rattle.model.specs.Text.{textOf};
 ghost use Rattle.model.specs.Listing.{tupleLines};
-ghost use Rattle.layout.specs.Shape.{networkOf};
+ghost use Rattle.layout.specs.Loan.{entry, exit};
+ghost use Rattle.layout.specs.Starts.{relationCount};
 ghost use Rattle.printing.specs.Appended.{Appended};
-ghost use Rattle.printing.specs.Lines.{lineRoom, part, placeIn, lineIn, textOver, Printable};
+ghost use Rattle.printing.specs.Lines.{lineRoom, rows, relationText, relationRoom, Printable};
 use super::text::tuple_line;
-use layout::Shape;
+use layout::Starts;
+use layout::relation_count;
+use layout::tuple_start;
+use layout::value_start;
+use layout::variable_start;
 use layout::wide;
 use live::next;
-use network::tables::offsets;
+use model::Value;
 
-// Each live tuple of a relation, whose ids are those from start on and below end, and whose values stand from first on.
+// Writes the line of each live tuple of relation r.
 fn relation_lines(
-    values: &[u16],
+    values: &[Value],
+    starts: &Starts,
     words: &[u64],
-    relation: u16,
-    start: u16,
-    end: u16,
-    first: usize,
-    width: usize,
+    r: u16,
     out: &mut [u8],
     at: usize,
 ) -> usize
-    requires { ⌜ (start ≤ end) × (end ≤ 64 * length (now words)) × (end ≤ 4096) ⌝ }
-    requires { ⌜ (1 ≤ width) × (width ≤ 8) × ((g : ℕ) → start ≤ g → g < end → placeIn (part relation start first width) g + width ≤ length (now values)) ⌝ }
-    requires { ⌜ at + lineRoom * (end - start) ≤ length (now out) ⌝ }
-    ensures room { λ n. ⌜ n ≤ at + lineRoom * (end - start) ⌝ }
-    ensures text { λ n. ⌜ Appended (textOver (lineIn (now (values .entry)) (part relation start first width)) (isLive (now (words .entry))) start end) (now (out .entry)) at (now (out .exit)) n ⌝ }
+    requires { ⌜ Printable (now starts) (now values) (now words) × (r < relationCount (now starts)) ⌝ }
+    requires { ⌜ at + relationRoom (now starts) r ≤ length (now out) ⌝ }
+    ensures room { λ n. ⌜ n ≤ at + relationRoom (entry starts) r ⌝ }
+    ensures text { λ n. ⌜ Appended (relationText (entry starts) (entry values) (entry words) r) (entry out) at (exit out) n ⌝ }
 {
+    let start = tuple_start(starts, r);
+    let end = tuple_start(starts, r + 1);
+    let first = value_start(starts, r);
+    let width = variable_start(starts, r + 1) - variable_start(starts, r);
     let mut n = at;
     let mut g = next(words, start, end);
     while g < end {
         let index = g - start;
         let place = first + wide(index) * width;
         let place_end = place + width;
-        n = tuple_line(out, n, relation, index, &values[place..place_end]);
+        n = tuple_line(out, n, r, index, &values[place..place_end]);
         g = next(words, g + 1, end);
     }
     n
 }
 
-// Each live tuple of each relation.
-pub fn tuple_lines(shape: Shape, values: &[u16], words: &[u64], out: &mut [u8], at: usize) -> usize
-    requires { ⌜ Printable shape (now values) (now words) × (at + lineRoom * maxTuples ≤ length (now out)) ⌝ }
-    ensures { λ n. ⌜ ((variables : List ℕ) → Appended (textOf (tupleLines (networkOf shape variables (now (values .entry))) (now (words .entry)))) (now (out .entry)) at (now (out .exit)) n) ⌝ }
+// Writes the line of each live tuple of every relation.
+pub fn tuple_lines(
+    values: &[Value],
+    starts: &Starts,
+    words: &[u64],
+    out: &mut [u8],
+    at: usize,
+) -> usize
+    requires { ⌜ Printable (now starts) (now values) (now words) × (at + lineRoom * maxTuples ≤ length (now out)) ⌝ }
+    ensures { λ n. ⌜ Appended (textOf (tupleLines (rows (entry starts) (entry values)) (entry words))) (entry out) at (exit out) n ⌝ }
 {
-    let tables = offsets(shape);
-    let tuple_starts = tables.tuples;
-    let value_starts = tables.values;
-    let widths = shape.widths;
+    let relations = relation_count(starts);
     let mut n = at;
     let mut r = 0;
-    while r < shape.count {
-        n = relation_lines(
-            values,
-            words,
-            r as u16,
-            tuple_starts[r],
-            tuple_starts[r + 1],
-            wide(value_starts[r]),
-            wide(widths[r]),
-            out,
-            n,
-        );
+    while r < relations {
+        n = relation_lines(values, starts, words, r, out, n);
         r += 1;
     }
     n

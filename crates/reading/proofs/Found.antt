@@ -1,4 +1,4 @@
--- What a position that code gives says of what was read; and what was read behind other things.
+-- Laws of what was found at a position, of what f makes of it, and of what stands behind other numbers.
 -- From the definitions of `foundAt`, `mapRead` and `behind`.
 use mathlib.Core.Path.{_≡_, refl, sym, ap, _∙_}
 use mathlib.Core.Bool.{Bool, true, false, cond}
@@ -22,7 +22,7 @@ pub within-high : (low high n : ℕ) → within low high n ≡ true → n ≤ hi
 within-high low high n h = leb-true n high (and-right (leb low n) (leb n high) h)
 
 module _ {A : Type 0} (t : List ℕ) where
-  -- a position that is not nought
+  -- a position other than 0
   pub found-at : (next : ℕ) (x : A) → (next ≡ 0 → ⊥) → foundAt next x t ≡ some (x, drop next t)
   found-at next x n = ap (λ (b : Bool). cond b none (some (x, drop next t))) (ne-eqb next 0 n)
 
@@ -32,7 +32,7 @@ module _ {A : Type 0} (t : List ℕ) where
   pub found-past : (i : ℕ) (x : A) → foundAt (i + 1) x t ≡ some (x, drop (i + 1) t)
   found-past i x = found-at (i + 1) x (λ (e : i + 1 ≡ 0). omega arith)
 
--- what stands behind us and vs stands behind both
+-- numbers behind vs, and these behind us
 pub behind-behind : (us vs : List ℕ) (R : Read (List ℕ)) → behind us (behind vs R) ≡ behind (us ++ vs) R
 behind-behind us vs none = refl
 behind-behind us vs (some r) = ap (λ (xs : List ℕ). some (xs, r .1)) (sym (append-assoc us vs (r .0)))
@@ -50,7 +50,7 @@ module _ {A B : Type 0} (f : A → B) (t : List ℕ) (next : ℕ) where
       go true = refl
       go false = refl
 
-  -- a position that is not nought: something was read, and x is what f makes of it
+  -- a position other than 0: something was read, and x is what f makes of it
   pub map-split : (x : B) (R : Read A) → foundAt next x t ≡ mapRead f R → (next ≡ 0 → ⊥) → (y : A) × (R ≡ some (y, drop next t)) × (x ≡ f y)
   map-split x none h n = absurd (Option·some-ne-none (x, drop next t) (sym (found-at t next x n) ∙ h))
   map-split x (some r) h n =

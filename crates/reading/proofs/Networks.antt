@@ -75,7 +75,7 @@ module _ (room : ℕ) (T : List ℕ) where
     unfolding readRelation
     relation-read scope rest' s = rw (e, s)
 
-    -- its scope behind us, and its values behind zs
+    -- its scope behind the numbers us, its values behind zs
     pub relation-found : (t us ws zs ys : List ℕ) (scope-end next : ℕ) → foundAt scope-end ws t ≡ behind us (readLine (R .width) rest) → (scope-end ≡ 0 → ⊥)
         → foundAt next ys t ≡ behind zs (readLines (R .tuples) (R .width) (drop scope-end t))
         → foundAt next (single R ws ys) t ≡ mapRead (append (unlisted us zs)) (readRelation room T)
@@ -94,7 +94,7 @@ module _ (room : ℕ) (T : List ℕ) where
 -- ---- Relations one by one
 
 -- networks with the same lists
-pub network-same : {Rs Rs' : List Relation} {us us' zs zs' : List ℕ} → Rs ≡ Rs' → us ≡ us' → zs ≡ zs' → _≡_ {A = Network} (record { relations = Rs; variables = us; values = zs }) (record { relations = Rs'; variables = us'; values = zs' })
+network-same : {Rs Rs' : List Relation} {us us' zs zs' : List ℕ} → Rs ≡ Rs' → us ≡ us' → zs ≡ zs' → _≡_ {A = Network} (record { relations = Rs; variables = us; values = zs }) (record { relations = Rs'; variables = us'; values = zs' })
 network-same {us = us} {zs = zs} p q r = rw (p, q, r)
 
 append-behind : (N M : Network) (R : Read Network) → mapRead (append N) (mapRead (append M) R) ≡ mapRead (append (append N M)) R
@@ -137,7 +137,7 @@ module _ (k room : ℕ) (T : List ℕ) where
   relations-first = first-line (readLine 2 T) refl
 
 module _ (j k room : ℕ) (T : List ℕ) (q : k ≡ j + 1) where
-  -- no relation where one is to come
+  -- the next relation is not in the form
   pub relations-stop : (N : Network) → readRelation room T ≡ none → mapRead (append N) (readRelations k room T) ≡ none
   relations-stop N e =
       let first : readRelations k room T ≡ none = rw (q, add-one) (relations-first j room T ∙ rw e) in
@@ -148,7 +148,7 @@ module _ (j k room : ℕ) (T : List ℕ) (q : k ≡ j + 1) where
       let first : readRelations k room T ≡ mapRead (append M) (readRelations j (room - size M 0) rest) = rw (q, add-one) (relations-first j room T ∙ rw e) in
       ap (mapRead (append N)) first ∙ append-behind N M (readRelations j (room - size M 0) rest)
 
-  -- a relation behind N's
+  -- one relation more, behind those of N
   pub relations-more : (t : List ℕ) (N : Network) (R : Relation) (ws ys : List ℕ) (next : ℕ)
       → foundAt next (single R ws ys) t ≡ mapRead (append (unlisted (N .variables) (N .values))) (readRelation room T) → (next ≡ 0 → ⊥)
       → mapRead (append N) (readRelations k room T) ≡ mapRead (append (record { relations = N .relations ++ (R ∷ []); variables = ws; values = ys })) (readRelations j (room - R .tuples) (drop next t))
@@ -185,7 +185,7 @@ records-more r widths tuples w n h l =
     (map-from-same (recordAt S') (recordAt S) 0 r (λ i z b. ap₂ (λ (x y : ℕ). record { width = x; tuples = y }) (getD-set-other widths r i w 0 (λ e. omega arith)) (getD-set-other tuples r i n 0 (λ e. omega arith))))
     last
 
--- none has been read
+-- before the first relation
 pub relations-start : (k room : ℕ) (T widths tuples : List ℕ) → mapRead (append (networkOf (record { count = 0; widths = widths; tuples = tuples }) [] [])) (readRelations (k - 0) room T) ≡ readRelations k room T
 unfolding relationsOf
 relations-start k room T widths tuples = go (readRelations (k - 0) room T) ∙ ap (λ (i : ℕ). readRelations i room T) (sub-zero k)

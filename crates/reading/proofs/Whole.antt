@@ -15,6 +15,7 @@ use Rattle.model.specs.Limits.{maxRelations, maxTuples, minMembers, maxMembers,
 use Rattle.model.specs.Network.{Network}
 use Rattle.model.specs.Request.{Instance}
 use Rattle.model.specs.Fault.{within}
+use Rattle.model.specs.Text.{maxText}
 use Rattle.model.specs.Reading.{Read, andThen, readLine, readLines, readRelations, readInstance, whole, read}
 use Rattle.model.proofs.Bools.{and-left, and-right}
 use Rattle.reading.specs.declared.Book.{Book}
@@ -109,14 +110,14 @@ module _ (T : List ℕ) where
 -- ---- The text
 
 module _ (t : List ℕ) where
-  pub read-long : 65536 < length t → read t ≡ none
+  pub read-long : maxText < length t → read t ≡ none
   unfolding read
-  read-long h = rw (lt-leb (length t) 65536 h)
+  read-long h = rw (lt-leb (length t) maxText h)
 
-  module _ (h : length t ≤ 65536) where
+  module _ (h : length t ≤ maxText) where
     read-whole : read t ≡ whole (readInstance t)
     unfolding read
-    read-whole = rw (le-leb (length t) 65536 h)
+    read-whole = rw (le-leb (length t) maxText h)
 
     pub read-none : readInstance t ≡ none → read t ≡ none
     read-none e = read-whole ∙ ap whole e
@@ -137,12 +138,12 @@ pub filled : (n : ℕ) (xs : List ℕ) → n ≤ length xs → Filled n xs
 filled n xs h = record { within = h; count = sym (length-take-le n xs h) }
 
 -- nothing was read
-pub stands-none : (t : List ℕ) (b : Book) (vs xs ms : List ℕ) → read t ≡ none → (b .ok ≡ false) × ((b .variables ≡ 0) × ((b .values ≡ 0) × (b .members ≡ 0))) → Stands t b vs xs ms
+pub stands-none : (t : List ℕ) (b : Book) (vs xs ms : List ℕ) → read t ≡ none → (b .ok ≡ false) × (b .variables ≡ 0) × (b .values ≡ 0) × (b .members ≡ 0) → Stands t b vs xs ms
 stands-none t b vs xs ms e h =
     let absent : found b vs xs ms ≡ none = rw (h .0) in
     record {
       is-read = absent ∙ sym e;
-      variables-filled = filled (b .variables) vs (omega (arith, h .1 .0));
-      values-filled = filled (b .values) xs (omega (arith, h .1 .1 .0));
-      members-filled = filled (b .members) ms (omega (arith, h .1 .1 .1));
+      variables-filled = filled (b .variables) vs (omega (arith, h .1));
+      values-filled = filled (b .values) xs (omega (arith, h .2));
+      members-filled = filled (b .members) ms (omega (arith, h .3));
     }

@@ -1,4 +1,4 @@
--- What the lists hold once a text was read.
+-- What the lists hold when a text has been read.
 use mathlib.Core.Path.{_≡_}
 use mathlib.Core.Bool.{cond}
 use mathlib.Core.Option.{Option, none, some}
@@ -10,19 +10,19 @@ use Rattle.model.specs.Reading.{read}
 use Rattle.layout.specs.Shape.{instanceOf}
 use Rattle.reading.specs.declared.Book.{Book}
 
--- the instance that stands in the lists
+-- the instance in the lists; none if nothing was read
 abbrev pub found : Book → List ℕ → List ℕ → List ℕ → Option Instance
 found b variables values members =
     cond (b .ok)
     (some (instanceOf (b .shape) (take (b .variables) variables) (take (b .values) values) (b .m) (take (b .members) members)))
     none
 
--- n counts entries at the front of xs: what lending them asks.
+-- The first n entries of xs are there and can be lent.
 pub record Filled (n : ℕ) (xs : List ℕ) : Type 0 where
   pub within : n ≤ length xs
   pub count : n ≡ length (take n xs)
 
--- What was found is what the text reads as, and each list can be lent as far as it was filled.
+-- The instance in the lists is the one that the text gives, and each list can be lent as far as it was filled.
 pub record Stands (text : List ℕ) (b : Book) (variables values members : List ℕ) : Type 0 where
   pub is-read : found b variables values members ≡ read text
   pub variables-filled : Filled (b .variables) variables

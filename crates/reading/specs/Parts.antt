@@ -1,29 +1,35 @@
--- The parts of a text, and what the code finds of them: a position in the text, and nought where there is no such part.
+-- The parts of a text. For each part that it reads, the code gives the position behind it, and 0 if the text has no such part there.
+use mathlib.Core.Path.{_≡_}
 use mathlib.Core.Bool.{_&&_, cond}
 use mathlib.Core.Option.{none, some}
 use mathlib.Core.List.{List, [], _∷_, _++_}
-use Prim.Native.Nat.{ℕ}
+use Prim.Native.Nat.{ℕ, _+_, _*_}
 use lib.Dec.{leb, eqb}
-use lib.ListN.{getD, drop}
+use lib.ListN.{getD, take, drop}
 use Rattle.model.specs.declared.Relation.{Relation}
 use Rattle.model.specs.Limits.{maxRelations, maxWidth, minMembers, maxMembers, maxCombinations}
 use Rattle.model.specs.Network.{Network}
 use Rattle.model.specs.Fault.{within}
 use Rattle.model.specs.Reading.{Read, andThen, readLine, readLines}
+use Rattle.layout.specs.Loan.{Loan, entry, exit}
+use Rattle.layout.specs.Shape.{networkOf}
+use Rattle.reading.specs.declared.Heading.{Heading}
+use Rattle.reading.specs.declared.relations.Record.{Record}
+use Rattle.reading.specs.declared.relations.Listed.{Listed}
 
--- x, and the text t from position `next` on; none at position nought
+-- x was read from the text t up to position `next`; at position 0 nothing was read
 abbrev pub foundAt : {A : Type 0} → ℕ → A → List ℕ → Read A
 foundAt next x t = cond (eqb next 0) none (some (x, drop next t))
 
--- what was read, changed by f
+-- f of what was read
 abbrev pub mapRead : {A B : Type 0} → (A → B) → Read A → Read B
 mapRead f R = andThen R (λ x. λ rest. some (f x, rest))
 
--- what was read, behind us
+-- the numbers us, and behind them those that were read
 abbrev pub behind : List ℕ → Read (List ℕ) → Read (List ℕ)
 behind us R = mapRead (λ (vs : List ℕ). us ++ vs) R
 
--- the relations of N and then those of M
+-- the relations of N, and behind them those of M
 abbrev pub append : Network → Network → Network
 append N M =
     record {
@@ -32,15 +38,17 @@ append N M =
       values = N .values ++ M .values;
     }
 
--- a relation with its scope and its tuples' values, as a network
+-- the network of one relation
 abbrev pub single : Relation → List ℕ → List ℕ → Network
 single R scope values = record { relations = R ∷ []; variables = scope; values = values }
 
--- lists without a record
+-- lists that belong to no relation yet
 abbrev pub unlisted : List ℕ → List ℕ → Network
 unlisted variables values = record { relations = []; variables = variables; values = values }
 
--- a relation's record that allows at most `room` tuples
+-- ---- A relation
+
+-- a relation's record, with at most `room` tuples
 unfoldable pub readRecord : ℕ → List ℕ → Read Relation
 readRecord room t =
     andThen (readLine 2 t) (λ head. λ rest.
@@ -48,23 +56,45 @@ readRecord room t =
     (some (record { width = getD head 0 0; tuples = getD head 1 0 }, rest))
     none)
 
--- a relation that has at most `room` tuples
+-- a relation of at most `room` tuples
 unfoldable pub readRelation : ℕ → List ℕ → Read Network
 readRelation room t =
     andThen (readRecord room t) (λ R. λ rest.
     andThen (readLine (R .width) rest) (λ scope. λ rest'.
     mapRead (single R scope) (readLines (R .tuples) (R .width) rest')))
 
--- how many relations, m, how many combinations
+-- the record that the code gives
+abbrev pub recordOf : Record → Relation
+recordOf r = record { width = r .width; tuples = r .tuples }
+
+-- r is the relation at a position of the text: its scope now stands in the one list behind the first `variable` entries, and its
+-- values in the other behind the first `value` entries
+abbrev pub RelationRead : Loan → ℕ → ℕ → Loan → ℕ → Loan → ℕ → Record → Type 0
+RelationRead text at room variables variable values value r =
+    let before = unlisted (take variable (entry variables)) (take value (entry values)) in
+    let after = single (recordOf r) (take (variable + r .width) (exit variables)) (take (value + r .tuples * r .width) (exit values)) in
+    foundAt (r .next) after (entry text) ≡ mapRead (append before) (readRelation room (drop at (entry text)))
+
+-- the network of all relations read, whose scopes and values stand at the front of the lists
+abbrev pub listed : Listed → List ℕ → List ℕ → Network
+listed r variables values = networkOf (r .shape) (take (r .variables) variables) (take (r .values) values)
+
+-- ---- The first line
+
+-- how many relations there are, m, and how many combinations
 pub record Numbers : Type 0 where
   pub relations : ℕ
   pub m : ℕ
   pub combinations : ℕ
 
--- the first line
+-- the first line, with numbers in their bounds
 unfoldable pub readHeading : List ℕ → Read Numbers
 readHeading t =
     andThen (readLine 3 t) (λ head. λ rest.
     cond (within 1 maxRelations (getD head 0 0) && (within minMembers maxMembers (getD head 1 0) && leb (getD head 2 0) maxCombinations))
     (some (record { relations = getD head 0 0; m = getD head 1 0; combinations = getD head 2 0 }, rest))
     none)
+
+-- the numbers that the code gives
+abbrev pub numbersOf : Heading → Numbers
+numbersOf h = record { relations = h .relations; m = h .m; combinations = h .combinations }

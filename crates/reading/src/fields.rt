@@ -2,10 +2,12 @@
 ghost use mathlib.Core.Path.{_≡_};
 ghost use Prim.Native.Nat.{_+_, _*_, _≤_, _<_};
 ghost use lib.ListN.{length, take, drop};
+ghost use Rattle.model.specs.Fault.{within};
 ghost use Rattle.model.specs.Reading.{readDigits, readField, readLine, readLines};
+ghost use Rattle.layout.specs.Loan.{entry, exit};
 ghost use Rattle.reading.specs.Parts.{foundAt, behind};
 
-// Document 01's bytes, and its largest field. The model's specs/Text.antt names the same ones.
+// Document 01's bytes, and its largest field. The model names them in specs/Text.antt.
 const NEWLINE: u8 = 10;
 
 const COMMA: u8 = 44;
@@ -16,15 +18,15 @@ const NINE: u8 = 57;
 
 const MAX_FIELD: u32 = 65535;
 
-// A number, and the position behind the byte that ends it; position 0 where there is no field.
+// A number, and the position behind the byte that ends it; 0 if there is no field.
 pub struct Decimal {
     pub value: u16,
     pub next: usize,
 }
 
-// The field of which `first` was read before the given position.
+// The rest of a field: the digits before position `from` made the number `first`.
 fn digits(text: &[u8], from: usize, first: u16, end: u8) -> Decimal
-    ensures { λ f. ⌜ foundAt (f .next) (f .value) (now (text .entry)) ≡ readDigits end first (drop from (now (text .entry))) ⌝ }
+    ensures { λ f. ⌜ foundAt (f .next) (f .value) (entry text) ≡ readDigits end first (drop from (entry text)) ⌝ }
 {
     let mut v = first;
     let mut i = from;
@@ -53,9 +55,9 @@ fn digits(text: &[u8], from: usize, first: u16, end: u8) -> Decimal
     Decimal { value: 0, next: 0 }
 }
 
-// The field at a position that the given byte ends.
+// The field at a position, if the byte `end` ends it.
 fn field(text: &[u8], at: usize, end: u8) -> Decimal
-    ensures { λ f. ⌜ foundAt (f .next) (f .value) (now (text .entry)) ≡ readField end (drop at (now (text .entry))) ⌝ }
+    ensures { λ f. ⌜ foundAt (f .next) (f .value) (entry text) ≡ readField end (drop at (entry text)) ⌝ }
 {
     if text.len() <= at {
         return Decimal { value: 0, next: 0 };
@@ -70,10 +72,10 @@ fn field(text: &[u8], at: usize, end: u8) -> Decimal
     digits(text, at + 1, (b - NOUGHT) as u16, end)
 }
 
-// Reads a line of n fields into a list from a place on, and gives the position behind the line; 0 where there is no such line.
+// Reads a line of n fields into a list, from entry `start` on. Gives the position behind the line; 0 if there is no such line.
 pub fn line(text: &[u8], at: usize, n: usize, into: &mut [u16], start: usize) -> usize
     requires { ⌜ (0 < n) × (start + n ≤ length (now into)) ⌝ }
-    ensures { λ next. ⌜ foundAt next (take (start + n) (now (into .exit))) (now (text .entry)) ≡ behind (take start (now (into .entry))) (readLine n (drop at (now (text .entry)))) ⌝ }
+    ensures { λ p. ⌜ foundAt p (take (start + n) (exit into)) (entry text) ≡ behind (take start (entry into)) (readLine n (drop at (entry text))) ⌝ }
 {
     let last = start + n - 1;
     let mut from = at;
@@ -92,10 +94,10 @@ pub fn line(text: &[u8], at: usize, n: usize, into: &mut [u16], start: usize) ->
     f.next
 }
 
-// Reads k lines of n fields each into a list from a place on, and gives the position behind them; 0 where there are no such lines.
+// Reads k lines of n fields each into a list, from entry `start` on. Gives the position behind them; 0 if there are no such lines.
 pub fn lines(text: &[u8], at: usize, k: usize, n: usize, into: &mut [u16], start: usize) -> usize
-    requires { ⌜ (0 < at) × ((0 < n) × (start + k * n ≤ length (now into))) ⌝ }
-    ensures { λ next. ⌜ foundAt next (take (start + k * n) (now (into .exit))) (now (text .entry)) ≡ behind (take start (now (into .entry))) (readLines k n (drop at (now (text .entry)))) ⌝ }
+    requires { ⌜ (0 < at) × (0 < n) × (start + k * n ≤ length (now into)) ⌝ }
+    ensures { λ p. ⌜ foundAt p (take (start + k * n) (exit into)) (entry text) ≡ behind (take start (entry into)) (readLines k n (drop at (entry text))) ⌝ }
 {
     let mut from = at;
     let mut to = start;
@@ -109,4 +111,14 @@ pub fn lines(text: &[u8], at: usize, k: usize, n: usize, into: &mut [u16], start
         i += 1;
     }
     from
+}
+
+// Whether n is one of low to high.
+pub fn within(low: usize, high: usize, n: usize) -> bool
+    ensures { λ b. ⌜ b ≡ within low high n ⌝ }
+{
+    if n < low {
+        return false;
+    }
+    n <= high
 }

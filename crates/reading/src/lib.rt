@@ -1,19 +1,24 @@
-// The desk's text read into the lists of a network and its combinations.
+// Reads the desk's text into the lists of a network and its combinations.
 ghost use mathlib.Core.Path.{_≡_};
 ghost use mathlib.Core.Bool.{false};
 ghost use Prim.Native.Nat.{_≤_};
 ghost use Rattle.model.specs.Limits.{maxRelations, maxMembers, maxCombinations};
-ghost use Rattle.reading.specs.Parts.{foundAt, readHeading};
+ghost use Rattle.layout.specs.Loan.{entry, exit};
+ghost use Rattle.reading.specs.Parts.{foundAt, readHeading, numbersOf};
 ghost use Rattle.reading.specs.Book.{Stands};
 use fields::line;
 use fields::lines;
+use fields::within;
 use layout::Shape;
 use layout::wide;
 use model::MAX_COMBINATIONS;
 use model::MAX_MEMBERS;
 use model::MAX_RELATIONS;
+use model::MAX_TUPLES;
+use model::MAX_WIDTH;
 use model::MIN_MEMBERS;
-use network::faults::within;
+use model::Value;
+use relations::blank;
 use relations::relations_at;
 
 pub mod fields; // a field, a line of fields, and lines
@@ -22,7 +27,14 @@ pub mod relations; // a relation, and all relations
 // "at most 65,536 bytes"
 const MAX_TEXT: usize = 65536;
 
-// The numbers of the first line, and the position behind it; position 0 where it is not in the form.
+// How long the lists of a text may be.
+pub const MAX_VARIABLES: usize = MAX_RELATIONS * MAX_WIDTH;
+
+pub const MAX_VALUES: usize = MAX_TUPLES * MAX_WIDTH;
+
+pub const MAX_MEMBER_LIST: usize = MAX_COMBINATIONS * MAX_MEMBERS;
+
+// The numbers of the first line, and the position behind it; 0 if it is not in the form.
 pub struct Heading {
     pub next: usize,
     pub relations: usize,
@@ -30,7 +42,7 @@ pub struct Heading {
     pub combinations: usize,
 }
 
-// What was read of a text: the records, m, and how many entries of each list were filled.
+// What was read of a text: the records, m, and how many entries of each list were filled; not ok if the text is not in the form.
 pub struct Book {
     pub ok: bool,
     pub shape: Shape,
@@ -42,7 +54,8 @@ pub struct Book {
 
 // The text's first line.
 fn heading_of(text: &[u8]) -> Heading
-    ensures { λ h. ⌜ (foundAt (h .next) (record { relations = h .relations; m = h .m; combinations = h .combinations }) (now (text .entry)) ≡ readHeading (now (text .entry))) × ((h .relations ≤ maxRelations) × ((h .m ≤ maxMembers) × (h .combinations ≤ maxCombinations))) ⌝ }
+    ensures read { λ h. ⌜ foundAt (h .next) (numbersOf h) (entry text) ≡ readHeading (entry text) ⌝ }
+    ensures small { λ h. ⌜ (h .relations ≤ maxRelations) × (h .m ≤ maxMembers) × (h .combinations ≤ maxCombinations) ⌝ }
 {
     let none = Heading {
         next: 0,
@@ -77,16 +90,11 @@ fn heading_of(text: &[u8]) -> Heading
 
 // Nothing was read.
 fn nothing() -> Book
-    ensures { λ b. ⌜ (b .ok ≡ false) × ((b .variables ≡ 0) × ((b .values ≡ 0) × (b .members ≡ 0))) ⌝ }
+    ensures { λ b. ⌜ (b .ok ≡ false) × (b .variables ≡ 0) × (b .values ≡ 0) × (b .members ≡ 0) ⌝ }
 {
-    let none = [0u16; 64];
     Book {
         ok: false,
-        shape: Shape {
-            count: 0,
-            widths: none,
-            tuples: none,
-        },
+        shape: blank(0),
         m: 0,
         variables: 0,
         values: 0,
@@ -94,31 +102,29 @@ fn nothing() -> Book
     }
 }
 
-// Reads a text: the network's lists and its combinations' members stand in the lists given, as far as they were filled.
+// Reads a text: the network's lists and the combinations' members go into the lists, from the front on.
 pub fn read(
     text: &[u8],
-    variables: &mut [u16; 512],
-    values: &mut [u16; 32768],
-    members: &mut [u16; 1024],
+    variables: &mut [u16; MAX_VARIABLES],
+    values: &mut [Value; MAX_VALUES],
+    members: &mut [u16; MAX_MEMBER_LIST],
 ) -> Book
-    ensures { λ b. ⌜ Stands (now (text .entry)) b (now (variables .exit)) (now (values .exit)) (now (members .exit)) ⌝ }
+    ensures { λ b. ⌜ Stands (entry text) b (exit variables) (exit values) (exit members) ⌝ }
 {
     if MAX_TEXT < text.len() {
         return nothing();
     }
     let heading = heading_of(text);
-    let heading_end = heading.next;
-    if heading_end == 0 {
+    if heading.next == 0 {
         return nothing();
     }
-    let listed = relations_at(text, heading_end, heading.relations, variables, values);
-    let relations_end = listed.next;
-    if relations_end == 0 {
+    let listed = relations_at(text, heading.next, heading.relations, variables, values);
+    if listed.next == 0 {
         return nothing();
     }
     let m = heading.m;
     let combinations = heading.combinations;
-    let end = lines(text, relations_end, combinations, m, members, 0);
+    let end = lines(text, listed.next, combinations, m, members, 0);
     if end == 0 {
         return nothing();
     }
@@ -126,14 +132,12 @@ pub fn read(
         return nothing();
     }
     let shape = listed.shape;
-    let each = m as u16;
-    let filled = combinations * m;
     Book {
         ok: true,
         shape,
-        m: each,
+        m: m as u16,
         variables: listed.variables,
         values: listed.values,
-        members: filled,
+        members: combinations * m,
     }
 }

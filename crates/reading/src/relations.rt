@@ -1,29 +1,33 @@
 // A relation of the text, and all relations.
 ghost use mathlib.Core.Path.{_≡_};
 ghost use Prim.Native.Nat.{_+_, _*_, _≤_, _<_};
-ghost use lib.ListN.{length, take, drop};
+ghost use lib.ListN.{length, drop};
 ghost use Rattle.model.specs.Limits.{maxRelations, maxWidth, maxTuples};
 ghost use Rattle.model.specs.Reading.{readRelations};
-ghost use Rattle.layout.specs.Shape.{networkOf};
-ghost use Rattle.reading.specs.Parts.{foundAt, mapRead, append, single, unlisted, readRecord, readRelation};
+ghost use Rattle.model.specs.Edges.{maxVariables, maxValues};
+ghost use Rattle.layout.specs.Loan.{entry, exit};
+ghost use Rattle.reading.specs.Parts.{foundAt, readRecord, recordOf, RelationRead, listed};
 use super::fields::line;
 use super::fields::lines;
+use super::fields::within;
 use layout::Shape;
 use layout::wide;
+use model::MAX_RELATIONS;
 use model::MAX_TUPLES;
 use model::MAX_WIDTH;
-use network::faults::within;
+use model::Value;
 
-// A relation's width and how many tuples it has, and the position behind what was read; position 0 where it is not in the form.
+// How many variables and tuples a relation has, and the position behind what was read; 0 if it is not in the form.
 pub struct Record {
     pub next: usize,
     pub width: usize,
     pub tuples: usize,
 }
 
-// The relation record at a position, which may have at most the given number of tuples.
+// The relation record at a position, with at most `room` tuples.
 fn record_at(text: &[u8], at: usize, room: usize) -> Record
-    ensures { λ r. ⌜ (foundAt (r .next) (record { width = r .width; tuples = r .tuples }) (now (text .entry)) ≡ readRecord room (drop at (now (text .entry)))) × ((r .width ≤ maxWidth) × (r .tuples ≤ room)) ⌝ }
+    ensures read { λ r. ⌜ foundAt (r .next) (recordOf r) (entry text) ≡ readRecord room (drop at (entry text)) ⌝ }
+    ensures small { λ r. ⌜ (r .width ≤ maxWidth) × (r .tuples ≤ room) ⌝ }
 {
     let none = Record {
         next: 0,
@@ -50,18 +54,19 @@ fn record_at(text: &[u8], at: usize, room: usize) -> Record
     }
 }
 
-// Reads a relation of at most the given number of tuples: its scope and its values go into the lists from the given places on.
+// Reads a relation of at most `room` tuples: its scope and its values go into the lists, from entry `variable` and `value` on.
 fn relation_at(
     text: &[u8],
     at: usize,
     room: usize,
     variables: &mut [u16],
     variable: usize,
-    values: &mut [u16],
+    values: &mut [Value],
     value: usize,
 ) -> Record
     requires { ⌜ (variable + maxWidth ≤ length (now variables)) × (value + maxWidth * room ≤ length (now values)) ⌝ }
-    ensures { λ r. ⌜ (foundAt (r .next) (single (record { width = r .width; tuples = r .tuples }) (take (variable + r .width) (now (variables .exit))) (take (value + r .tuples * r .width) (now (values .exit)))) (now (text .entry)) ≡ mapRead (append (unlisted (take variable (now (variables .entry))) (take value (now (values .entry))))) (readRelation room (drop at (now (text .entry))))) × ((r .width ≤ maxWidth) × (r .tuples ≤ room)) ⌝ }
+    ensures read { λ r. ⌜ RelationRead text at room variables variable values value r ⌝ }
+    ensures small { λ r. ⌜ (r .width ≤ maxWidth) × (r .tuples ≤ room) ⌝ }
 {
     let r = record_at(text, at, room);
     let record_end = r.next;
@@ -84,8 +89,8 @@ fn relation_at(
     }
 }
 
-// The records of the relations, how many entries of each list were filled, and the position behind what was read; position 0
-// where it is not in the form.
+// The relations' records, how many entries of each list were filled, and the position behind what was read; 0 if it is not in the
+// form.
 pub struct Listed {
     pub next: usize,
     pub shape: Shape,
@@ -93,19 +98,31 @@ pub struct Listed {
     pub values: usize,
 }
 
-// Reads so many relations: their scopes and their values go into the lists.
+// So many relation records, with nothing in them yet.
+pub fn blank(count: usize) -> Shape
+    ensures { λ s. ⌜ (s .count ≡ count) × (length (s .widths) ≡ maxRelations) × (length (s .tuples) ≡ maxRelations) ⌝ }
+{
+    let none = [0u16; MAX_RELATIONS];
+    Shape {
+        count,
+        widths: none,
+        tuples: none,
+    }
+}
+
+// Reads so many relations: their scopes and their values go into the lists, from the front on.
 pub fn relations_at(
     text: &[u8],
     at: usize,
     count: usize,
     variables: &mut [u16],
-    values: &mut [u16],
+    values: &mut [Value],
 ) -> Listed
-    requires { ⌜ ((0 < at) × (count ≤ maxRelations)) × ((512 ≤ length (now variables)) × (32768 ≤ length (now values))) ⌝ }
-    ensures { λ r. ⌜ (foundAt (r .next) (networkOf (r .shape) (take (r .variables) (now (variables .exit))) (take (r .values) (now (values .exit)))) (now (text .entry)) ≡ readRelations count maxTuples (drop at (now (text .entry)))) × ((r .variables ≤ 512) × (r .values ≤ 32768)) ⌝ }
+    requires { ⌜ (0 < at) × (count ≤ maxRelations) × (maxVariables ≤ length (now variables)) × (maxValues ≤ length (now values)) ⌝ }
+    ensures read { λ r. ⌜ foundAt (r .next) (listed r (exit variables) (exit values)) (entry text) ≡ readRelations count maxTuples (drop at (entry text)) ⌝ }
+    ensures small { λ r. ⌜ (r .variables ≤ maxVariables) × (r .values ≤ maxValues) ⌝ }
 {
-    let mut widths = [0u16; 64];
-    let mut tuples = [0u16; 64];
+    let mut shape = blank(count);
     let mut room = MAX_TUPLES;
     let mut from = at;
     let mut variable = 0;
@@ -117,8 +134,8 @@ pub fn relations_at(
         if from == 0 {
             break;
         }
-        widths[r] = found.width as u16;
-        tuples[r] = found.tuples as u16;
+        shape.widths[r] = found.width as u16;
+        shape.tuples[r] = found.tuples as u16;
         room -= found.tuples;
         variable += found.width;
         value += found.tuples * found.width;
@@ -126,11 +143,7 @@ pub fn relations_at(
     }
     Listed {
         next: from,
-        shape: Shape {
-            count,
-            widths,
-            tuples,
-        },
+        shape,
         variables: variable,
         values: value,
     }

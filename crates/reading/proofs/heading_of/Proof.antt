@@ -7,6 +7,7 @@ use Prim.Native.Nat.{ℕ}
 use borrow.Author.Needs.{needs}
 use borrow.Author.Tests.{not-true, not-false}
 use lib.ListN.{length, drop}
+use Rattle.model.specs.Limits.{maxRelations, minMembers, maxMembers}
 use Rattle.model.specs.Reading.{readLine}
 use Rattle.reading.specs.Parts.{foundAt}
 use Rattle.reading.proofs.Found.{within-high, found-at, found-none}
@@ -35,7 +36,7 @@ returns : tie.Need-returns
 returns c =
     let after = c .before .before in
     let t = after .before .before .before .args .text .now in
-    (sym (heading-none t (sym (line-read after) ∙ found-none t (after .line .result) (numbers after) (c .if1 .taken))), (search needs, (search needs, search needs)))
+    (sym (heading-none t (sym (line-read after) ∙ found-none t (after .line .result) (numbers after) (c .if1 .taken))), (search needs, search needs, search needs))
 
 returns-2 : tie.Need-returns-2
 returns-2 c =
@@ -44,7 +45,7 @@ returns-2 c =
     let after = read .before .before in
     let t = after .before .before .before .args .text .now in
     let wrong = sym (c .before .within .ensures) ∙ not-true _ (c .if2 .taken) in
-    (sym (heading-relations t (numbers after) (drop (after .line .result) t) (line-some read) (sized .before .before .wide .result) (sized .before .wide2 .result) (sized .wide3 .result) (sized .before .before .wide .ensures .0) (sized .before .wide2 .ensures .0) (sized .wide3 .ensures .0) wrong), (search needs, (search needs, search needs)))
+    (sym (heading-relations t (numbers after) (drop (after .line .result) t) (line-some read) (sized .before .before .wide .result) (sized .before .wide2 .result) (sized .wide3 .result) (sized .before .before .wide .ensures .0) (sized .before .wide2 .ensures .0) (sized .wide3 .ensures .0) wrong), (search needs, search needs, search needs))
 
 returns-3 : tie.Need-returns-3
 returns-3 c =
@@ -54,7 +55,7 @@ returns-3 c =
     let t = after .before .before .before .args .text .now in
     let right = sym (c .before .before .before .within .ensures) ∙ not-false _ (c .before .before .if2 .left) in
     let wrong = sym (c .before .within2 .ensures) ∙ not-true _ (c .if3 .taken) in
-    (sym (heading-m t (numbers after) (drop (after .line .result) t) (line-some read) (sized .before .before .wide .result) (sized .before .wide2 .result) (sized .wide3 .result) (sized .before .before .wide .ensures .0) (sized .before .wide2 .ensures .0) (sized .wide3 .ensures .0) right wrong), (search needs, (search needs, search needs)))
+    (sym (heading-m t (numbers after) (drop (after .line .result) t) (line-some read) (sized .before .before .wide .result) (sized .before .wide2 .result) (sized .wide3 .result) (sized .before .before .wide .ensures .0) (sized .before .wide2 .ensures .0) (sized .wide3 .ensures .0) right wrong), (search needs, search needs, search needs))
 
 returns-4 : tie.Need-returns-4
 returns-4 c =
@@ -64,7 +65,7 @@ returns-4 c =
     let t = after .before .before .before .args .text .now in
     let right = sym (c .before .before .before .before .within .ensures) ∙ not-false _ (c .before .before .before .if2 .left) in
     let proper = sym (c .before .before .within2 .ensures) ∙ not-false _ (c .before .if3 .left) in
-    (sym (heading-many t (numbers after) (drop (after .line .result) t) (line-some read) (sized .before .before .wide .result) (sized .before .wide2 .result) (sized .wide3 .result) (sized .before .before .wide .ensures .0) (sized .before .wide2 .ensures .0) (sized .wide3 .ensures .0) right proper (c .if4 .taken)), (search needs, (search needs, search needs)))
+    (sym (heading-many t (numbers after) (drop (after .line .result) t) (line-some read) (sized .before .before .wide .result) (sized .before .wide2 .result) (sized .wide3 .result) (sized .before .before .wide .ensures .0) (sized .before .wide2 .ensures .0) (sized .wide3 .ensures .0) right proper (c .if4 .taken)), (search needs, search needs, search needs))
 
 returns-5 : tie.Need-returns-5
 returns-5 c =
@@ -76,7 +77,7 @@ returns-5 c =
     let proper = sym (c .before .before .within2 .ensures) ∙ not-false _ (c .before .if3 .left) in (
       found-at t (after .line .result) _ (read .if1 .left)
           ∙ sym (heading-proper t (numbers after) (drop (after .line .result) t) (line-some read) (sized .before .before .wide .result) (sized .before .wide2 .result) (sized .wide3 .result) (sized .before .before .wide .ensures .0) (sized .before .wide2 .ensures .0) (sized .wide3 .ensures .0) right proper (c .if4 .left)),
-      (within-high 1 64 (sized .before .before .wide .result) right, (within-high 2 4 (sized .before .wide2 .result) proper, c .if4 .left)),
+      (within-high 1 maxRelations (sized .before .before .wide .result) right, within-high minMembers maxMembers (sized .before .wide2 .result) proper, c .if4 .left),
     )
 
 pub heading-of-spec : {M : Type 1} → statement M

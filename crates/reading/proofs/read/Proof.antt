@@ -10,35 +10,33 @@ use native.Mathlib.Omega.{arith}
 use borrow.Author.Needs.{needs}
 use lib.ListN.{length, take, drop}
 use Rattle.model.specs.Network.{Network}
+use Rattle.model.specs.Edges.{maxVariables, maxValues, maxMemberList}
 use Rattle.model.specs.Request.{Instance}
 use Rattle.model.specs.Reading.{readInstance}
 use Rattle.layout.specs.Shape.{networkOf}
 use Rattle.reading.specs.declared.Heading.{Heading}
-use Rattle.reading.specs.Parts.{foundAt, Numbers, readHeading}
+use Rattle.reading.specs.Parts.{foundAt, readHeading, numbersOf}
 use Rattle.reading.proofs.Found.{positive, found-at, found-none}
 use Rattle.reading.proofs.Whole.{heading-members, instanceWith, instance-none, instance-broken, instance-found, read-long, read-none, read-more, read-some, filled, stands-none}
 use Rattle.reading.proofs.read.Statement.{statement}
 use Rattle.reading.proofs.read.Tie as tie
 
-abbrev numbersOf : Heading → Numbers
-numbersOf h = record { relations = h .relations; m = h .m; combinations = h .combinations }
-
 -- past the heading
 module _ (c : tie.Else2) where
   abbrev text : List ℕ
-  text = c .before .before .before .before .args .text .now
+  text = c .before .before .before .before .before .args .text .now
 
   abbrev heading : Heading
-  heading = c .before .heading-of .result
+  heading = c .before .before .heading-of .result
 
   heading-some : readHeading text ≡ some (numbersOf heading, drop (heading .next) text)
-  heading-some = sym (c .before .heading-of .ensures .0) ∙ found-at text (heading .next) (numbersOf heading) (c .if2 .left)
+  heading-some = sym (c .before .before .heading-of .ensures .0) ∙ found-at text (heading .next) (numbersOf heading) (c .if2 .left)
 
   has-members : 0 < heading .m
   has-members = heading-members text (numbersOf heading) (drop (heading .next) text) heading-some
 
-  few : heading .combinations * heading .m ≤ 256 * 4
-  few = let bounds = c .before .heading-of .ensures .1 .1 in mul-le-mul (bounds .1) (bounds .0)
+  few : heading .combinations * heading .m ≤ maxMemberList
+  few = let bounds = c .before .before .heading-of .ensures .1 in mul-le-mul (bounds .2) (bounds .1)
 
 -- past the relations
 module _ (c : tie.After-relations-at) where
@@ -50,13 +48,13 @@ module _ (c : tie.After-relations-at) where
       let r = c .relations-at .result in
       networkOf (r .shape) (take (r .variables) (c .relations-at .last .1 .1 .1 .0)) (take (r .values) (c .relations-at .last .1 .1 .1 .1 .0))
 
-  long : (512 ≤ length (c .relations-at .last .1 .1 .1 .0)) × (32768 ≤ length (c .relations-at .last .1 .1 .1 .1 .0))
+  long : (maxVariables ≤ length (c .relations-at .last .1 .1 .1 .0)) × (maxValues ≤ length (c .relations-at .last .1 .1 .1 .1 .0))
   long = (search needs, search needs)
 
 -- past the combinations
 module _ (c : tie.After-lines) where
   abbrev listed : tie.After-relations-at
-  listed = c .before .before .before
+  listed = c .before .before .before .before
 
   abbrev members : List ℕ
   members = c .lines .last .1 .1 .1 .1 .0
@@ -81,43 +79,37 @@ returns c =
 
 returns-2 : tie.Need-returns-2
 returns-2 c =
-    let after = c .before .before in
-    let t = c .before .before .before .before .before .args .text .now in
+    let after = c .before .before .before in
+    let t = after .before .before .before .args .text .now in
     let h = after .heading-of .result in
     let absent = sym (after .heading-of .ensures .0) ∙ found-none t (h .next) (numbersOf h) (c .before .if2 .taken) in
     stands-none t (c .nothing2 .result) _ _ _ (read-none t (after .before .if1 .left) (instance-none t absent)) (c .nothing2 .ensures)
 
 returns-3 : tie.Need-returns-3
 returns-3 c =
-    let after = c .before .before in
+    let after = c .before .before .before in
     let t = text (headed after) in
     let h = heading (headed after) in
     let absent = sym (after .relations-at .ensures .0) ∙ found-none t (after .relations-at .result .next) (network after) (c .before .if3 .taken) in
-    stands-none t (c .nothing3 .result) _ _ _ (read-none t (headed after .before .before .if1 .left) (instance-broken t (numbersOf h) (drop (h .next) t) (heading-some (headed after)) absent)) (c .nothing3 .ensures)
+    stands-none t (c .nothing3 .result) _ _ _ (read-none t (headed after .before .before .before .if1 .left) (instance-broken t (numbersOf h) (drop (h .next) t) (heading-some (headed after)) absent)) (c .nothing3 .ensures)
 
 lines-requires : tie.Need-lines-requires
 lines-requires c κs =
-    let after = c .before .before in
-    (positive (after .relations-at .result .next) (c .before .if3 .left), (has-members (headed after), omega (arith, few (headed after))))
+    let after = c .before .before .before in
+    (positive (after .relations-at .result .next) (c .before .if3 .left), has-members (headed after), omega (arith, few (headed after)))
 
 returns-4 : tie.Need-returns-4
 returns-4 c =
     let after = c .before .before in
     let headed = headed (listed after) in
     let absent = instance-read after ∙ found-none (text headed) (after .lines .result) (whole-instance after) (c .before .if4 .taken) in
-    stands-none (text headed) (c .nothing4 .result) _ _ _ (read-none (text headed) (headed .before .before .if1 .left) absent) (c .nothing4 .ensures)
+    stands-none (text headed) (c .nothing4 .result) _ _ _ (read-none (text headed) (headed .before .before .before .if1 .left) absent) (c .nothing4 .ensures)
 
 returns-5 : tie.Need-returns-5
 returns-5 c =
     let after = c .before .before .before in
     let headed = headed (listed after) in
-    stands-none (text headed) (c .nothing5 .result) _ _ _ (read-more (text headed) (headed .before .before .if1 .left) (whole-instance after) (after .lines .result) (instance-read after) (c .before .before .if4 .left) (c .before .if5 .taken)) (c .nothing5 .ensures)
-
-cast-each : tie.Need-cast-each
-cast-each c = omega (arith, headed (listed (c .before .before .before)) .before .heading-of .ensures .1 .1 .0)
-
-mul-filled : tie.Need-mul-filled
-mul-filled c = omega (arith, few (headed (listed (c .before .before .before))))
+    stands-none (text headed) (c .nothing5 .result) _ _ _ (read-more (text headed) (headed .before .before .before .if1 .left) (whole-instance after) (after .lines .result) (instance-read after) (c .before .before .if4 .left) (c .before .if5 .taken)) (c .nothing5 .ensures)
 
 returns-6 : tie.Need-returns-6
 returns-6 c =
@@ -128,7 +120,7 @@ returns-6 c =
     let variables-fit : r .result .variables ≤ length (r .last .1 .1 .1 .0) = omega (arith, r .ensures .1 .0, lengths .0) in
     let values-fit : r .result .values ≤ length (r .last .1 .1 .1 .1 .0) = omega (arith, r .ensures .1 .1, lengths .1) in
     record {
-      is-read = sym (read-some (text headed) (headed .before .before .if1 .left) (whole-instance after) (after .lines .result) (instance-read after) (c .before .before .if4 .left) (c .before .if5 .left));
+      is-read = sym (read-some (text headed) (headed .before .before .before .if1 .left) (whole-instance after) (after .lines .result) (instance-read after) (c .before .before .if4 .left) (c .before .if5 .left));
       variables-filled = filled (r .result .variables) (r .last .1 .1 .1 .0) variables-fit;
       values-filled = filled (r .result .values) (r .last .1 .1 .1 .1 .0) values-fit;
       members-filled = filled (heading headed .combinations * heading headed .m) (members after) (omega (arith, few headed));
@@ -149,6 +141,6 @@ read-spec =
     returns-4
     (λ c κs. search needs)
     returns-5
-    cast-each
-    mul-filled
+    (λ c. omega (arith, headed (listed (c .before .before .before)) .before .before .heading-of .ensures .1 .1))
+    (λ c. omega (arith, few (headed (listed (c .before .before .before)))))
     returns-6)

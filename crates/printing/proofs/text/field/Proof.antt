@@ -16,12 +16,6 @@ behind c =
     let e = appended-end (omega (arith, entry .pre)) (c .digits .ensures) in
     omega (arith, e, entry .pre, decimal-length (entry .args .v), c .digits .ensures .long)
 
-digits-requires : tie.Need-digits-requires
-digits-requires c κs = omega (arith, c .before .before .pre, decimal-length (c .before .before .args .v))
-
-slice-write-out : tie.Need-slice-write-out
-slice-write-out c = behind (c .before .before)
-
 returns : tie.Need-returns
 returns c = let d = c .before .before .digits in appended-then (d .ensures) (appended-byte (d .last .0) (d .result) _ (behind (c .before .before)))
 
@@ -29,7 +23,7 @@ pub field-spec : {M : Type 1} → statement M
 field-spec =
     tie.close
     (tie.spec
-    digits-requires
-    slice-write-out
+    (λ c κs. omega (arith, c .before .before .pre, decimal-length (c .before .before .args .v)))
+    (λ c. behind (c .before .before))
     (λ c. search needs) (λ c. search needs)
     returns)

@@ -5,6 +5,7 @@ use Prim.Native.Nat.{ℕ, _+_, _*_, _-_, _≤_}
 use native.Mathlib.Omega.{arith}
 use lib.ListN.{length, drop, getD}
 use Rattle.model.specs.Text.{lineText}
+use Rattle.printing.specs.Lines.{fieldRoom}
 use Rattle.printing.proofs.Appended.{Remains, remains-all, remains-then, remains-same, remains-last}
 use Rattle.printing.proofs.Lines.{field-end, lineText-drop, lineText-last}
 use borrow.Author.Needs.{needs}
@@ -13,13 +14,10 @@ use Rattle.printing.proofs.text.line.Tie as tie
 
 abbrev Inv-loop : tie.InvT-loop
 Inv-loop out₀ at fields last n₀ i₀ out n i =
-    (i ≤ last) × (n + 6 * (length fields - i) ≤ length out) × Remains (lineText (drop i fields)) out n (lineText fields) out₀ at
+    (i ≤ last) × (n + fieldRoom * (length fields - i) ≤ length out) × Remains (lineText (drop i fields)) out n (lineText fields) out₀ at
 
 abbrev μ-loop : tie.MeasureT-loop
 μ-loop out₀ at fields last n₀ i₀ out n i = last - i
-
-sub-last : tie.Need-sub-last Inv-loop μ-loop
-sub-last c = omega (arith, c .before .before .pre)
 
 loop-holds : tie.Need-loop-holds Inv-loop μ-loop
 loop-holds c =
@@ -50,7 +48,7 @@ line-spec =
     (tie.spec
     Inv-loop
     μ-loop
-    sub-last
+    (λ c. omega (arith, c .before .before .pre))
     loop-holds
     (λ c. search needs) (λ c. search needs) (λ c κs. search needs) (λ c. search needs)
     (λ c. search needs)

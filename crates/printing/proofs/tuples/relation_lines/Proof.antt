@@ -1,136 +1,199 @@
 -- `relation_lines` goes from one live id to the next: what remains are the lines of those from there on.
--- From the laws of the lines of a range of ids, and of texts written part by part.
-use mathlib.Core.Path.{_≡_, sym, ap, subst, _∙_}
-use mathlib.Core.Bool.{true}
+-- From the laws of the lines of a range of ids, of texts written part by part, and of a tuple's line by the starts.
+use mathlib.Core.Path.{_≡_, sym, ap, ap₂, subst, _∙_}
+use mathlib.Core.Bool.{Bool, true}
+use mathlib.Core.List.{List, _∷_}
 use Prim.Native.Nat.{ℕ, _+_, _*_, _-_, _≤_, _<_}
 use native.Mathlib.Omega.{arith}
 use lib.ListN.{length, take, drop}
+use Rattle.model.specs.Limits.{maxWidth}
 use Rattle.model.specs.LiveWords.{isLive}
 use Rattle.model.specs.Text.{lineText}
+use Rattle.model.specs.Listing.{tupleLine}
 use Rattle.model.proofs.Lists.{First}
 use Rattle.model.proofs.LiveWords.{nextLive-first}
-use Rattle.network.proofs.Places.{length-part}
-use Rattle.printing.specs.Lines.{Part, part, placeIn, lineIn, textOver}
+use Rattle.layout.specs.Starts.{tupleStart, valueStart}
+use Rattle.layout.specs.Places.{widthIn}
+use Rattle.layout.proofs.SoundStarts.{scope-rises, ids-rise, ids-asks, tuple-count}
+use Rattle.layout.proofs.Places.{length-part}
+use Rattle.printing.specs.Lines.{lineRoom, textOver, rows}
 use Rattle.printing.proofs.Appended.{appended-same, Remains, remains-all, remains-then, remains-same, remains-none}
-use Rattle.printing.proofs.Lines.{tuple-end, lineIn-part}
+use Rattle.printing.proofs.Lines.{tuple-end}
 use Rattle.printing.proofs.Over.{over-none, over-first, over-cons}
+use Rattle.printing.proofs.Relations.{few, width-bounds, tuple-inside, tuple-line-is}
 use borrow.Author.Needs.{needs}
 use Rattle.printing.proofs.tuples.relation_lines.Statement.{statement}
 use Rattle.printing.proofs.tuples.relation_lines.Tie as tie
 
+-- the lines of the live tuples with ids from g on and below end
+abbrev linesOf : List ℕ → List ℕ → List ℕ → ℕ → ℕ → List ℕ
+linesOf values starts words = textOver (tupleLine (rows starts values)) (isLive words)
+
 abbrev Inv-loop : tie.InvT-loop
-Inv-loop values words relation start end first width out₀ at n₀ g₀ out n g =
-    let text = textOver (lineIn values (part relation start first width)) (isLive words) in
-    (start ≤ g) × (g ≤ end) × (g < end → isLive words g ≡ true) × (n + 60 * (end - g) ≤ at + 60 * (end - start)) × Remains (text g end) out n (text start end) out₀ at
+Inv-loop values starts words r out₀ at start end first width n₀ g₀ out n g =
+    let text = linesOf values starts words in
+    (start ≤ g) × (g ≤ end) × (g < end → isLive words g ≡ true) × (n + lineRoom * (end - g) ≤ at + lineRoom * (end - start)) × Remains (text g end) out n (text start end) out₀ at
 
 abbrev μ-loop : tie.MeasureT-loop
-μ-loop values words relation start end first width out₀ at n₀ g₀ out n g = end - g
+μ-loop values starts words r out₀ at start end first width n₀ g₀ out n g = end - g
 
-abbrev start : tie.In-loop Inv-loop μ-loop → tie.Start Inv-loop μ-loop
-start c = c .before .before .before .before .before .before
+-- ---- What was read of the starts
 
-abbrev thisPart : tie.In-loop Inv-loop μ-loop → Part
-thisPart c = let a = start c .args in part (a .relation) (a .start) (a .first) (a .width)
+small : (c : tie.Start Inv-loop μ-loop) → c .args .r < 64
+small c = few (c .pre .0 .0) (c .args .r) (c .pre .0 .1)
 
--- where tuple g's values begin
-abbrev place : tie.After-wide Inv-loop μ-loop → ℕ
-place c = let a = start (c .before) .args in a .first + c .wide .result * a .width
+module _ (c : tie.After-variable-start2 Inv-loop μ-loop) where
+  abbrev entry : tie.Start Inv-loop μ-loop
+  entry = c .before .before .before .before .before .before .before .before
 
-place-is : (c : tie.After-wide Inv-loop μ-loop) → place c ≡ placeIn (thisPart (c .before)) (c .before .before .loop .g)
-place-is c = let a = start (c .before) .args in ap (λ (i : ℕ). a .first + i * a .width) (c .wide .ensures .0)
+  abbrev r : ℕ
+  r = entry .args .r
 
--- they are there
-room : (c : tie.After-wide Inv-loop μ-loop) → place c + start (c .before) .args .width ≤ length (start (c .before) .args .values .now)
-room c =
-    let entry = start (c .before) in
-    subst (λ (i : ℕ). i + entry .args .width ≤ length (entry .args .values .now)) (sym (place-is c))
-    (entry .pre .1 .0 .2 (c .before .before .loop .g) (c .before .before .loop .inv .0) (c .before .loop-test .taken))
+  abbrev starts : List ℕ
+  starts = entry .args .starts .now
 
--- so many of them
-part-length : (c : tie.After-wide Inv-loop μ-loop) → (let a = start (c .before) .args in length (take (place c + a .width - place c) (drop (place c) (a .values .now))) ≡ a .width)
-part-length c =
-    let a = start (c .before) .args in
-    let e : place c + a .width - place c ≡ a .width = omega arith in
-    length-part (place c) (place c + a .width) (a .values .now) (omega arith) (room c) ∙ e
+  abbrev live : ℕ → Bool
+  live = isLive (entry .args .words .now)
+
+  abbrev line : ℕ → List ℕ
+  line = tupleLine (rows starts (entry .args .values .now))
+
+  abbrev start : ℕ
+  start = c .before .before .before .before .tuple-start .result
+
+  abbrev end : ℕ
+  end = c .before .before .before .tuple-start2 .result
+
+  abbrev first : ℕ
+  first = c .before .before .value-start .result
+
+  abbrev width : ℕ
+  width = c .before .variable-start .result - c .variable-start2 .result
+
+  start-read : start ≡ tupleStart starts r
+  start-read = c .before .before .before .before .tuple-start .ensures
+
+  end-read : end ≡ tupleStart starts (r + 1)
+  end-read = c .before .before .before .tuple-start2 .ensures
+
+  first-read : first ≡ valueStart starts r
+  first-read = c .before .before .value-start .ensures .0
+
+  width-read : width ≡ widthIn starts r
+  width-read = ap₂ (λ (e b : ℕ). e - b) (c .before .variable-start .ensures .0) (c .variable-start2 .ensures .0)
+
+  below-limit : r < 64
+  below-limit = small entry
+
+  has-width : (1 ≤ width) × (width ≤ maxWidth)
+  has-width = let w = width-bounds (entry .pre .0 .0) r (entry .pre .0 .1) in (omega (arith, width-read), omega (arith, width-read))
+
+  rises : start ≤ end
+  rises = omega (arith, start-read, end-read, ids-rise (entry .pre .0 .0 .framed) r below-limit)
+
+  asks : (g : ℕ) → g ≤ end → (g ≤ end) × (end ≤ 64 * length (entry .args .words .now)) × (end ≤ 4096)
+  asks g h =
+      let f = entry .pre .0 .0 .framed in
+      subst (λ (e : ℕ). (g ≤ e) × (e ≤ 64 * length (entry .args .words .now)) × (e ≤ 4096)) (sym end-read)
+      (ids-asks f r below-limit g (entry .args .words .now) (omega (arith, end-read)) (omega (arith, tuple-count f, entry .pre .0 .0 .all-bits)))
+
+-- ---- One tuple
+
+abbrev read : tie.In-loop Inv-loop μ-loop → tie.After-variable-start2 Inv-loop μ-loop
+read c = c .before .before .before
+
+module _ (c : tie.After-wide Inv-loop μ-loop) where
+  abbrev turn : tie.In-loop Inv-loop μ-loop
+  turn = c .before
+
+  abbrev g : ℕ
+  g = turn .before .loop .g
+
+  abbrev values : List ℕ
+  values = entry (read turn) .args .values .now
+
+  -- where its values begin
+  abbrev place : ℕ
+  place = first (read turn) + c .wide .result * width (read turn)
+
+  place-is : place ≡ first (read turn) + (g - start (read turn)) * width (read turn)
+  place-is = ap (λ (i : ℕ). first (read turn) + i * width (read turn)) (c .wide .ensures .0)
+
+  -- they are there
+  room : place + width (read turn) ≤ length values
+  room =
+      let k = read turn in
+      omega (arith, place-is, tuple-inside (entry k .pre .0 .0) (r k) (entry k .pre .0 .1) (start k) (end k) (first k) (width k) (start-read k) (end-read k) (first-read k) (width-read k) g (turn .before .loop .inv .0) (turn .loop-test .taken))
+
+  abbrev part : List ℕ
+  part = take (place + width (read turn) - place) (drop place values)
+
+  part-length : length part ≡ width (read turn)
+  part-length =
+      let e : place + width (read turn) - place ≡ width (read turn) = omega arith in
+      length-part place (place + width (read turn)) values (omega arith) room ∙ e
+
+  its-line : r (read turn) ∷ (g - start (read turn)) ∷ part ≡ line (read turn) g
+  its-line =
+      let k = read turn in
+      let w : place + width k - place ≡ width k = omega arith in
+      ap₂ (λ (n i : ℕ). r k ∷ (g - start k) ∷ take n (drop i values)) w place-is
+      ∙ tuple-line-is (entry k .pre .0 .0) (r k) (entry k .pre .0 .1) (start k) (end k) (first k) (width k) (start-read k) (end-read k) (first-read k) (width-read k) g (turn .before .loop .inv .0) (turn .loop-test .taken)
 
 loop-holds : tie.Need-loop-holds Inv-loop μ-loop
 loop-holds c =
-    let entry = c .before .before .before .before in
-    let a = entry .args in
-    let f = subst (First (isLive (a .words .now)) (a .start) (a .end)) (sym (c .next .ensures)) (nextLive-first (a .words .now) (a .start) (a .end) (entry .pre .0 .0)) in (
+    let k = c .before in
+    let f = subst (First (live k) (start k) (end k)) (sym (c .next .ensures)) (nextLive-first (entry k .args .words .now) (start k) (end k) (rises k)) in (
       f .from-i,
       f .to-end,
       f .passes,
       omega (arith, f .from-i, f .to-end),
-      remains-same (sym (over-first (lineIn (a .values .now) (part (a .relation) (a .start) (a .first) (a .width))) (isLive (a .words .now)) (a .start) (a .end) (c .next .result) f)) (remains-all (omega (arith, entry .pre .1 .1))),
+      remains-same (sym (over-first (line k) (live k) (start k) (end k) (c .next .result) f)) (remains-all (omega (arith, entry k .pre .1))),
     )
-
-mul-place : tie.Need-mul-place Inv-loop μ-loop
-mul-place c = omega (arith, room c)
-
-add-place : tie.Need-add-place Inv-loop μ-loop
-add-place c = omega (arith, room c)
-
-add-place-end : tie.Need-add-place-end Inv-loop μ-loop
-add-place-end c = omega (arith, room c)
-
-mul-tuple-line : tie.Need-mul-tuple-line Inv-loop μ-loop
-mul-tuple-line c = omega (arith, room (c .before))
-
-part-tuple-line-end : tie.Need-part-tuple-line-end Inv-loop μ-loop
-part-tuple-line-end c = room (c .before)
 
 tuple-line-requires : tie.Need-tuple-line-requires Inv-loop μ-loop
 tuple-line-requires c κs =
-    let turn = c .before .before .before in
-    let entry = start turn in
-    let e = part-length (c .before .before) in
-    (omega (arith, entry .pre), omega (arith, entry .pre, turn .before .loop .inv, turn .before .loop .inv .4 .long))
+    let w = c .before .before in
+    let l = turn w .before .loop in
+    let k = read (turn w) in
+    let e = part-length w in
+    (omega (arith, has-width k), omega (arith, has-width k, entry k .pre .1, start-read k, end-read k, l .inv .0, l .inv .3, turn w .loop-test .taken, l .inv .4 .long))
 
-next-requires-2 : tie.Need-next-requires-2 Inv-loop μ-loop
-next-requires-2 c κs =
-    let turn = c .before .before .before .before .before .before in
-    (omega arith, start turn .pre .0 .1, start turn .pre .0 .2)
+-- ---- The next live id
 
--- the next live id behind g
-onward : (c : tie.After-next2 Inv-loop μ-loop) → (let turn = c .before .before .before .before .before .before .before in let a = start turn .args in First (isLive (a .words .now)) (turn .before .loop .g + 1) (a .end) (c .next2 .result))
-onward c =
-    let turn = c .before .before .before .before .before .before .before in
-    let a = start turn .args in
-    let g = turn .before .loop .g in
-    subst (First (isLive (a .words .now)) (g + 1) (a .end)) (sym (c .next2 .ensures)) (nextLive-first (a .words .now) (g + 1) (a .end) (omega arith))
+module _ (c : tie.After-next2 Inv-loop μ-loop) where
+  abbrev written : tie.After-wide Inv-loop μ-loop
+  written = c .before .before .before .before .before .before
 
-loop-less : tie.Need-loop-less Inv-loop μ-loop
-loop-less c = omega (arith, onward c .from-i, onward c .to-end)
+  onward : First (live (read (turn written))) (g written + 1) (end (read (turn written))) (c .next2 .result)
+  onward =
+      let k = read (turn written) in
+      subst (First (live k) (g written + 1) (end k)) (sym (c .next2 .ensures)) (nextLive-first (entry k .args .words .now) (g written + 1) (end k) (omega (arith, turn written .loop-test .taken)))
 
 loop-again : tie.Need-loop-again Inv-loop μ-loop
 loop-again c =
-    let turn = c .before .before .before .before .before .before .before in
-    let l = turn .before .loop in
-    let a = start turn .args in
-    let w = c .before .before .before .before .before .before in
-    let p = thisPart turn in
+    let w = written c in
+    let k = read (turn w) in
+    let l = turn w .before .loop in
     let t = c .before .before .before .tuple-line in
     let f = onward c in
-    let live = isLive (a .words .now) in
-    let line = appended-same (ap lineText (lineIn-part (a .values .now) p (l .g) (place w) (place-is w))) (t .ensures) in
-    let e = tuple-end (a .relation) (l .g - a .start) (take (place w + a .width - place w) (drop (place w) (a .values .now))) (omega (arith, part-length w, start turn .pre .1 .0)) (l .inv .4 .fits) (t .ensures) in (
+    let e = tuple-end (r k) (g w - start k) (part w) (omega (arith, part-length w, has-width k)) (l .inv .4 .fits) (t .ensures) in (
       omega (arith, f .from-i, l .inv .0),
       f .to-end,
       f .passes,
       omega (arith, f .from-i, f .to-end, l .inv .3, e),
-      remains-same (sym (over-first (lineIn (a .values .now) p) live (l .g + 1) (a .end) (c .next2 .result) f))
-          (remains-then (remains-same (over-cons (lineIn (a .values .now) p) live (l .g) (a .end) (turn .loop-test .taken) (l .inv .2 (turn .loop-test .taken))) (l .inv .4)) line),
+      remains-same (sym (over-first (line k) (live k) (g w + 1) (end k) (c .next2 .result) f))
+          (remains-then (remains-same (over-cons (line k) (live k) (g w) (end k) (turn w .loop-test .taken) (l .inv .2 (turn w .loop-test .taken))) (l .inv .4)) (appended-same (ap lineText (its-line w)) (t .ensures))),
     )
 
 returns : tie.Need-returns Inv-loop μ-loop
 returns c =
-    let a = c .before .before .before .before .before .before .args in
+    let k = c .before .before .before in
     let l = c .before .loop in
-    let e : l .g ≡ a .end = omega (arith, l .inv .1) in (
-      omega (arith, l .inv .3),
-      remains-none
-          (remains-same (over-none (lineIn (a .values .now) (part (a .relation) (a .start) (a .first) (a .width))) (isLive (a .words .now)) (l .g) (a .end) (l .inv .1) (λ g low high. absurd (omega arith))) (l .inv .4)),
+    let e : l .g ≡ end k = omega (arith, l .inv .1, c .loop-test .left) in (
+      omega (arith, l .inv .3, start-read k, end-read k),
+      appended-same (ap₂ (textOver (line k) (live k)) (start-read k) (end-read k))
+          (remains-none (remains-same (over-none (line k) (live k) (l .g) (end k) (l .inv .1) (λ g low high. absurd (omega arith))) (l .inv .4))),
     )
 
 pub relation-lines-spec : {M : Type 1} → statement M
@@ -139,19 +202,27 @@ relation-lines-spec =
     (tie.spec
     Inv-loop
     μ-loop
-    (λ c κs. search needs)
+    (λ c κs. omega (arith, small (c .before .before .before)))
+    (λ c. omega (arith, small (c .before .before .before .before)))
+    (λ c κs. omega (arith, small (c .before .before .before .before)))
+    (λ c κs. omega (arith, small (c .before .before .before .before .before)))
+    (λ c. omega (arith, small (c .before .before .before .before .before .before)))
+    (λ c κs. omega (arith, small (c .before .before .before .before .before .before)))
+    (λ c κs. omega (arith, small (c .before .before .before .before .before .before .before)))
+    (λ c. omega (arith, c .before .variable-start .ensures .0, c .variable-start2 .ensures .0, scope-rises (entry c .pre .0 .0 .framed) (r c) (below-limit c)))
+    (λ c κs. asks c (start c) (rises c))
     loop-holds
     (λ c. search needs) (λ c κs. search needs)
-    mul-place
-    add-place
-    add-place-end
-    mul-tuple-line
+    (λ c. omega (arith, room c))
+    (λ c. omega (arith, room c))
+    (λ c. omega (arith, room c))
+    (λ c. omega (arith, room (c .before)))
     (λ c. search needs) (λ c. search needs)
-    part-tuple-line-end
+    (λ c. room (c .before))
     tuple-line-requires
     (λ c. search needs)
-    next-requires-2
-    loop-less
+    (λ c κs. let turn = c .before .before .before .before .before .before in asks (read turn) (turn .before .loop .g + 1) (omega (arith, turn .loop-test .taken)))
+    (λ c. omega (arith, onward c .from-i, onward c .to-end, turn (written c) .loop-test .taken))
     loop-again
-    (λ c. search needs)
+    (λ c. c .before .loop .inv .4 .long)
     returns)

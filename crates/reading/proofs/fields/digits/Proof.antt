@@ -1,5 +1,5 @@
--- `fields::digits` meets its contract. The loop's invariant: what is still to read from position i on, v having been read, is
--- what was to read.
+-- `fields::digits` meets its contract. The loop's invariant: reading on from position i with the number v gives the
+-- field.
 -- From how a field is read byte by byte.
 use mathlib.Core.Path.{_≡_, refl, sym, _∙_}
 use Prim.Native.Nat.{_-_, _<_}
@@ -26,12 +26,6 @@ returns c =
     let a = c .before .before .before .before .args in
     let l = c .before .before .before .loop in
     found-past (a .text .now) (l .i) (l .v) ∙ sym (digits-end (a .text .now) (a .end) (l .i) (l .v) (c .before .before .loop-test .taken) (c .if1 .taken)) ∙ l .inv .1
-
-cast-w-2 : tie.Need-cast-w-2 Inv-loop μ-loop
-cast-w-2 c = omega arith
-
-add-w : tie.Need-add-w Inv-loop μ-loop
-add-w c = omega arith
 
 loop-again : tie.Need-loop-again Inv-loop μ-loop
 loop-again c =
@@ -86,8 +80,8 @@ digits-spec =
     (λ c. search needs) (λ c. search needs)
     returns
     (λ c. search needs) (λ c. search needs)
-    cast-w-2
-    add-w
+    (λ c. omega arith)
+    (λ c. omega arith)
     (λ c. search needs) (λ c. search needs) (λ c. search needs)
     loop-again
     returns-2

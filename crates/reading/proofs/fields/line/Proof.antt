@@ -1,5 +1,5 @@
--- `fields::line` meets its contract. The loop's invariant: what is still to read, behind the entries before `to`, is the whole line
--- behind those before `start`.
+-- `fields::line` meets its contract. The loop's invariant: the entries before `to` and the rest of the line are the entries before
+-- `start` and the whole line.
 -- From how a line is read field by field, and the contract of `fields::field`.
 use mathlib.Core.Path.{_≡_, sym, ap, ap₂, _∙_}
 use mathlib.Core.List.{List}
@@ -17,9 +17,9 @@ use Rattle.reading.proofs.fields.line.Tie as tie
 abbrev Inv-loop : tie.InvT-loop
 Inv-loop text at n into₀ start last from₀ to₀ into from to =
     (start ≤ to)
-    × ((to < start + n)
-    × ((length into ≡ length into₀)
-    × (behind (take to into) (readLine (start + n - to) (drop from text)) ≡ behind (take start into₀) (readLine n (drop at text)))))
+    × (to < start + n)
+    × (length into ≡ length into₀)
+    × (behind (take to into) (readLine (start + n - to) (drop from text)) ≡ behind (take start into₀) (readLine n (drop at text)))
 
 abbrev μ-loop : tie.MeasureT-loop
 μ-loop text at n into₀ start last from₀ to₀ into from to = last - to
@@ -28,7 +28,7 @@ loop-holds : tie.Need-loop-holds Inv-loop μ-loop
 loop-holds c =
     let a = c .before .before .args in
     let e : a .start + a .n - a .start ≡ a .n = omega arith in
-    (search needs, (search needs, (search needs, ap (λ (k : ℕ). behind (take (a .start) (a .into .now)) (readLine k (drop (a .at) (a .text .now)))) e)))
+    (search needs, search needs, search needs, ap (λ (k : ℕ). behind (take (a .start) (a .into .now)) (readLine k (drop (a .at) (a .text .now)))) e)
 
 returns : tie.Need-returns Inv-loop μ-loop
 returns c =
@@ -38,7 +38,7 @@ returns c =
     let f = c .before .before .field in
     let stops = sym (f .ensures) ∙ found-none (a .text .now) (f .result .next) (f .result .value) (c .if1 .taken) in
     sym (line-stop (a .start + a .n - (l .to + 1)) (a .start + a .n - l .to) (drop (l .from) (a .text .now)) (take (l .to) (l .into)) (omega arith) (omega arith) stops)
-    ∙ l .inv .1 .1 .1
+    ∙ l .inv .3
 
 loop-again : tie.Need-loop-again Inv-loop μ-loop
 loop-again c =
@@ -49,15 +49,11 @@ loop-again c =
     let j = a .start + a .n - (l .to + 1) in
     let reads = sym (f .ensures) ∙ found-at (a .text .now) (f .result .next) (f .result .value) (c .if1 .left) in (
       search needs,
-      (
-        search needs,
-        (
-          length-set (l .into) (l .to) (f .result .value) ∙ l .inv .1 .1 .0,
-          ap (λ (us : List ℕ). behind us (readLine j (drop (f .result .next) (a .text .now)))) (take-more (l .into) (l .to) (f .result .value) (omega arith))
-              ∙ sym (line-more j (a .start + a .n - l .to) (drop (l .from) (a .text .now)) (take (l .to) (l .into)) (omega arith) (omega arith) (drop (f .result .next) (a .text .now)) (f .result .value) reads)
-              ∙ l .inv .1 .1 .1,
-        ),
-      ),
+      search needs,
+      length-set (l .into) (l .to) (f .result .value) ∙ l .inv .2,
+      ap (λ (us : List ℕ). behind us (readLine j (drop (f .result .next) (a .text .now)))) (take-more (l .into) (l .to) (f .result .value) (omega arith))
+          ∙ sym (line-more j (a .start + a .n - l .to) (drop (l .from) (a .text .now)) (take (l .to) (l .into)) (omega arith) (omega arith) (drop (f .result .next) (a .text .now)) (f .result .value) reads)
+          ∙ l .inv .3,
     )
 
 returns-2 : tie.Need-returns-2 Inv-loop μ-loop
@@ -74,7 +70,7 @@ returns-2 c =
     ∙ ap (λ (us : List ℕ). foundAt (f .result .next) us t) (take-more (l .into) last (f .result .value) (omega arith))
     ∙ line-last t (drop (l .from) t) (take last (l .into)) (f .result .next) (f .result .value) (f .ensures)
     ∙ ap₂ (λ (i k : ℕ). behind (take i (l .into)) (readLine k (drop (l .from) t))) here one
-    ∙ l .inv .1 .1 .1
+    ∙ l .inv .3
 
 pub line-spec : {M : Type 1} → statement M
 line-spec =

@@ -1,5 +1,5 @@
--- `fields::lines` meets its contract. The loop's invariant: the lines still to read, behind the entries before `to`, are all lines
--- behind the entries before `start`.
+-- `fields::lines` meets its contract. The loop's invariant: the entries before `to` and the lines still to read are the entries before
+-- `start` and all lines.
 -- From how lines are read line by line, and the contract of `fields::line`.
 use mathlib.Core.Path.{_≡_, sym, ap, _∙_}
 use Prim.Native.Nat.{ℕ, _+_, _*_, _-_, _≤_, _<_}
@@ -17,10 +17,10 @@ use Rattle.reading.proofs.fields.lines.Tie as tie
 abbrev Inv-loop : tie.InvT-loop
 Inv-loop text at k n into₀ start from₀ to₀ i₀ into from to i =
     (i ≤ k)
-    × ((0 < from)
-    × ((to ≡ start + i * n)
-    × ((length into ≡ length into₀)
-    × (behind (take to into) (readLines (k - i) n (drop from text)) ≡ behind (take start into₀) (readLines k n (drop at text))))))
+    × (0 < from)
+    × (to ≡ start + i * n)
+    × (length into ≡ length into₀)
+    × (behind (take to into) (readLines (k - i) n (drop from text)) ≡ behind (take start into₀) (readLines k n (drop at text)))
 
 abbrev μ-loop : tie.MeasureT-loop
 μ-loop text at k n into₀ start from₀ to₀ i₀ into from to i = k - i
@@ -30,26 +30,17 @@ inside : (c : tie.In-loop Inv-loop μ-loop) → c .before .loop .to + c .before 
 inside c =
     let start = c .before .before .before .before in
     let l = c .before .loop in
-    omega (arith, line-inside (l .i) (start .args .k) (start .args .n) (c .loop-test .taken), start .pre .1 .1)
+    omega (arith, line-inside (l .i) (start .args .k) (start .args .n) (c .loop-test .taken), start .pre .2)
 
 loop-holds : tie.Need-loop-holds Inv-loop μ-loop
 loop-holds c =
     let a = c .before .before .args in (
       search needs,
-      (
-        c .before .before .pre .0,
-        (
-          search needs,
-          (
-            search needs,
-            ap (λ (j : ℕ). behind (take (a .start) (a .into .now)) (readLines j (a .n) (drop (a .at) (a .text .now)))) (sub-zero (a .k)),
-          ),
-        ),
-      ),
+      c .before .before .pre .0,
+      search needs,
+      search needs,
+      ap (λ (j : ℕ). behind (take (a .start) (a .into .now)) (readLines j (a .n) (drop (a .at) (a .text .now)))) (sub-zero (a .k)),
     )
-
-line-requires : tie.Need-line-requires Inv-loop μ-loop
-line-requires c κs = (search needs, inside (c .before))
 
 returns : tie.Need-returns Inv-loop μ-loop
 returns c =
@@ -58,10 +49,7 @@ returns c =
     let a = turn .before .before .before .before .args in
     let l = turn .before .loop in
     sym (lines-stop (a .k - (l .i + 1)) (a .k - l .i) (a .n) (a .text .now) (drop (l .from) (a .text .now)) (take (l .to) (l .into)) (take (l .to + a .n) (after .line .last .1 .1 .1 .0)) (after .line .result) (omega arith) (after .line .ensures) (c .if1 .taken))
-    ∙ l .inv .1 .1 .1 .1
-
-add-to : tie.Need-add-to Inv-loop μ-loop
-add-to c = omega (arith, inside (c .before .before .before .before .before))
+    ∙ l .inv .4
 
 loop-again : tie.Need-loop-again Inv-loop μ-loop
 loop-again c =
@@ -70,17 +58,11 @@ loop-again c =
     let a = turn .before .before .before .before .args in
     let l = turn .before .loop in (
       search needs,
-      (
-        positive (after .line .result) (c .if1 .left),
-        (
-          next-place (a .start) (l .to) (l .i) (a .n) (l .inv .1 .1 .0),
-          (
-            search needs,
-            sym (lines-more (a .k - (l .i + 1)) (a .k - l .i) (a .n) (a .text .now) (drop (l .from) (a .text .now)) (take (l .to) (l .into)) (take (l .to + a .n) (after .line .last .1 .1 .1 .0)) (after .line .result) (omega arith) (after .line .ensures) (c .if1 .left))
-                ∙ l .inv .1 .1 .1 .1,
-          ),
-        ),
-      ),
+      positive (after .line .result) (c .if1 .left),
+      next-place (a .start) (l .to) (l .i) (a .n) (l .inv .2),
+      search needs,
+      sym (lines-more (a .k - (l .i + 1)) (a .k - l .i) (a .n) (a .text .now) (drop (l .from) (a .text .now)) (take (l .to) (l .into)) (take (l .to + a .n) (after .line .last .1 .1 .1 .0)) (after .line .result) (omega arith) (after .line .ensures) (c .if1 .left))
+          ∙ l .inv .4,
     )
 
 returns-2 : tie.Need-returns-2 Inv-loop μ-loop
@@ -89,12 +71,12 @@ returns-2 c =
     let l = c .before .loop in
     let t = a .text .now in
     let i : l .i ≡ a .k = omega arith in
-    let all : a .start + a .k * a .n ≡ l .to = ap (λ (j : ℕ). a .start + j * a .n) (sym i) ∙ sym (l .inv .1 .1 .0) in
+    let all : a .start + a .k * a .n ≡ l .to = ap (λ (j : ℕ). a .start + j * a .n) (sym i) ∙ sym (l .inv .2) in
     let none-left : 0 ≡ a .k - l .i = omega arith in
     ap (λ (j : ℕ). foundAt (l .from) (take j (l .into)) t) all
-    ∙ lines-end (a .n) t (take (l .to) (l .into)) (l .from) (l .inv .1 .0)
+    ∙ lines-end (a .n) t (take (l .to) (l .into)) (l .from) (l .inv .1)
     ∙ ap (λ (j : ℕ). behind (take (l .to) (l .into)) (readLines j (a .n) (drop (l .from) t))) none-left
-    ∙ l .inv .1 .1 .1 .1
+    ∙ l .inv .4
 
 pub lines-spec : {M : Type 1} → statement M
 lines-spec =
@@ -103,10 +85,10 @@ lines-spec =
     Inv-loop
     μ-loop
     loop-holds
-    line-requires
+    (λ c κs. (search needs, inside (c .before)))
     (λ c. search needs)
     returns
-    add-to
+    (λ c. omega (arith, inside (c .before .before .before .before .before)))
     (λ c. search needs) (λ c. search needs)
     loop-again
     (λ c. search needs)

@@ -7,6 +7,7 @@ use Prim.Native.Nat.{ℕ}
 use borrow.Author.Needs.{needs}
 use borrow.Author.Tests.{not-true, not-false}
 use lib.ListN.{length, drop}
+use Rattle.model.specs.Limits.{maxWidth}
 use Rattle.model.specs.Reading.{readLine}
 use Rattle.reading.specs.Parts.{foundAt}
 use Rattle.reading.proofs.Found.{within-high, found-at, found-none}
@@ -67,7 +68,7 @@ returns-4 c =
     let right = sym (c .before .before .within .ensures) ∙ not-false _ (c .before .if2 .left) in (
       found-at t (after .line .result) _ (read .if1 .left)
           ∙ sym (record-proper (a .room) (drop (a .at) t) (numbers after) (drop (after .line .result) t) (line-some read) (sized .before .wide .result) (sized .wide2 .result) (sized .before .wide .ensures .0) (sized .wide2 .ensures .0) right (c .if3 .left)),
-      (within-high 1 8 (sized .before .wide .result) right, c .if3 .left),
+      (within-high 1 maxWidth (sized .before .wide .result) right, c .if3 .left),
     )
 
 pub record-at-spec : {M : Type 1} → statement M

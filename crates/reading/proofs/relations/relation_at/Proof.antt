@@ -8,17 +8,13 @@ use native.Mathlib.Nat.{mul-le-mul}
 use native.Mathlib.Omega.{arith}
 use borrow.Author.Needs.{needs}
 use lib.ListN.{take, drop}
-use Rattle.model.specs.declared.Relation.{Relation}
+use Rattle.model.specs.Limits.{maxWidth}
 use Rattle.model.specs.Reading.{readLine}
-use Rattle.reading.specs.declared.relations.Record.{Record}
-use Rattle.reading.specs.Parts.{mapRead, append, unlisted, readRecord}
+use Rattle.reading.specs.Parts.{mapRead, append, unlisted, readRecord, recordOf}
 use Rattle.reading.proofs.Found.{positive, found-at, found-none, map-none}
 use Rattle.reading.proofs.Networks.{record-width, relation-none, relation-scopeless, relation-found}
 use Rattle.reading.proofs.relations.relation_at.Statement.{statement}
 use Rattle.reading.proofs.relations.relation_at.Tie as tie
-
-abbrev recordOf : Record → Relation
-recordOf r = record { width = r .width; tuples = r .tuples }
 
 abbrev start : tie.Else1 → tie.Start
 start c = c .before .before .before .before .before
@@ -66,8 +62,8 @@ lines-requires c κs =
     let read = line-read .before .before in
     let a = start read .args in
     let r = read .before .record-at in
-    let few : r .result .tuples * r .result .width ≤ a .room * 8 = mul-le-mul (r .ensures .1 .1) (r .ensures .1 .0) in
-    (positive (line-read .line .result) (c .before .if2 .left), (has-width read, omega (arith, (start read) .pre .1)))
+    let few : r .result .tuples * r .result .width ≤ a .room * maxWidth = mul-le-mul (r .ensures .1 .1) (r .ensures .1 .0) in
+    (positive (line-read .line .result) (c .before .if2 .left), has-width read, omega (arith, (start read) .pre .1))
 
 returns-3 : tie.Need-returns-3
 returns-3 c =
