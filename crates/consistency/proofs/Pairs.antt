@@ -97,7 +97,7 @@ pub record WalkAt (G : Setting) (words : List ℕ) (p first end g : ℕ) : Type 
   pub lives : g < end → has (liveIn G words) g ≡ true
   pub passed : (i : ℕ) → first ≤ i → i < g → has (liveIn G words) i ≡ true → Supported (network G) (liveIn G words) (combinationOf G p) i
 
-module _ {G : Setting} {words : List ℕ} {p first end : ℕ} (long : Long words) (row : Row G p first end) where
+module _ {G : Setting} (words : List ℕ) {p first end : ℕ} (long : Long words) (row : Row G p first end) where
   abbrev N : Network
   N = network G
 

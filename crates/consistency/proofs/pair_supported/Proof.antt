@@ -1,6 +1,7 @@
 -- `pair_supported` walks from one live tuple of the pair's member to the next. The invariant: every live tuple passed has a support.
 -- From what `next` and `has_support` ensure, and the laws of the test of one pair.
 use mathlib.Core.Path.{_≡_, sym, subst, _∙_}
+use mathlib.Core.List.{List}
 use Prim.Native.Nat.{ℕ, _+_, _-_, _*_, _/_, _≤_, _<_}
 use native.Mathlib.Nat.{add-sub-cancel-left}
 use native.Mathlib.Omega.{arith}
@@ -53,12 +54,15 @@ first c = c .before .tuple-start .result
 row : (c : tie.After-tuple-start2 Inv-loop μ-loop) → (let a = entry c in Row (G a) (a .args .p) (first c) (c .tuple-start2 .result))
 row c = let a = entry c in row-of (asked a .sound) (a .args .p) (first c) (c .tuple-start2 .result) (asked a .pair) (c .before .tuple-start .ensures) (c .tuple-start2 .ensures)
 
-long : (c : tie.After-tuple-start2 Inv-loop μ-loop) → Long (entry c .args .words .now)
+abbrev words-of : tie.After-tuple-start2 Inv-loop μ-loop → List ℕ
+words-of c = entry c .args .words .now
+
+long : (c : tie.After-tuple-start2 Inv-loop μ-loop) → Long (words-of c)
 long c = entry c .pre .0
 
 -- what `next` asks from id g on
 asks : (c : tie.After-tuple-start2 Inv-loop μ-loop) (g : ℕ) → g ≤ c .tuple-start2 .result → (g ≤ c .tuple-start2 .result) × (c .tuple-start2 .result ≤ 64 * length (entry c .args .words .now)) × (c .tuple-start2 .result ≤ 4096)
-asks c g h = row-asks (row c) (entry c .args .words .now) g (words-enough (long c) (row c)) h
+asks c g h = row-asks (row c) (entry c .args .words .now) g (words-enough (words-of c) (long c) (row c)) h
 
 -- ---- One turn
 
@@ -71,19 +75,19 @@ has-support-requires c κs =
     let a = entry b in (
       a .pre .0,
       record {
-        sound = rw add-sub-cancel-left (searched-sound (long b) (row b) (c .before .before .loop .inv) (c .before .loop-test .taken));
+        sound = rw add-sub-cancel-left (searched-sound (words-of b) (long b) (row b) (c .before .before .loop .inv) (c .before .loop-test .taken));
         indexed = asked a .indexed;
       },
     )
 
 -- what is answered of the tuple at g
-decided : (c : tie.After-has-support Inv-loop μ-loop) → (let turn = c .before .before in c .has-support .result ≡ hasSupport (searched (long (begun turn)) (row (begun turn)) (turn .before .loop .inv) (turn .loop-test .taken)))
+decided : (c : tie.After-has-support Inv-loop μ-loop) → (let turn = c .before .before in c .has-support .result ≡ hasSupport (searched (words-of (begun turn)) (long (begun turn)) (row (begun turn)) (turn .before .loop .inv) (turn .loop-test .taken)))
 decided c = rw add-sub-cancel-left at (c .has-support .ensures)
 
 returns : tie.Need-returns Inv-loop μ-loop
 returns c =
     let turn = c .before .before .before in
-    walk-fails (long (begun turn)) (row (begun turn)) (turn .before .loop .inv) (turn .loop-test .taken) (sym (not-true _ (c .if1 .taken)) ∙ decided (c .before))
+    walk-fails (words-of (begun turn)) (long (begun turn)) (row (begun turn)) (turn .before .loop .inv) (turn .loop-test .taken) (sym (not-true _ (c .if1 .taken)) ∙ decided (c .before))
 
 loop-less : tie.Need-loop-less Inv-loop μ-loop
 loop-less c =
@@ -97,7 +101,7 @@ loop-again c =
     let b = begun turn in
     let a = entry b in
     subst (WalkAt (G a) (a .args .words .now) (a .args .p) (first b) (b .tuple-start2 .result)) (sym (c .next2 .ensures))
-    (walk-goes (long b) (row b) (turn .before .loop .inv) (turn .loop-test .taken) (sym (not-false _ (c .before .before .if1 .left)) ∙ decided (c .before .before .before)))
+    (walk-goes (words-of b) (long b) (row b) (turn .before .loop .inv) (turn .loop-test .taken) (sym (not-false _ (c .before .before .if1 .left)) ∙ decided (c .before .before .before)))
 
 pub pair-supported-spec : {M : Type 1} → statement M
 pair-supported-spec =
@@ -113,7 +117,7 @@ pair-supported-spec =
     (λ c. omega (arith, few (c .before .before .before .before .before)))
     (λ c κs. omega (arith, few (c .before .before .before .before .before)))
     (λ c κs. asks (c .before) (first (c .before)) (omega (arith, row (c .before) .is-end)))
-    (λ c. let b = c .before .before in let a = entry b in subst (WalkAt (G a) (a .args .words .now) (a .args .p) (first b) (b .tuple-start2 .result)) (sym (c .next .ensures)) (walk-starts (long b) (row b)))
+    (λ c. let b = c .before .before in let a = entry b in subst (WalkAt (G a) (a .args .words .now) (a .args .p) (first b) (b .tuple-start2 .result)) (sym (c .next .ensures)) (walk-starts (words-of b) (long b) (row b)))
     (λ c. omega (arith, within (entry (begun c))))
     (λ c. omega (arith, within (entry (begun c))))
     (λ c. omega (arith, within (entry (begun c))))
@@ -126,4 +130,4 @@ pair-supported-spec =
     (λ c κs. let turn = c .before .before .before .before in asks (begun turn) (turn .before .loop .g + 1) (omega (arith, turn .loop-test .taken)))
     loop-less
     loop-again
-    (λ c. let l = c .before in walk-ends (long (l .before .before .before)) (row (l .before .before .before)) (l .loop .inv) (c .loop-test .left)))
+    (λ c. let l = c .before in walk-ends (words-of (l .before .before .before)) (long (l .before .before .before)) (row (l .before .before .before)) (l .loop .inv) (c .loop-test .left)))
