@@ -102,7 +102,7 @@ leavesBack call I words numbers marks supports ids =
     writtenBack (reply (request I (entry words) (entry numbers) (changeIn call ids))) (entry marks) (entry supports)
 
 -- What the change call gives and leaves, with these ids.
-unfoldable pub changeCall : Call → ByteLists → List ℕ → Outcome
+abbrev pub changeCall : Call → ByteLists → List ℕ → Outcome
 changeCall call L ids = answered (wholeLists L && whole 2 (length ids)) L (changeIn call ids)
 
 -- ---- Test and compare

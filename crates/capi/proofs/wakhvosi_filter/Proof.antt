@@ -1,5 +1,7 @@
 -- `wakhvosi_filter` makes its call, with no ids.
 -- From what `change_call` ensures.
+use mathlib.Core.List.{List}
+use Prim.Native.Nat.{ℕ}
 use mathlib.Core.Path.{ap, _∙_}
 use mathlib.Core.Bool.{Bool}
 use Rattle.model.specs.Request.{filter}

@@ -1,5 +1,7 @@
 -- `change_bytes` decodes the words and the numbers, and makes the call.
 -- From what the decoders and `change_back` ensure, and that what is written over the bytes is what the whole lists hold.
+use mathlib.Core.List.{List}
+use Prim.Native.Nat.{ℕ}
 use mathlib.Core.Path.{_∙_}
 use Rattle.capi.proofs.Calls.{decoded-written}
 use Rattle.capi.specs.Call.{byteLists}

@@ -1,5 +1,7 @@
 -- `change_call` tests the lengths, and makes the call.
 -- From what the test and `change_bytes` ensure.
+use mathlib.Core.List.{List}
+use Prim.Native.Nat.{ℕ}
 use mathlib.Core.Path.{_≡_, sym, ap, _∙_}
 use Rattle.capi.proofs.Calls.{whole-written, cond-whole, cond-not}
 use mathlib.Core.Bool.{Bool, true, _&&_}
