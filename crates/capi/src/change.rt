@@ -48,7 +48,16 @@ fn change(
 {
     match call {
         Call::Filter => filter(shape, variables, values, m, members, words, numbers),
-        Call::Withdraw => withdraw_ids(shape, variables, values, m, members, words, numbers, ids_at(ids)),
+        Call::Withdraw => withdraw_ids(
+            shape,
+            variables,
+            values,
+            m,
+            members,
+            words,
+            numbers,
+            ids_at(ids),
+        ),
         Call::Choose(x, v) => choose(shape, variables, values, m, members, words, numbers, x, v),
     }
 }

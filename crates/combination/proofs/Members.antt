@@ -25,10 +25,6 @@ use Rattle.combination.specs.Proper.{below}
 pub member-below : (count : ℕ) (c : List ℕ) (i : ℕ) → below count c ≡ true → i < length c → getD c i 0 < count
 member-below count c i e h = ltb-true (getD c i 0) count (all-getD (λ (r : ℕ). ltb r count) c i 0 e h)
 
-pub below-more-relations : (count bound : ℕ) (c : List ℕ) → count ≤ bound → below count c ≡ true → below bound c ≡ true
-below-more-relations count bound c h e =
-    all-more (λ (r : ℕ). ltb r count) (λ (r : ℕ). ltb r bound) c (λ r k. let l = ltb-true r count k in lt-ltb r bound (omega arith)) e
-
 -- known relations are below 64
 pub known-below : (ms c : List ℕ) → all (known ms) c ≡ true → below maxRelations c ≡ true
 known-below ms c e = all-more (known ms) (λ (r : ℕ). ltb r maxRelations) c (λ r k. and-left (ltb r maxRelations) (common ms r r) k) e

@@ -19,8 +19,5 @@ pub fn ids_at(ids: &[u8]) -> Ids
         bound = add(&mut words, bound, u16_at(ids, i));
         i += 1;
     }
-    Ids {
-        words,
-        bound,
-    }
+    Ids { words, bound }
 }

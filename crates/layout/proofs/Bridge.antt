@@ -1,4 +1,4 @@
--- From no fault to the facts: a shape without the faults 2 to 6 has laid lists, without 7 to 9 too it has a sound setting, and the
+-- From no fault to the facts: a shape without the faults 2 to 6 has sound lists, without 7 to 9 its pairs are sound too, and the
 -- network that its starts describe is the shape's.
 -- From the tables of faults, and the law that starts describe the records whose starts they are.
 use mathlib.Core.Path.{_≡_, sym, ap, subst}
@@ -16,14 +16,14 @@ use Rattle.model.specs.Limits.{minMembers, maxMembers, maxCombinations}
 use Rattle.model.specs.Lists.{all}
 use Rattle.model.specs.Network.{Network}
 use Rattle.model.specs.Request.{Instance, combinationsOf}
-use Rattle.model.specs.Fault.{Fault, firstFault, within, properMembers, instanceFaults, networkFaults, combinationFaults}
+use Rattle.model.specs.Fault.{Fault, firstFault, within, properMembers, networkFaults, combinationFaults}
 use Rattle.model.proofs.Bools.{and-left, and-right}
 use Rattle.model.proofs.Lists.{here}
-use Rattle.model.proofs.Fault.{Faultless, faultless, no-fault-at, firstFault-front, firstFault-back}
+use Rattle.model.proofs.Fault.{Faultless, faultless, no-fault-at}
 use Rattle.layout.specs.declared.Shape.{Shape}
-use Rattle.layout.specs.Shape.{relationsOf, networkOf, instanceOf}
+use Rattle.layout.specs.Shape.{relationsOf, networkOf}
 use Rattle.layout.specs.Starts.{startsOf, recordsIn, Bounded, SoundStarts}
-use Rattle.layout.specs.Setting.{Lists, networkIn, SoundLists, Setting, SoundPairs, Sound}
+use Rattle.layout.specs.Setting.{Lists, networkIn, SoundLists, SoundPairs}
 use Rattle.layout.proofs.Starts.{recordsIn-of}
 
 pub faultless-bounded : (N : Network) → Faultless N → Bounded (N .relations)
@@ -87,23 +87,4 @@ module _ (I : Instance) (sound : firstFault (combinationFaults I) ≡ none) wher
           short = omega (arith, whole, mul-le-mul {n₂ = 256} {m₂ = 4} (listed-whole .1) (number .1));
         };
         proper = subst (λ (Rs : List Relation). all (properMembers (record { relations = Rs; variables = I .network .variables; values = I .network .values })) (combinationsOf I) ≡ true) (sym e) (not-false _ (absent (List·Memᴰ·tail (List·Memᴰ·tail here))));
-      }
-
--- ---- No fault 2 to 10
-
-module _ (S : Shape) (variables values : List ℕ) (m : ℕ) (members : List ℕ) (sound : firstFault (instanceFaults (instanceOf S variables values m members)) ≡ none) where
-  abbrev I : Instance
-  I = instanceOf S variables values m members
-
-  pub network-sound : firstFault (networkFaults (networkOf S variables values)) ≡ none
-  network-sound = firstFault-front (networkFaults (I .network)) (combinationFaults I) sound
-
-  abbrev pub settingOf : Setting
-  settingOf = record { lists = listsOf S variables values network-sound; members = members; m = m }
-
-  pub sound-of : Sound settingOf
-  sound-of =
-      record {
-        laid = laid-of S variables values network-sound;
-        paired = paired-of I (firstFault-back (networkFaults (I .network)) (combinationFaults I) sound) (startsOf (relationsOf S)) (recordsIn-of (relationsOf S) (shape-bounded S variables values network-sound .relations));
       }

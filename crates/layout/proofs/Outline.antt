@@ -5,7 +5,6 @@ use mathlib.Core.List.{List}
 use Prim.Native.Nat.{ℕ}
 use Rattle.model.specs.TupleSet.{TupleSet}
 use Rattle.model.specs.declared.Counts.{Counts}
-use Rattle.model.specs.Network.{relationOf}
 use Rattle.model.specs.Combination.{Combination}
 use Rattle.model.specs.Consistency.{needed, supportStart}
 use Rattle.model.specs.Reply.{lowestEmpty, answerFor}
@@ -13,10 +12,6 @@ use Rattle.layout.specs.Starts.{outline}
 use Rattle.layout.specs.Setting.{Lists, networkIn}
 
 module _ (L : Lists) where
-  pub relationOf-outline : (g : ℕ) → relationOf (outline (L .starts)) g ≡ relationOf (networkIn L) g
-  unfolding relationOf
-  relationOf-outline g = refl
-
   pub supportStart-outline : (m : ℕ) (members : List ℕ) (p : ℕ) → supportStart (outline (L .starts)) m members p ≡ supportStart (networkIn L) m members p
   unfolding supportStart
   supportStart-outline m members p = refl

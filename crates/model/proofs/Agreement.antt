@@ -8,7 +8,7 @@ use native.Mathlib.Nat.{le-of-suc-le-suc}
 use native.Mathlib.Omega.{arith}
 use lib.Dec.{eqb}
 use lib.ListN.{length, getD}
-use borrow.Author.Tests.{eq-eqb, ne-eqb, eqb-true, not-true}
+use borrow.Author.Tests.{eq-eqb, eqb-true, not-true}
 use Rattle.model.specs.Lists.{all, any}
 use Rattle.model.specs.Network.{Network, size, firstId, scopeOf, valuesAt, tupleOf}
 use Rattle.model.specs.Agreement.{Cell, fit, cells, clash, agreeing, cellsOf, agree}
@@ -17,14 +17,6 @@ use Rattle.model.proofs.Lists.{all-at, all-intro, eqb-sym}
 use Rattle.model.proofs.Network.{relationOf-at, indexOf-at}
 
 -- ---- When values fit
-
-pub fit-same : (a b : ℕ) → a ≡ b → fit a b ≡ true
-unfolding fit
-fit-same a b e = eq-eqb a b e
-
-pub fit-different : (a b : ℕ) → (a ≡ b → ⊥) → fit a b ≡ false
-unfolding fit
-fit-different a b d = ne-eqb a b d
 
 pub fit-equal : (a b : ℕ) → fit a b ≡ true → a ≡ b
 unfolding fit

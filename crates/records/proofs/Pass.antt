@@ -30,8 +30,8 @@ use Rattle.model.specs.declared.Relation.{Relation}
 use Rattle.model.proofs.Relation as T
 use Rattle.layout.specs.declared.Shape.{Shape}
 use Rattle.layout.specs.Shape.{shapeOf}
-use Rattle.network.proofs.Shape as S
-use Rattle.network.proofs.Shape.Laws as S′
+use Rattle.layout.proofs.Shape as S
+use Rattle.layout.proofs.Shape.Laws as S′
 use Rattle.records.proofs.Locals.{sv, Spots, Held, env, holding, returned, gives, hears}
 use Rattle.records.proofs.shape_of as sh
 use Rattle.records.proofs.shape_of.Symbol.{name as #records·shape-of}

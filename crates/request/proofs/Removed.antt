@@ -16,14 +16,14 @@ use lib.Seq.{drop-cons, getD-set-same, getD-set-other}
 use borrow.Author.Tests.{lt-ltb, le-ltb, ltb-true, ltb-false, le-leb, leb-true, eqb-true, ne-eqb}
 use Rattle.model.specs.Limits.{maxTuples, wordBits}
 use Rattle.model.specs.Lists.{all, elem}
-use Rattle.model.specs.TupleSet.{TupleSet, has, without}
+use Rattle.model.specs.TupleSet.{has, without}
 use Rattle.model.specs.Network.{Network}
 use Rattle.model.specs.LiveWords.{isSet, isLive, living, written, raised}
-use Rattle.model.specs.Request.{filter, withdraw, removes}
+use Rattle.model.specs.Request.{withdraw, removes}
 use Rattle.model.proofs.Bools.{and-left, and-right, or-cases, iff-eq, and-intro}
 use Rattle.model.proofs.Lists.{eqb-sym}
-use Rattle.model.proofs.TupleSet.{has-below, restrict-has, without-length, without-cong, without-none}
-use Rattle.model.proofs.LiveWords.{words-ext, written-length, written-isLive, written-below, written-living, living-length, living-has, living-written, none-isLive, raised-length, raised-isLive, raised-below}
+use Rattle.model.proofs.TupleSet.{restrict-has, without-length}
+use Rattle.model.proofs.LiveWords.{words-ext, written-length, written-isLive, written-below, living-length, living-has, living-written, none-isLive, raised-length, raised-isLive, raised-below}
 use Rattle.live.proofs.Bits.{isSet-and, isSet-not}
 use Rattle.combination.specs.Proper.{below}
 use Rattle.request.specs.Removal.{added, above, Lists, Small, Full, Holds, Room, withoutIds}
@@ -240,17 +240,6 @@ module _ (n : ℕ) (ws : List ℕ) where
   withoutIds-living p h =
       living-written n (without p (living n ws)) ws (without-length p (living n ws) ∙ living-length n ws) h
 
-  -- tests that say the same of the first n ids leave the same
-  withoutIds-cong : (p q : ℕ → Bool) → ((g : ℕ) → g < n → p g ≡ q g) → withoutIds n p ws ≡ withoutIds n q ws
-  withoutIds-cong p q f =
-      ap (λ (S : TupleSet). written n S ws)
-      (without-cong p q (living n ws) (λ g e. f g (omega (arith, has-below (living n ws) g e, living-length n ws))))
-
-  -- filter removes none
-  pub filter-removes : (N : Network) → Small ws → withoutIds n (removes N filter) ws ≡ ws
-  unfolding removes
-  filter-removes N small = ap (λ (S : TupleSet). written n S ws) (without-none (living n ws)) ∙ written-living n ws small
-
 -- Words that hold the ids below n that pass.
 module _ (n : ℕ) (few : n ≤ maxTuples) (p : ℕ → Bool) (removed : List ℕ) (holds : Holds removed (λ (g : ℕ). ltb g n && p g)) where
   pub holds-room : (words : List ℕ) → n ≤ wordBits * length words → Full removed → Room words removed n
@@ -261,10 +250,6 @@ module _ (n : ℕ) (few : n ≤ maxTuples) (p : ℕ → Bool) (removed : List �
         full = full;
         inside = λ g h l. holds g l ∙ ap (λ (b : Bool). b && p g) (le-ltb g n h);
       }
-
-  pub holds-removes : (words : List ℕ) → withoutIds n (isLive removed) words ≡ withoutIds n p words
-  holds-removes words =
-      withoutIds-cong n words (isLive removed) p (λ g h. holds g (omega (arith, few)) ∙ ap (λ (b : Bool). b && p g) (lt-ltb g n h))
 
 -- ---- The ids that withdraw lists
 

@@ -12,7 +12,6 @@ use Rattle.model.specs.LiveWords.{isLive, living}
 use Rattle.layout.specs.Setting.{Setting, network}
 use Rattle.layout.proofs.SoundStarts.{tuple-count, tuples-few}
 use Rattle.request.specs.Removal.{Room, withoutIds}
-use Rattle.engine.specs.Work.{Filtered}
 use Rattle.changes.proofs.Changed.{counted-all, cut-enough, cut-room, final-covered, final-fewer, final-reply}
 use Rattle.changes.proofs.change.Statement.{statement}
 use Rattle.changes.proofs.change.Tie as tie

@@ -1,7 +1,6 @@
 -- `choose` removes the tuples with another value.
 -- From what the checks, the ids' words and `change` ensure, and the laws from what the checks find to the reply.
 use mathlib.Core.Path.{_≡_, _∙_}
-use mathlib.Core.List.{List}
 use Prim.Native.Nat.{ℕ}
 use mir.Val.{Fits}
 use mir.Syntax.{w64}

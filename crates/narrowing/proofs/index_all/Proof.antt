@@ -1,12 +1,11 @@
 -- `index_all` goes relation by relation. The loop's invariant: the tuples of the relations passed are indexed.
 -- From the laws of framed starts and of places, and the law of one relation more.
-use mathlib.Core.Path.{_≡_, sym, ap₂, subst, _∙_}
-use Prim.Native.Nat.{ℕ, _+_, _-_, _*_, _≤_, _<_}
+use mathlib.Core.Path.{_≡_, ap₂, _∙_}
+use Prim.Native.Nat.{ℕ, _-_, _≤_, _<_}
 use native.Mathlib.Omega.{arith}
 use lib.ListN.{length}
 use borrow.Author.Needs.{needs}
 use Rattle.model.specs.Network.{width}
-use Rattle.layout.specs.Starts.{variableStart, tupleStart, recordsIn}
 use Rattle.layout.specs.Setting.{Lists, networkIn}
 use Rattle.layout.proofs.SoundStarts.{relations-few, relation-count, tuple-start, tuple-end, width-in, scope-rises, ids-rise, ids-few, columns-few}
 use Rattle.layout.proofs.Places.{values-within}

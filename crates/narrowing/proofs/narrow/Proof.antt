@@ -1,15 +1,12 @@
 -- `narrow` hands `narrow_columns` the parts of the lists where tuple x of relation r and the scope and ids of relation s lie.
 -- From the laws of places, and the law of a relation narrowed for a tuple.
-use mathlib.Core.Path.{_≡_, sym, _∙_}
-use mathlib.Core.List.{List}
-use Prim.Native.Nat.{ℕ, _-_, _≤_}
+use mathlib.Core.Path.{sym, _∙_}
+use Prim.Native.Nat.{_-_, _≤_}
 use native.Mathlib.Omega.{arith}
 use lib.ListN.{length, take, drop}
 use borrow.Author.Needs.{needs}
-use Rattle.model.specs.Network.{Network}
 use Rattle.model.specs.Agreement.{cells}
 use Rattle.model.proofs.Agreement.{cellsOf-at}
-use Rattle.layout.specs.declared.Place.{Place}
 use Rattle.layout.specs.Setting.{Lists, networkIn}
 use Rattle.layout.proofs.SoundStarts.{tuple-start, tuple-end, ids-few}
 use Rattle.layout.proofs.Places.{Within, below-limit, place-within, place-lengths, place-cells, place-rises, place-inside, place-scope, place-few}

@@ -43,8 +43,8 @@ use Rattle.layout.specs.declared.Shape.{Shape}
 use Rattle.layout.specs.Shape.{shapeOf}
 use Rattle.model.proofs.Relation as T
 use Rattle.model.proofs.Relation.Laws as T′
-use Rattle.network.proofs.Shape as S
-use Rattle.network.proofs.Shape.Laws as S′
+use Rattle.layout.proofs.Shape as S
+use Rattle.layout.proofs.Shape.Laws as S′
 use Rattle.records.specs.Records.{lesser, unread, withRecord}
 use Rattle.records.proofs.Walk.{URA, named, w64, Val, vint, vptr, SProp, ent, id⊢, flft, Memory, Routine, Heap, WpFn, Tables, Atoms, sem, Fun, givenOf, tables, tablesOf, Given, ‵, raw, _⊛_, _$_, _∵_, !, qed, move, whole, sub, look-in, look, init, stop, hop, fld, from, load, and-then, no-more, assigns, land, enter, params1, pass1, pass0, fmOf, owns, RefT, slice-vals, shr-slice-tells, Contract, Triple, Vals, alive, onEntry, Meets, tripleOf, entered, cited, ensured, lasts}
 use Rattle.records.proofs.Locals.{hears, met}

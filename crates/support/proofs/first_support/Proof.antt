@@ -8,7 +8,6 @@ use native.Mathlib.Omega.{arith}
 use lib.ListN.{length}
 use borrow.Kind.Array.{eInt, good-length}
 use mir.Syntax.{w16}
-use borrow.Author.Needs.{needs}
 use borrow.Author.Tests.{not-true, not-false}
 use Rattle.model.specs.Network.{total}
 use Rattle.model.specs.TupleSet.{has}

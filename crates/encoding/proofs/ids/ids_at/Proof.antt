@@ -3,7 +3,6 @@
 use mathlib.Core.Path.{sym, _∙_}
 use Prim.Native.Nat.{_-_, _≤_}
 use native.Mathlib.Omega.{arith}
-use lib.ListN.{length}
 use Rattle.request.proofs.Removed.{Filled, filled-start, filled-next, filled-end}
 use Rattle.wire.specs.Entries.{entries16}
 use Rattle.wire.proofs.Entries.{entries16-length, entries16-at}
