@@ -1,5 +1,5 @@
 -- Laws of the test of one pair of combination and member: what its search asks, and the walk from one live tuple to the next.
--- From the laws of pairs and of framed starts, and the model's laws of live words and of consistency.
+-- From the laws of pairs and of sound starts, and the model's laws of live words and of consistency.
 use mathlib.Core.Path.{_≡_, refl, sym, _∙_, ap, subst}
 use mathlib.Core.Bool.{Bool, true, false, not, _||_, false≢true}
 use mathlib.Core.List.{List, List·Memᴰ}

@@ -29,7 +29,7 @@ use Rattle.layout.proofs.Starts.{recordsIn-of}
 pub faultless-bounded : (N : Network) → Faultless N → Bounded (N .relations)
 faultless-bounded N f = record { relations = f .relations; widths = f .widths; tuples = f .tuples }
 
--- bounded records have framed starts
+-- bounded records have sound starts
 pub framed-of : (Rs : List Relation) → Bounded Rs → SoundStarts (startsOf Rs)
 framed-of Rs b =
     let e = sym (recordsIn-of Rs (b .relations)) in

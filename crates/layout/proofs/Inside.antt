@@ -1,5 +1,5 @@
 -- A scope, an id and a value by their relation.
--- From the laws of framed starts and of places.
+-- From the laws of sound starts and of places.
 use mathlib.Core.Path.{_≡_}
 use mathlib.Core.Bool.{true}
 use mathlib.Core.List.{List}

@@ -1,6 +1,6 @@
 -- Laws of pairs of combination and member: their combination is listed and rises, its members exist, and the numbers of their tuples
 -- lie within the support list and apart.
--- From the laws of framed starts, and the model's laws of combinations and of where pairs' numbers begin.
+-- From the laws of sound starts, and the model's laws of combinations and of where pairs' numbers begin.
 use mathlib.Core.Path.{_≡_, sym, _∙_, ap, subst}
 use mathlib.Core.Bool.{true}
 use mathlib.Core.Logic.{_⊎_, inl, inr}

@@ -1,5 +1,5 @@
 -- Laws of a network's lists: where its scopes and tuples lie, how long they are, and where each value stands.
--- From the laws of framed starts, and what a network without network faults has.
+-- From the laws of sound starts, and what a network without network faults has.
 use mathlib.Core.Path.{_≡_, sym, _∙_, ap, ap₂}
 use mathlib.Core.List.{List}
 use Prim.Native.Nat.{ℕ, suc, _+_, _-_, _*_, _≤_, _<_}

@@ -1,4 +1,4 @@
--- Laws of framed starts: what stands in each table at every number up to 64, a relation or not, and the relation and the index of an id.
+-- Laws of sound starts: what stands in each table at every number up to 64, a relation or not, and the relation and the index of an id.
 -- From the laws of starts, and of where relations begin.
 use mathlib.Core.Path.{_≡_, refl, _∙_, ap}
 use mathlib.Core.List.{List}
@@ -89,6 +89,9 @@ module _ {xs : List ℕ} (framed : SoundStarts xs) where
 
     pub ids-within : tupleStart xs (r + 1) ≤ total N
     ids-within = omega (arith, tuple-start (r + 1) (omega arith), before-le tuplesIn Rs (r + 1))
+
+    pub ids-inside : tupleStart xs (r + 1) ≤ tupleStart xs maxRelations
+    ids-inside = omega (arith, ids-within, tuple-count)
 
     pub ids-few : tupleStart xs (r + 1) ≤ maxTuples
     ids-few = omega (arith, ids-within, tuples-few)

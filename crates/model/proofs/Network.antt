@@ -1,10 +1,11 @@
 -- Laws of ids: a relation's ids are those whose relation it is. Laws of where a relation begins in the lists.
 -- From the definitions alone.
-use mathlib.Core.Path.{_≡_, ap}
+use mathlib.Core.Path.{_≡_, sym, ap, _∙_}
+use mathlib.Core.Logic.{_⊎_, inl, inr}
 use mathlib.Core.List.{List, [], _∷_, map, List·Memᴰ}
 use Prim.Native.Nat.{ℕ, zero, suc, _+_, _-_, _≤_, _<_}
 use native.Mathlib.Omega.{arith}
-use native.Mathlib.Decide.{decLt}
+use native.Mathlib.Decide.{decLt, decLe}
 use borrow.Author.Tests.{lt-ltb, le-ltb}
 use lib.ListN.{length, getD, List·getD-eq-default}
 use lib.Seq.{take-all}
@@ -100,3 +101,20 @@ module _ (f : Relation → ℕ) where
   -- a relation lies within the total
   pub before-within : (Rs : List Relation) (r : ℕ) → r < length Rs → before f Rs r + f (getD Rs r noRelation) ≤ sum (map f Rs)
   before-within Rs r h = let e = before-suc Rs r h in let l = before-le Rs (suc r) in omega arith
+
+-- a tuple of one relation lies outside every other
+pub ids-apart : (N : Network) (q z s : ℕ) → z < size N q → (s ≡ q → ⊥) → (firstId N q + z < firstId N s) ⊎ (firstId N s + size N s ≤ firstId N q + z)
+ids-apart N q z s h d = go (decLt g (firstId N s)) (decLe (firstId N s + size N s) g)
+  where
+    g : ℕ
+    g = firstId N q + z
+
+    inner : firstId N s ≤ g → g < firstId N s + size N s → s ≡ q
+    inner l k =
+        let e : firstId N s + (g - firstId N s) ≡ g = omega arith in
+        sym (ap (relationOf N) (sym e) ∙ relationOf-at N s (g - firstId N s) (omega arith)) ∙ relationOf-at N q z h
+
+    go : Dec (g < firstId N s) → Dec (firstId N s + size N s ≤ g) → (g < firstId N s) ⊎ (firstId N s + size N s ≤ g)
+    go (yes l) k = inl l
+    go (no l) (yes k) = inr k
+    go (no l) (no k) = absurd (d (inner (omega arith) (omega arith)))

@@ -4,17 +4,17 @@
 use mathlib.Core.Path.{_≡_, refl, sym, _∙_, ap, subst}
 use mathlib.Core.Bool.{Bool, true, false, _&&_, and-true}
 use mathlib.Core.List.{List}
-use mathlib.Core.Logic.{_⊎_, inl, inr, ⊎-elim}
+use mathlib.Core.Logic.{_⊎_, ⊎-elim}
 use Prim.Native.Nat.{ℕ, _+_, _-_, _≤_, _<_}
 use native.Mathlib.Omega.{arith}
-use native.Mathlib.Decide.{ℕ-discrete, decLt, decLe}
+use native.Mathlib.Decide.{ℕ-discrete}
 use lib.Dec.{ltb, leb}
 use lib.ListN.{length, getD}
-use Rattle.model.specs.Network.{Network, width, size, firstId, scopeOf, valuesAt, relationOf}
+use Rattle.model.specs.Network.{Network, width, size, firstId, scopeOf, valuesAt}
 use Rattle.model.specs.Agreement.{Cell, fit, cells, cellsOf, agreeing, agree}
 use Rattle.model.specs.LiveWords.{isLive, nextLive}
 use Rattle.model.proofs.Bools.{and-left, and-intro, or-right, not-both}
-use Rattle.model.proofs.Network.{relationOf-at}
+use Rattle.model.proofs.Network.{ids-apart}
 use Rattle.model.proofs.LiveWords.{nextLive-first}
 use Rattle.model.proofs.Agreement.{cellAt, cellsOf-at, agreeing-clash, clash-unfit, fit-equal}
 use Rattle.layout.specs.Setting.{Lists, networkIn, SoundLists}
@@ -80,23 +80,6 @@ narrows-agreeing {L} laid index marks r x s start end es ee xs ex scope ep befor
 -- where the next live id is past the relation's, none of them is live
 pub dead-past : (N : Network) (s start end : ℕ) (ws : List ℕ) → start ≡ firstId N s → end ≡ firstId N s + size N s → end ≤ nextLive ws start end → Dead N s ws
 dead-past N s start end ws es ee h z k = (nextLive-first ws start end (omega arith)) .none-before (firstId N s + z) (omega arith) (omega arith)
-
--- a tuple of one relation lies outside every other
-ids-apart : (N : Network) (q z s : ℕ) → z < size N q → (s ≡ q → ⊥) → (firstId N q + z < firstId N s) ⊎ (firstId N s + size N s ≤ firstId N q + z)
-ids-apart N q z s h d = go (decLt g (firstId N s)) (decLe (firstId N s + size N s) g)
-  where
-    g : ℕ
-    g = firstId N q + z
-
-    inner : firstId N s ≤ g → g < firstId N s + size N s → s ≡ q
-    inner l k =
-        let e : firstId N s + (g - firstId N s) ≡ g = omega arith in
-        sym (ap (relationOf N) (sym e) ∙ relationOf-at N s (g - firstId N s) (omega arith)) ∙ relationOf-at N q z h
-
-    go : Dec (g < firstId N s) → Dec (firstId N s + size N s ≤ g) → (g < firstId N s) ⊎ (firstId N s + size N s ≤ g)
-    go (yes l) k = inl l
-    go (no l) (yes k) = inr k
-    go (no l) (no k) = absurd (d (inner (omega arith) (omega arith)))
 
 module _ (N : Network) (y : ℕ) where
   pub narrowed-none : (ws : List ℕ) → Narrowed N y ws ws

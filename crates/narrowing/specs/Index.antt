@@ -123,7 +123,7 @@ Long words = length words ≡ maxWords
 abbrev pub Full : List ℕ → Type 0
 Full index = length index ≡ indexWords
 
--- Tuple x of relation r, which the words are narrowed for, in laid lists with their index.
+-- Tuple x of relation r, which the words are narrowed for, in sound lists with their index.
 pub record Seeks (L : Lists) (index : List ℕ) (r x : ℕ) : Type 0 where
   pub laid : SoundLists L
   pub indexed : Indexed (networkIn L) index

@@ -1,6 +1,6 @@
 -- The lines of tuples, relation by relation: a relation's lines before those of the later ones, and each tuple's line by the numbers
 -- that the starts give.
--- From the laws of framed starts, of ids, and of the lines of a range of ids.
+-- From the laws of sound starts, of ids, and of the lines of a range of ids.
 use mathlib.Core.Path.{_≡_, sym, _∙_, ap, ap₂}
 use mathlib.Core.List.{List, [], _∷_, _++_, map}
 use Prim.Native.Nat.{ℕ, suc, _+_, _-_, _*_, _≤_, _<_}
@@ -21,7 +21,7 @@ use Rattle.model.proofs.Lists.{all-getD}
 use Rattle.model.proofs.Network.{relationOf-at, indexOf-at, before-past, before-within}
 use Rattle.layout.specs.Starts.{tupleStart, valueStart, relationCount, recordsIn}
 use Rattle.layout.specs.Places.{widthIn}
-use Rattle.layout.proofs.SoundStarts.{relations-few, relation-count, tuple-start, tuple-end, tuple-count, value-start, width-in, columns-few, ids-rise, ids-within}
+use Rattle.layout.proofs.SoundStarts.{relations-few, relation-count, tuple-start, tuple-end, tuple-count, value-start, width-in, columns-few, ids-rise, ids-inside}
 use Rattle.printing.specs.Lines.{textOver, rows, relationText, Printable}
 use Rattle.printing.proofs.Over.{over-parts, over-none}
 
@@ -56,13 +56,10 @@ module _ {starts values words : List ℕ} (p : Printable starts values words) wh
     pub few : r < maxRelations
     few = omega (arith, exists, relations-few (p .framed))
 
-    pub ids-inside : tupleStart starts (r + 1) ≤ tupleStart starts maxRelations
-    ids-inside = omega (arith, ids-within (p .framed) r few, tuple-count (p .framed))
-
     -- its lines, and then those of the later relations
     pub linesFrom-next : linesFrom starts values words r ≡ relationText starts values words r ++ linesFrom starts values words (r + 1)
     linesFrom-next =
-        over-parts (tupleLine N) (isLive words) (tupleStart starts r) (tupleStart starts (r + 1)) (tupleStart starts maxRelations) (ids-rise (p .framed) r few) ids-inside
+        over-parts (tupleLine N) (isLive words) (tupleStart starts r) (tupleStart starts (r + 1)) (tupleStart starts maxRelations) (ids-rise (p .framed) r few) (ids-inside (p .framed) r few)
 
     pub width-bounds : (1 ≤ widthIn starts r) × (widthIn starts r ≤ maxWidth)
     width-bounds =

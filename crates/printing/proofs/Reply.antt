@@ -1,5 +1,5 @@
 -- The text of a reply: its answer's line, and the tuples' lines unless it is a refusal; and what these are written from.
--- From the definition of the reply's lines, the laws of texts, and the law that a network without fault has laid lists.
+-- From the definition of the reply's lines, the laws of texts, and the law that a network without fault has sound lists.
 use mathlib.Core.Path.{_≡_, _∙_, ap}
 use mathlib.Core.Bool.{Bool, true, false, cond}
 use mathlib.Core.List.{List, [], _++_, append-nil}

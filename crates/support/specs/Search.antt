@@ -53,7 +53,7 @@ idAt N c j x = firstId N (getD c j 0) + x
 abbrev pub seeker : Search → ℕ
 seeker Q = idAt (netOf Q) (Q .members) (Q .place) (Q .own)
 
--- What a search asks: laid lists, words for all tuples, members that exist and rise, the seeking tuple one of its member's, and a bound
+-- What a search asks: sound lists, words for all tuples, members that exist and rise, the seeking tuple one of its member's, and a bound
 -- that has this tuple and otherwise indices, or a member's size.
 pub record SoundSearch (Q : Search) : Type 0 where
   pub laid : SoundLists (Q .lists)

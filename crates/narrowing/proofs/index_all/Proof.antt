@@ -1,5 +1,5 @@
 -- `index_all` goes relation by relation. The loop's invariant: the tuples of the relations passed are indexed.
--- From the laws of framed starts and of places, and the law of one relation more.
+-- From the laws of sound starts and of places, and the law of one relation more.
 use mathlib.Core.Path.{_≡_, ap₂, _∙_}
 use Prim.Native.Nat.{ℕ, _-_, _≤_, _<_}
 use native.Mathlib.Omega.{arith}

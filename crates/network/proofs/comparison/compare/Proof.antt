@@ -1,5 +1,5 @@
 -- `compare` answers as the definition of the call says: the first fault, or whether the two tuples agree.
--- From what its parts ensure, the laws of the first fault, and the bridge from no fault to laid lists.
+-- From what its parts ensure, the laws of the first fault, and the bridge from no fault to sound lists.
 use mathlib.Core.Path.{_≡_, refl, sym, ap, ap₂, subst, _∙_}
 use mathlib.Core.Bool.{Bool, true, false, not, _&&_, and-false}
 use mathlib.Core.Option.{Option, none, some}

@@ -6,10 +6,10 @@ use Prim.Native.Nat.{ℕ, _+_, _*_, _-_, _≤_, _<_}
 use native.Mathlib.Omega.{arith}
 use Rattle.model.specs.Limits.{maxRelations, maxTuples}
 use Rattle.layout.specs.Starts.{tupleStart, relationCount}
-use Rattle.layout.proofs.SoundStarts.{ids-rise, tuple-count, tuples-few}
+use Rattle.layout.proofs.SoundStarts.{ids-rise, tuple-count, tuples-few, ids-inside}
 use Rattle.printing.specs.Lines.{lineRoom}
 use Rattle.printing.proofs.Appended.{appended-same, Remains, remains-all, remains-then, remains-same, remains-none}
-use Rattle.printing.proofs.Relations.{linesFrom, linesFrom-all, linesFrom-none, linesFrom-next, few, ids-inside}
+use Rattle.printing.proofs.Relations.{linesFrom, linesFrom-all, linesFrom-none, linesFrom-next, few}
 use borrow.Author.Needs.{needs}
 use Rattle.printing.proofs.tuples.tuple_lines.Statement.{statement}
 use Rattle.printing.proofs.tuples.tuple_lines.Tie as tie
@@ -48,7 +48,7 @@ module _ (c : tie.In-loop Inv-loop μ-loop) where
   ids : (tupleStart starts r ≤ tupleStart starts (r + 1)) × (tupleStart starts (r + 1) ≤ tupleStart starts maxRelations) × (tupleStart starts maxRelations ≤ maxTuples)
   ids =
       let f = entry .pre .0 .framed in
-      (ids-rise f r small, ids-inside (entry .pre .0) r present, omega (arith, tuple-count f, tuples-few f))
+      (ids-rise f r small, ids-inside f r small, omega (arith, tuple-count f, tuples-few f))
 
 loop-holds : tie.Need-loop-holds Inv-loop μ-loop
 loop-holds c = (search needs, omega arith, remains-all (omega (arith, start c .pre .1)))
