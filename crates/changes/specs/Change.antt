@@ -40,4 +40,4 @@ Replies a I words supports change = replied a (exit words) (exit supports) ≡ r
 
 -- .. to the withdrawal of every list whose ids these are
 abbrev pub RepliesIds : Answer → Instance → Loan → Loan → Ids → Type 0
-RepliesIds a I words supports r = (ids : List ℕ) → request′.Lists r ids → Replies a I words supports (withdraw ids)
+RepliesIds a I words supports r = (ids : List ℕ) → request′.IdsOf r ids → Replies a I words supports (withdraw ids)

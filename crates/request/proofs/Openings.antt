@@ -23,7 +23,7 @@ use Rattle.layout.specs.Setting.{Setting, network, instanceIn, listed, Sound}
 use Rattle.combination.specs.Proper.{below}
 use Rattle.request.specs.declared.checks.Opening.{Opening}
 use Rattle.request.specs.declared.removal.Ids.{Ids}
-use Rattle.request.specs.Removal.{Lists, Holds}
+use Rattle.request.specs.Removal.{IdsOf, Holds}
 use Rattle.request.proofs.Removed.{withdraw-holds}
 use Rattle.request.specs.Checks.{testFaultsOn, Opened, idsRefusal, variableRefusal}
 use Rattle.layout.proofs.Checked.{opened-instance, opened-sound}
@@ -57,7 +57,7 @@ ltb-not-leb n b = go (ltb n b) refl
     go true e = sym (ap not (lt-leb b n (ltb-true n b e)))
     go false e = sym (ap not (le-leb b n (ltb-false n b e)))
 
-module _ (N : Network) (ids : List ℕ) (r : Ids) (lists : Lists r ids) where
+module _ (N : Network) (ids : List ℕ) (r : Ids) (lists : IdsOf r ids) where
   -- fault 13 by the least number above all ids
   pub ids-refusal : (tuples : ℕ) → tuples ≡ total N → idsRefusal tuples (r .bound) ≡ refusal (firstFault (changeFaults N (withdraw ids)))
   ids-refusal tuples e =

@@ -26,7 +26,7 @@ use Rattle.model.proofs.TupleSet.{restrict-has, without-length}
 use Rattle.model.proofs.LiveWords.{words-ext, written-length, written-isLive, written-below, living-length, living-has, living-written, none-isLive, raised-length, raised-isLive, raised-below}
 use Rattle.live.proofs.Bits.{isSet-and, isSet-not}
 use Rattle.combination.specs.Proper.{below}
-use Rattle.request.specs.Removal.{added, above, Lists, Small, Full, Holds, Room, withoutIds}
+use Rattle.request.specs.Removal.{added, above, IdsOf, Small, Full, Holds, Room, withoutIds}
 
 -- no id is set in words of noughts
 pub blank-full : Full (replicate 64 0)
@@ -147,7 +147,7 @@ module _ (ids : List ℕ) where
         in
         rw (e, k) added-one
 
-    pub filled-end : length ids ≤ i → Lists (record { words = words; bound = bound }) ids
+    pub filled-end : length ids ≤ i → IdsOf (record { words = words; bound = bound }) ids
     filled-end past =
         let none : drop i ids ≡ [] = drop-of-length-le ids past in
         record {

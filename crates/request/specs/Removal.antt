@@ -12,8 +12,7 @@ use Rattle.model.specs.Network.{Network, total}
 use Rattle.model.specs.LiveWords.{isLive, living, written, raised}
 use Rattle.model.specs.Request.{Change, removes}
 use Rattle.layout.specs.Starts.{tupleStart}
-use Rattle.layout.specs.Setting as layout
-use Rattle.layout.specs.Setting.{networkIn}
+use Rattle.layout.specs.Setting.{Lists, networkIn}
 use Rattle.combination.specs.Proper.{below}
 use Rattle.request.specs.declared.removal.Ids.{Ids}
 
@@ -39,14 +38,14 @@ unfoldable pub above : ℕ → ℕ → ℕ
 above bound g = cond (ltb bound (g + 1)) (g + 1) bound
 
 -- The ids of a list, as words and by the least number above all.
-pub record Lists (r : Ids) (ids : List ℕ) : Type 0 where
+pub record IdsOf (r : Ids) (ids : List ℕ) : Type 0 where
   pub held : Holds (r .words) (λ (g : ℕ). elem g ids)
   pub highest : (n : ℕ) → leb (r .bound) n ≡ below n ids
 
 -- They are those of some list.
 pub record Gathered (r : Ids) : Type 0 where
   pub ids : List ℕ
-  pub lists : Lists r ids
+  pub lists : IdsOf r ids
 
 -- id g is a tuple of the network's that the change removes
 abbrev pub removedBy : Network → Change → ℕ → Bool
@@ -57,7 +56,7 @@ abbrev pub between : ℕ → ℕ → ℕ → Bool
 between start end g = leb start g && ltb g end
 
 -- .. a tuple of relation r
-abbrev pub removedIn : layout.Lists → ℕ → Change → ℕ → Bool
+abbrev pub removedIn : Lists → ℕ → Change → ℕ → Bool
 removedIn L r change g = between (tupleStart (L .starts) r) (tupleStart (L .starts) (r + 1)) g && removes (networkIn L) change g
 
 -- The words vs are ws with the ids that pass besides.

@@ -7,7 +7,7 @@ ghost use Rattle.model.specs.LiveWords.{isLive};
 ghost use Rattle.model.specs.Request.{choose};
 ghost use Rattle.layout.specs.Loan.{entry, exit};
 ghost use Rattle.layout.specs.Setting.{lists, networkIn, SoundLists};
-ghost use Rattle.request.specs.Removal.{added, above, Lists, Full, Holds, removedBy, removedIn, Added, Room, withoutIds};
+ghost use Rattle.request.specs.Removal.{added, above, IdsOf, Full, Holds, removedBy, removedIn, Added, Room, withoutIds};
 use layout::Starts;
 use layout::column_of;
 use layout::fit;
@@ -44,7 +44,7 @@ pub fn add(words: &mut [u64], bound: usize, g: u16) -> usize
 
 // The ids of a list.
 pub fn listed(ids: &[u16]) -> Ids
-    ensures { λ r. ⌜ Lists r (entry ids) ⌝ }
+    ensures { λ r. ⌜ IdsOf r (entry ids) ⌝ }
 {
     let mut words = [0u64; WORDS];
     let mut bound = 0;

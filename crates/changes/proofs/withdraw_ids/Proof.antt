@@ -16,7 +16,7 @@ use Rattle.layout.specs.Shape.{networkOf}
 use Rattle.layout.specs.Setting.{Setting, network}
 use Rattle.layout.proofs.SoundStarts.{tuple-count}
 use Rattle.request.specs.Checks.{idsRefusal}
-use Rattle.request.specs.Removal.{Lists, Full, Holds}
+use Rattle.request.specs.Removal.{IdsOf, Full, Holds}
 use Rattle.request.proofs.Openings.{asked, ids-refusal, ids-held}
 use Rattle.changes.proofs.Changed.{refused-shared, refused-own, total-is, ready-sound, ready-change, ready-reply}
 use Rattle.changes.proofs.withdraw_ids.Statement.{statement}
@@ -34,7 +34,7 @@ none : (c : tie.After-ids-fault) → checked c .checked .result .fault ≡ 0
 none c = c .before .before .before .before .if1 .left
 
 -- with a list whose ids these are
-module _ (c : tie.After-ids-fault) (ids : List ℕ) (lists : Lists (start (checked c) .args .ids) ids) where
+module _ (c : tie.After-ids-fault) (ids : List ℕ) (lists : IdsOf (start (checked c) .args .ids) ids) where
   abbrev given : Setting
   given = let a = start (checked c) .args in asked (a .shape) (a .variables .now) (a .values .now) (a .m) (a .members .now) (length (a .words .now)) (checked c .checked .result) (none c)
 
