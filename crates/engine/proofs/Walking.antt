@@ -1,5 +1,5 @@
 -- Laws of a visit's walk from live tuple to live tuple of the pair's member: where it begins, how it goes on, and where it ends.
--- From the laws of a visit under way, of the tables, and of the next live id.
+-- From the laws of a visit under way, of a pair's row, and of the next live id.
 use mathlib.Core.Path.{_≡_, _∙_, ap, subst}
 use mathlib.Core.Bool.{Bool, true, false}
 use mathlib.Core.List.{List}

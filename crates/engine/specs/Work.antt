@@ -50,8 +50,7 @@ pub record Prepared (G : Setting) (index begins : List ℕ) : Type 0 where
 abbrev pub Supported : Setting → TupleSet → Combination → ℕ → Type 0
 Supported G S c g = (t : List ℕ) × List·Memᴰ t (candidates (network G) c) × (isSupport (network G) S g t ≡ true)
 
--- The numbers held for tuple g are a bound from below: 65,535 each, or the indices of a candidate with g, every two of which
--- agree, and no support of g is earlier.
+-- The numbers are the indices of a candidate with tuple g, every two of which agree, and no support of g is earlier.
 pub record Candidate (G : Setting) (S : TupleSet) (c : Combination) (g : ℕ) (numbers : List ℕ) : Type 0 where
   pub tuples : List ℕ
   pub candidate : List·Memᴰ tuples (candidates (network G) c)
@@ -60,6 +59,7 @@ pub record Candidate (G : Setting) (S : TupleSet) (c : Combination) (g : ℕ) (n
   pub indices : numbers ≡ map (indexOf (network G)) tuples
   pub lowest : (u : List ℕ) → List·Memᴰ u (candidates (network G) c) → isSupport (network G) S g u ≡ true → earlier (map (indexOf (network G)) u) numbers ≡ false
 
+-- the numbers held for tuple g are a bound from below: none yet, 65,535 each, or those of such a candidate
 abbrev pub Bound : Setting → TupleSet → Combination → ℕ → List ℕ → Type 0
 Bound G S c g numbers = (numbers ≡ replicate (G .m) noSupport) ⊎ Candidate G S c g numbers
 
@@ -88,7 +88,7 @@ pub record Shrunk (G : Setting) (words after : List ℕ) : Type 0 where
 
 -- ---- One tuple
 
--- A live tuple, with index x in pair p's member, whose numbers begin at `at`.
+-- A live tuple, with index x in pair p's member.
 pub record Seeker (G : Setting) (words numbers : List ℕ) (p x : ℕ) : Type 0 where
   pub sound : Sound G
   pub working : Working G words numbers
@@ -96,13 +96,13 @@ pub record Seeker (G : Setting) (words numbers : List ℕ) (p x : ℕ) : Type 0 
   pub index : x < sizeOf G p
   pub lives : has (liveIn G words) (tupleId G p x) ≡ true
 
--- What its renewal asks.
+-- What its renewal asks: the value index, and where its numbers begin.
 pub record RenewAt (G : Setting) (index words numbers : List ℕ) (p x at : ℕ) : Type 0 where
   pub seeker : Seeker G words numbers p x
   pub indexed : Indexed (network G) index
   pub place : at ≡ placeOf G p x
 
--- The tuple with id g has its first support in the list, or has none and is dead; nothing else changes.
+-- Tuple x of pair p's member has its first support in the list, or has none and is dead; nothing else changes.
 pub record Renewed (G : Setting) (p x : ℕ) (words numbers : List ℕ) (found : Bool) (words′ numbers′ : List ℕ) : Type 0 where
   pub kept : found ≡ true → (words′ ≡ words) × (numbers′ ≡ take (placeOf G p x) numbers ++ firstSupport (network G) (liveIn G words) (combinationOf G p) (tupleId G p x) ++ drop (placeOf G p x + G .m) numbers) × Supported G (liveIn G words) (combinationOf G p) (tupleId G p x)
   pub removed : found ≡ false → (words′ ≡ cleared (tupleId G p x) words) × (numbers′ ≡ numbers) × (Supported G (liveIn G words) (combinationOf G p) (tupleId G p x) → ⊥)

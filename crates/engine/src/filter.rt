@@ -19,7 +19,7 @@ use worklist::list::fill;
 use worklist::list::pair_starts;
 use worklist::queue::Queue;
 
-// What is prepared once for a network and its combinations, whatever lives: the value index, in the noughts lent, and where each
+// What is prepared once for a network and its combinations, whatever lives: the value index, written over noughts, and where each
 // pair's numbers begin.
 pub fn prepare(
     variables: &[u16],

@@ -1,4 +1,4 @@
--- A network and its combinations as lent, and the facts that every function below the checks rests on.
+-- A network and its combinations as a call is given them, and the facts that every function below the checks rests on.
 use mathlib.Core.Path.{_≡_}
 use mathlib.Core.Bool.{true}
 use mathlib.Core.Option.{none}
@@ -52,6 +52,7 @@ network G = networkIn (G .lists)
 abbrev pub instanceIn : Setting → Instance
 instanceIn G = record { network = network G; m = G .m; members = G .members }
 
+-- its combinations
 abbrev pub listed : Setting → List Combination
 listed G = combinations (G .m) (G .members)
 

@@ -33,7 +33,7 @@ Holds ws p = (g : ℕ) → g < maxTuples → isLive ws g ≡ p g
 unfoldable pub added : ℕ → List ℕ → List ℕ
 added g ws = cond (ltb g maxTuples) (raised g ws) ws
 
--- the least number above id g and what is below bound
+-- the least number that is above id g and not below the bound
 unfoldable pub above : ℕ → ℕ → ℕ
 above bound g = cond (ltb bound (g + 1)) (g + 1) bound
 
@@ -55,7 +55,7 @@ removedBy N change g = ltb g (total N) && removes N change g
 abbrev pub between : ℕ → ℕ → ℕ → Bool
 between start end g = leb start g && ltb g end
 
--- .. a tuple of relation r
+-- id g is a tuple of relation r that the change removes
 abbrev pub removedIn : Lists → ℕ → Change → ℕ → Bool
 removedIn L r change g = between (tupleStart (L .starts) r) (tupleStart (L .starts) (r + 1)) g && removes (networkIn L) change g
 
