@@ -1,19 +1,14 @@
 // The calls from C: numbers and lists of bytes. include/wakhvosi.h says what each byte means.
-ghost use mathlib.Core.Path.{_≡_};
+ghost use Rattle.model.specs.Request.{filter, withdraw, choose};
 ghost use Rattle.layout.specs.Loan.{entry};
-ghost use Rattle.capi.specs.Call.{byteLists, left, filterCall, withdrawCall, chooseCall, testCall, compareCall};
-use change::Call;
-use change::change_call;
+ghost use Rattle.encoding.specs.Call.{byteBook, byteRequest, left, KeepsBytes, TestedBytes, ComparedBytes};
+use byte_calls::NOT_WHOLE;
+use byte_calls::change::Call;
+use byte_calls::change::change_call;
+use byte_calls::reading::compare_bytes;
+use byte_calls::reading::test_bytes;
 use encoding::lengths::instance_whole;
 use encoding::lengths::network_whole;
-use reading::compare_bytes;
-use reading::test_bytes;
-
-pub mod change; // filter, withdraw and choose
-pub mod reading; // test and compare
-
-// The answer where a list is not a whole number of entries: refused, number 1.
-const NOT_WHOLE: u64 = 258;
 
 // Filters what lives.
 #[no_mangle]
@@ -26,7 +21,7 @@ pub extern "C" fn wakhvosi_filter(
     marks: &mut [u8],
     supports: &mut [u8],
 ) -> u64
-    ensures { λ n. ⌜ left n marks supports ≡ filterCall (byteLists entry sheets questions codes m combinations marks supports) ⌝ }
+    ensures { λ n. ⌜ KeepsBytes (byteRequest (byteBook entry sheets questions codes m combinations) (entry marks) (entry supports) filter) (left n marks supports) ⌝ }
 {
     change_call(
         Call::Filter,
@@ -53,8 +48,11 @@ pub extern "C" fn wakhvosi_withdraw(
     supports: &mut [u8],
     ids: &[u8],
 ) -> u64
-    ensures { λ n. ⌜ left n marks supports ≡ withdrawCall (byteLists entry sheets questions codes m combinations marks supports) (entry ids) ⌝ }
+    ensures { λ n. ⌜ KeepsBytes (byteRequest (byteBook entry sheets questions codes m combinations) (entry marks) (entry supports) (withdraw (entry ids))) (left n marks supports) ⌝ }
 {
+    if ids.len() % 2 != 0 {
+        return NOT_WHOLE;
+    }
     change_call(
         Call::Withdraw,
         sheets,
@@ -81,7 +79,7 @@ pub extern "C" fn wakhvosi_choose(
     question: u16,
     code: u16,
 ) -> u64
-    ensures { λ n. ⌜ left n marks supports ≡ chooseCall (byteLists entry sheets questions codes m combinations marks supports) question code ⌝ }
+    ensures { λ n. ⌜ KeepsBytes (byteRequest (byteBook entry sheets questions codes m combinations) (entry marks) (entry supports) (choose question code)) (left n marks supports) ⌝ }
 {
     change_call(
         Call::Choose(question, code),
@@ -106,7 +104,7 @@ pub extern "C" fn wakhvosi_test(
     combinations: &[u8],
     marks: &[u8],
 ) -> u64
-    ensures { λ n. ⌜ n ≡ testCall (entry sheets) (entry questions) (entry codes) m (entry combinations) (entry marks) ⌝ }
+    ensures { λ n. ⌜ TestedBytes (byteBook entry sheets questions codes m combinations) (entry marks) n ⌝ }
 {
     if !instance_whole(
         sheets.len(),
@@ -131,7 +129,7 @@ pub extern "C" fn wakhvosi_compare(
     a: u16,
     b: u16,
 ) -> u64
-    ensures { λ n. ⌜ n ≡ compareCall (entry sheets) (entry questions) (entry codes) a b ⌝ }
+    ensures { λ n. ⌜ ComparedBytes (entry sheets) (entry questions) (entry codes) a b n ⌝ }
 {
     if !network_whole(sheets.len(), questions.len(), codes.len()) {
         return NOT_WHOLE;

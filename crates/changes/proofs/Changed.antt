@@ -3,11 +3,10 @@
 use mathlib.Core.Path.{_≡_, sym, _∙_, ap, ap₂, subst}
 use mathlib.Core.Bool.{Bool, _&&_}
 use mathlib.Core.List.{List, _++_}
-use Prim.Native.Nat.{ℕ, _-_, _*_, _≤_, _<_}
+use Prim.Native.Nat.{ℕ, _-_, _*_, _^_, _≤_, _<_}
 use native.Mathlib.Omega.{arith}
 use borrow.Author.Tests.{lt-ltb}
-use lib.Dec.{ltb}
-use lib.ListN.{length, drop}
+use lib.ListN.{length, getD, take, drop, length-append, length-drop}
 use Rattle.model.specs.declared.Counts.{Counts}
 use Rattle.model.specs.declared.Answer.{Answer}
 use Rattle.model.specs.Limits.{wordBits}
@@ -16,24 +15,23 @@ use Rattle.model.specs.Network.{Network, total}
 use Rattle.model.specs.Combination.{Combination}
 use Rattle.model.specs.Consistency.{filtered, supportList, needed}
 use Rattle.model.specs.LiveWords.{isLive, livingFrom, living, written}
-use Rattle.model.specs.Request.{Change, filter, Instance, combinationsOf, Request, removes}
-use Rattle.model.specs.Fault.{firstFault, refusal, changeFaults, faultsOn}
+use Rattle.model.specs.Request.{Change, Instance, combinationsOf, Request, removes}
+use Rattle.model.specs.Fault.{firstFault, refusal, faultsOn}
 use Rattle.model.specs.Reply.{answerNumbers, answerFor, remainder, leaving, accepted, reply, refused, request, replied}
+use Rattle.model.specs.Edges.{restored}
 use Rattle.model.proofs.TupleSet.{without-count, without-length, without-cong, has-below}
-use Rattle.model.proofs.Consistency.{filtered-length, filtered-count}
-use Rattle.model.proofs.LiveWords.{living-length, written-length, living-written, written-written}
-use Rattle.model.proofs.Reply.{reply-shared, reply-own, accepts-neither, reply-accepted, countsFor-differences}
-use Rattle.layout.specs.declared.Shape.{Shape}
-use Rattle.layout.specs.Shape.{relationsOf, instanceOf}
+use Rattle.model.proofs.Consistency.{filtered-length, filtered-count, supportList-length}
+use Rattle.model.proofs.LiveWords.{living-length, written-length, living-written, written-written, living-take}
+use Rattle.model.proofs.Reply.{reply-fault, accepts-none, reply-accepted, countsFor-differences}
+use Rattle.model.proofs.Edges.{leaving-needed}
 use Rattle.layout.specs.Starts.{outline}
-use Rattle.layout.specs.Setting.{Setting, network, listed, instanceIn, Sound}
+use Rattle.layout.specs.Setting.{Setting, network, listed, instanceIn}
 use Rattle.layout.proofs.SoundStarts.{tuples-few}
 use Rattle.layout.proofs.Outline.{answerFor-outline}
-use Rattle.request.specs.declared.checks.Opening.{Opening}
-use Rattle.request.specs.Checks.{Opened, testFaultsOn}
-use Rattle.request.specs.Removal.{Full, Holds, withoutIds}
+use Rattle.request.specs.declared.plan.Plan.{Plan}
+use Rattle.request.specs.Removal.{withoutIds}
 use Rattle.request.specs.Answer.{livingIn, Covered, countsOf}
-use Rattle.request.proofs.Openings.{asked, tested-instance, tested-sound, tested-enough, checked-tested, checked-needed}
+use Rattle.request.specs.Plan.{settingOf, Clear, Planned}
 use Rattle.request.proofs.Removed.{withoutIds-length, withoutIds-living, holds-room}
 use Rattle.engine.specs.Work.{Room, Filtered}
 use Rattle.changes.specs.Change.{changed, Ready}
@@ -142,61 +140,62 @@ module _ (q : Request) (removed : ℕ → Bool) (same : (g : ℕ) → g < total 
       (λ g e. same g (omega (arith, has-below S g e, living-length (total (I .network)) (q .words)))))
       ∙ ap (λ (k : Counts). leaving I (remainder I (q .change) S) k (q .words) (q .supports)) (sym (countsFor-differences I (q .change) S))
 
-  pub changed-reply : 0 ≡ refusal (firstFault (faultsOn I (length (q .words)) (length (q .supports)) filter)) → 0 ≡ refusal (firstFault (changeFaults (I .network) (q .change))) → changed I removed (q .words) (q .supports) ≡ reply q
-  changed-reply shared own = changed-accepted ∙ sym (reply-accepted q (accepts-neither q shared own))
+  pub changed-reply : 0 ≡ refusal (firstFault (faultsOn I (length (q .words)) (length (q .supports)) (q .change))) → changed I removed (q .words) (q .supports) ≡ reply q
+  changed-reply none = changed-accepted ∙ sym (reply-accepted q (accepts-none q none))
 
--- ---- From the checks
+-- ---- From a plan
 
-module _ (S : Shape) (variables values : List ℕ) (m : ℕ) (members words supports : List ℕ) (change : Change) (o : Opening) (opened : Opened o (faultsOn (instanceOf S variables values m members) (length words) (length supports) filter) (relationsOf S)) where
-  abbrev q : Request
-  q = request (instanceOf S variables values m members) words supports change
+module _ (p : Plan) (I : Instance) (words numbers : ℕ) (change : Change) (clear : Clear p I words numbers change) where
+  abbrev pub G : Setting
+  G = settingOf (p .starts) I
 
-  abbrev own : ℕ
-  own = refusal (firstFault (changeFaults (q .given .network) change))
+  -- what a change asks, of lists that are long enough
+  pub clear-ready : (ws ss : List ℕ) → total (network G) ≤ wordBits * length ws → needed (network G) (listed G) ≤ length ss → Ready G ws ss (p .removed)
+  clear-ready ws ss enough room =
+      let sound = clear .sufficient .sound in
+      record {
+        sound = sound;
+        space = record { enough = enough; short = clear .sufficient .short; room = room };
+        removal = holds-room (total (network G)) (tuples-few (sound .laid .framed)) (removes (network G) change) (p .removed) (clear .holds) ws enough (clear .full);
+      }
 
-  -- one of the faults 2 to 12
-  pub refused-shared : (o .fault ≡ 0 → ⊥) → refused (o .fault) q ≡ reply q
-  refused-shared fault = sym (reply-shared q (o .fault) (opened .fault) fault)
+module _ (p : Plan) (I : Instance) (words supports : List ℕ) (change : Change) (planned : Planned p I (length words) (length supports) change) where
+  abbrev asked : Request
+  asked = request I words supports change
 
-  module _ (none : o .fault ≡ 0) where
-    shared : 0 ≡ refusal (firstFault (faultsOn (q .given) (length words) (length supports) filter))
-    shared = sym none ∙ opened .fault
+  pub planned-refused : (p .fault ≡ 0 → ⊥) → refused (p .fault) asked ≡ reply asked
+  planned-refused d = sym (reply-fault asked (p .fault) (planned .fault) d)
 
-    -- the change's own fault
-    pub refused-own : (f : ℕ) → f ≡ own → (f ≡ 0 → ⊥) → refused f q ≡ reply q
-    refused-own f e fault = sym (reply-own q shared f e fault)
+  pub planned-reply : (z : p .fault ≡ 0) → changed (instanceIn (settingOf (p .starts) I)) (isLive (p .removed)) words supports ≡ reply asked
+  planned-reply z =
+      let clear = planned .clear z in
+      let G = settingOf (p .starts) I in
+      subst (λ (J : Instance). ((g : ℕ) → g < total (J .network) → isLive (p .removed) g ≡ removes (J .network) change g) → changed J (isLive (p .removed)) words supports ≡ reply asked) (sym (clear .sufficient .same))
+      (λ same. changed-reply asked (isLive (p .removed)) same (sym z ∙ planned .fault))
+      (λ g h.
+      clear .holds g (omega (arith, tuples-few (clear .sufficient .sound .laid .framed)))
+      ∙ ap (λ (b : Bool). b && removes (network G) change g) (lt-ltb g (total (network G)) h))
 
-    abbrev pub G : Setting
-    G = asked S variables values m members (length words) o none
+-- ---- On the needed words, and on as many numbers as are needed, whatever they are
 
-    tested : Opened o (testFaultsOn (instanceOf S variables values m members) (length words)) (relationsOf S)
-    tested = checked-tested S variables values m members (length words) o none (length supports) opened
+pub changed-needed : (I : Instance) (removed : ℕ → Bool) (k : ℕ) (words supports numbers : List ℕ) → ((i : ℕ) → i < length words → getD words i 0 < 2 ^ 64) → total (I .network) ≤ wordBits * k → length numbers ≡ needed (I .network) (combinationsOf I) → changed I removed words supports ≡ restored (drop k words) (drop (needed (I .network) (combinationsOf I)) supports) (changed I removed (take k words) numbers)
+unfolding changed
+changed-needed I removed k words supports numbers small enough long =
+    let rest : TupleSet → TupleSet = λ S. without removed S in
+    let left : TupleSet → TupleSet = λ S. filtered (I .network) (combinationsOf I) (rest S) in
+    let counts : TupleSet → Counts = λ S. record { left = count (left S); withdrawn = count S - count (rest S); deleted = count (rest S) - count (left S) } in
+    let S = living (total (I .network)) words in
+    leaving-needed I (left S) (counts S) k words supports numbers small enough long
+    ∙ ap (λ (T : TupleSet). restored (drop k words) (drop (needed (I .network) (combinationsOf I)) supports) (leaving I (left T) (counts T) (take k words) numbers))
+    (sym (living-take (total (I .network)) k words enough))
 
-    instance-is : instanceIn G ≡ q .given
-    instance-is = tested-instance S variables values m members (length words) o none tested
+-- ---- What it leaves is as long as what it was lent
 
-    pub total-is : total (network G) ≡ total (q .given .network)
-    total-is = ap (λ (J : Instance). total (J .network)) instance-is
-
-    pub ready-sound : Sound G
-    ready-sound = tested-sound S variables values m members (length words) o none tested
-
-    -- with words that hold what it removes
-    module _ (removed : List ℕ) (full : Full removed) (holds : Holds removed (λ (g : ℕ). ltb g (total (network G)) && removes (network G) change g)) where
-      pub ready-change : Ready G words supports removed
-      ready-change =
-          let enough = tested-enough S variables values m members (length words) o none tested in
-          let needs = checked-needed S variables values m members (length words) o none (length supports) opened in
-          record {
-            sound = ready-sound;
-            space = record { enough = enough; short = needs .0; room = needs .1 };
-            removal = holds-room (total (network G)) (tuples-few (ready-sound .laid .framed)) (removes (network G) change) removed holds words enough full;
-          }
-
-      pub ready-reply : (f : ℕ) → f ≡ own → f ≡ 0 → changed (instanceIn G) (isLive removed) words supports ≡ reply q
-      ready-reply f e z =
-          subst (λ (J : Instance). ((g : ℕ) → g < total (J .network) → isLive removed g ≡ removes (J .network) change g) → changed J (isLive removed) words supports ≡ reply q) (sym instance-is)
-          (λ same. changed-reply q (isLive removed) same shared (sym z ∙ e))
-          (λ g h.
-          holds g (omega (arith, tuples-few (ready-sound .laid .framed)))
-          ∙ ap (λ (b : Bool). b && removes (network G) change g) (lt-ltb g (total (network G)) h))
+pub changed-lengths : (I : Instance) (removed : ℕ → Bool) (words supports : List ℕ) → needed (I .network) (combinationsOf I) ≤ length supports → (length (changed I removed words supports .words) ≡ length words) × (length (changed I removed words supports .supports) ≡ length supports)
+unfolding changed leaving
+changed-lengths I removed words supports room =
+    let L = filtered (I .network) (combinationsOf I) (without removed (living (total (I .network)) words)) in
+    let n = needed (I .network) (combinationsOf I) in
+    let xs = supportList (I .network) (combinationsOf I) L in
+    let all : length (xs ++ drop n supports) ≡ length supports = omega (arith, length-append xs (drop n supports), supportList-length (I .network) (combinationsOf I) L, length-drop n supports) in
+    (written-length (total (I .network)) L words, all)

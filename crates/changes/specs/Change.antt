@@ -3,18 +3,22 @@ use mathlib.Core.Path.{_≡_}
 use mathlib.Core.Bool.{Bool}
 use mathlib.Core.List.{List}
 use Prim.Native.Nat.{ℕ, _-_}
+use lib.ListN.{length}
 use Rattle.model.specs.declared.Answer.{Answer}
 use Rattle.model.specs.TupleSet.{count, without}
 use Rattle.model.specs.Network.{total}
 use Rattle.model.specs.Consistency.{filtered}
 use Rattle.model.specs.LiveWords.{isLive, living}
-use Rattle.model.specs.Request.{Change, withdraw, Instance, combinationsOf}
-use Rattle.model.specs.Reply.{Reply, leaving, reply, request, replied}
+use Rattle.model.specs.Request.{Change, Instance, combinationsOf}
+use Rattle.model.specs.Reply.{Reply, leaving, request, replied, Keeps}
+use Rattle.layout.specs.declared.Shape.{Shape}
 use Rattle.layout.specs.Loan.{Loan, entry, exit}
+use Rattle.layout.specs.Shape.{instanceOf}
 use Rattle.layout.specs.Setting.{Setting, network, instanceIn, Sound}
 use Rattle.engine.specs.Work as engine
-use Rattle.request.specs.declared.removal.Ids.{Ids}
+use Rattle.request.specs.declared.plan.Plan.{Plan}
 use Rattle.request.specs.Removal as request′
+use Rattle.request.specs.Plan.{Planned}
 
 -- what is left and answered once the live ids that pass are removed and the rest is filtered
 unfoldable pub changed : Instance → (ℕ → Bool) → List ℕ → List ℕ → Reply
@@ -34,10 +38,18 @@ abbrev pub Changes : Answer → Setting → Loan → Loan → List ℕ → Type 
 Changes a G words supports removed =
     replied a (exit words) (exit supports) ≡ changed (instanceIn G) (isLive removed) (entry words) (entry supports)
 
--- the answer and what is left are the model's reply to the change
+-- A change call keeps its contract.
 abbrev pub Replies : Answer → Instance → Loan → Loan → Change → Type 0
-Replies a I words supports change = replied a (exit words) (exit supports) ≡ reply (request I (entry words) (entry supports) change)
+Replies a I words supports change = Keeps (request I (entry words) (entry supports) change) (replied a (exit words) (exit supports))
 
--- .. to the withdrawal of every list whose ids these are
-abbrev pub RepliesIds : Answer → Instance → Loan → Loan → Ids → Type 0
-RepliesIds a I words supports r = (ids : List ℕ) → request′.IdsOf r ids → Replies a I words supports (withdraw ids)
+-- The plan is one for these lists.
+pub record Plans (p : Plan) (variables values : List ℕ) (m : ℕ) (members words supports : List ℕ) : Type 0 where
+  pub shape : Shape
+  pub change : Change
+  pub planned : Planned p (instanceOf shape variables values m members) (length words) (length supports) change
+
+-- .. and for every change that it is one for, the call keeps its contract
+abbrev pub RepliesPlanned : Answer → Plan → List ℕ → List ℕ → ℕ → List ℕ → Loan → Loan → Type 0
+RepliesPlanned a p variables values m members words supports =
+    (S : Shape) (change : Change) → (let I = instanceOf S variables values m members in
+    Planned p I (length (entry words)) (length (entry supports)) change → Replies a I words supports change)

@@ -1,26 +1,24 @@
-// The change calls: filter, withdraw and choose. Each fills the set of ids that it removes; `change` does the rest for all of them.
+// The change calls: filter, withdraw and choose. Each is planned, which finds its first fault or the ids that it removes; `change`
+// does the rest for all of them.
 ghost use Rattle.model.specs.Request.{filter, withdraw, choose};
 ghost use Rattle.layout.specs.Loan.{entry};
 ghost use Rattle.layout.specs.Shape.{instanceOf};
 ghost use Rattle.layout.specs.Setting.{setting};
-ghost use Rattle.request.specs.Removal.{Gathered};
-ghost use Rattle.changes.specs.Change.{Ready, Changes, Replies, RepliesIds};
+ghost use Rattle.changes.specs.Change.{Ready, Changes, Replies, Plans, RepliesPlanned};
 use layout::Shape;
 use layout::Starts;
 use layout::tuple_count;
-use live::WORDS;
 use live::Words;
 use live::count;
 use model::Answer;
 use model::Value;
 use request::answer::answer_for;
-use request::checks::checked;
-use request::checks::ids_fault;
-use request::checks::variable_fault;
-use request::removal::Ids;
+use request::plan::Plan;
+use request::plan::plan_choose;
+use request::plan::plan_filter;
+use request::plan::plan_withdraw;
 use request::removal::listed;
 use request::removal::remove;
-use request::removal::unlike;
 
 // Takes the ids removed from what lives, filters the rest, and answers.
 pub fn change(
@@ -44,33 +42,25 @@ pub fn change(
     answer_for(starts, words, before, kept)
 }
 
-// Filters what lives.
-pub fn filter(
-    shape: Shape,
+// Makes the change that is planned, or refuses it.
+fn make(
     variables: &[u16],
     values: &[Value],
     m: u16,
     members: &[u16],
     words: &mut [u64],
     supports: &mut [u16],
+    plan: Plan,
 ) -> Answer
-    ensures { λ a. ⌜ Replies a (instanceOf shape (entry variables) (entry values) m (entry members)) words supports filter ⌝ }
+    requires { ⌜ Plans plan (now variables) (now values) m (now members) (now words) (now supports) ⌝ }
+    ensures { λ a. ⌜ RepliesPlanned a plan (entry variables) (entry values) m (entry members) words supports ⌝ }
 {
-    let opening = checked(
-        shape,
-        variables,
-        values,
-        m,
-        members,
-        words.len(),
-        supports.len(),
-    );
-    let fault = opening.fault;
+    let fault = plan.fault;
     if fault != 0 {
         return Answer::Refused(fault);
     }
-    let starts = opening.starts;
-    let removed = [0u64; WORDS];
+    let starts = plan.starts;
+    let removed = plan.removed;
     change(
         variables,
         values,
@@ -83,8 +73,8 @@ pub fn filter(
     )
 }
 
-// Withdraws the tuples whose ids are gathered, live or dead, and filters what then lives.
-pub fn withdraw_ids(
+// Filters what lives.
+pub fn filter(
     shape: Shape,
     variables: &[u16],
     values: &[Value],
@@ -92,12 +82,10 @@ pub fn withdraw_ids(
     members: &[u16],
     words: &mut [u64],
     supports: &mut [u16],
-    ids: Ids,
 ) -> Answer
-    requires { ⌜ Gathered ids ⌝ }
-    ensures { λ a. ⌜ RepliesIds a (instanceOf shape (entry variables) (entry values) m (entry members)) words supports ids ⌝ }
+    ensures { λ a. ⌜ Replies a (instanceOf shape (entry variables) (entry values) m (entry members)) words supports filter ⌝ }
 {
-    let opening = checked(
+    let plan = plan_filter(
         shape,
         variables,
         values,
@@ -106,26 +94,7 @@ pub fn withdraw_ids(
         words.len(),
         supports.len(),
     );
-    let fault = opening.fault;
-    if fault != 0 {
-        return Answer::Refused(fault);
-    }
-    let starts = opening.starts;
-    let of_ids = ids_fault(tuple_count(&starts), ids.bound);
-    if of_ids != 0 {
-        return Answer::Refused(of_ids);
-    }
-    let removed = ids.words;
-    change(
-        variables,
-        values,
-        &starts,
-        members,
-        m,
-        words,
-        supports,
-        &removed,
-    )
+    make(variables, values, m, members, words, supports, plan)
 }
 
 // Withdraws the tuples listed, live or dead, and filters what then lives.
@@ -141,16 +110,17 @@ pub fn withdraw(
 ) -> Answer
     ensures { λ a. ⌜ Replies a (instanceOf shape (entry variables) (entry values) m (entry members)) words supports (withdraw (entry ids)) ⌝ }
 {
-    withdraw_ids(
+    let plan = plan_withdraw(
         shape,
         variables,
         values,
         m,
         members,
-        words,
-        supports,
+        words.len(),
+        supports.len(),
         listed(ids),
-    )
+    );
+    make(variables, values, m, members, words, supports, plan)
 }
 
 // Withdraws every tuple that has another value than v under variable x, and filters what then lives.
@@ -167,7 +137,7 @@ pub fn choose(
 ) -> Answer
     ensures { λ a. ⌜ Replies a (instanceOf shape (entry variables) (entry values) m (entry members)) words supports (choose x v) ⌝ }
 {
-    let opening = checked(
+    let plan = plan_choose(
         shape,
         variables,
         values,
@@ -175,25 +145,8 @@ pub fn choose(
         members,
         words.len(),
         supports.len(),
+        x,
+        v,
     );
-    let fault = opening.fault;
-    if fault != 0 {
-        return Answer::Refused(fault);
-    }
-    let of_variable = variable_fault(x);
-    if of_variable != 0 {
-        return Answer::Refused(of_variable);
-    }
-    let starts = opening.starts;
-    let removed = unlike(variables, values, &starts, x, v);
-    change(
-        variables,
-        values,
-        &starts,
-        members,
-        m,
-        words,
-        supports,
-        &removed,
-    )
+    make(variables, values, m, members, words, supports, plan)
 }

@@ -20,13 +20,13 @@ use layout::relation_count;
 use layout::tuple_start;
 use layout::variable_start;
 use layout::wide;
+use live::words_for;
 use model::MAX_COMBINATIONS;
 use model::MAX_MEMBERS;
 use model::MAX_RELATIONS;
 use model::MAX_SUPPORT_NUMBERS;
 use model::MIN_MEMBERS;
 use model::Value;
-use model::WORD_BITS;
 use model::refusal;
 
 // Of each relation a set of variables.
@@ -235,7 +235,7 @@ pub fn needed(starts: &Starts, members: &[u16], m: u16) -> usize
 pub fn words_fault(tuples: u16, words: usize) -> u8
     ensures { λ f. ⌜ f ≡ wordsRefusal tuples words ⌝ }
 {
-    if words < (wide(tuples) + WORD_BITS - 1) / WORD_BITS {
+    if words < words_for(tuples) {
         return refusal::WORDS;
     }
     0

@@ -1,2 +1,3 @@
 -- The laws of the crate's definitions.
 pub mod Pairs
+pub mod Tested

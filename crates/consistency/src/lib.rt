@@ -1,6 +1,6 @@
 // The call that tests whether the live tuples are consistent.
 ghost use mathlib.Core.Path.{_≡_};
-ghost use Rattle.model.specs.Reply.{verdictNumbers, testReply};
+ghost use Rattle.model.specs.Reply.{verdictNumbers, Tested};
 ghost use Rattle.layout.specs.Loan.{entry};
 ghost use Rattle.layout.specs.Shape.{instanceOf};
 ghost use Rattle.layout.specs.Setting.{setting, Sound};
@@ -9,11 +9,13 @@ ghost use Rattle.support.specs.Search.{searching, Seeking};
 ghost use Rattle.consistency.specs.Consistent.{lowest, hasSupport, PairAt, pairConsistent, allConsistent};
 use layout::Shape;
 use layout::Starts;
+use layout::tuple_count;
 use layout::tuple_start;
 use layout::wide;
 use live::Words;
 use live::copied;
 use live::next;
+use live::words_for;
 use model::MAX_MEMBERS;
 use model::Value;
 use model::Verdict;
@@ -92,23 +94,22 @@ fn pair_supported(
 }
 
 // Whether the live tuples are consistent, of a network and combinations without fault.
-fn all_supported(
+pub fn all_supported(
     variables: &[u16],
     values: &[Value],
     starts: &Starts,
     members: &[u16],
     m: usize,
-    words: &[u64],
+    words: &Words,
 ) -> bool
-    requires { ⌜ Sound (setting now variables values starts members m) ⌝ }
+    requires { ⌜ Long (now words) × Sound (setting now variables values starts members m) ⌝ }
     ensures { λ b. ⌜ b ≡ allConsistent (setting entry variables values starts members m) (entry words) ⌝ }
 {
     let mut index = [0u64; INDEX];
     index_all(variables, values, starts, &mut index);
-    let live = copied(words);
     let mut p = 0;
     while p < members.len() {
-        if !pair_supported(variables, values, starts, &index, &live, members, m, p) {
+        if !pair_supported(variables, values, starts, &index, words, members, m, p) {
             return false;
         }
         p += 1;
@@ -125,14 +126,15 @@ pub fn test(
     members: &[u16],
     words: &[u64],
 ) -> Verdict
-    ensures { λ v. ⌜ verdictNumbers v ≡ testReply (instanceOf shape (entry variables) (entry values) m (entry members)) (entry words) ⌝ }
+    ensures { λ v. ⌜ Tested (instanceOf shape (entry variables) (entry values) m (entry members)) (entry words) (verdictNumbers v) ⌝ }
 {
     let opening = test_checked(shape, variables, values, m, members, words.len());
     if opening.fault != 0 {
         return Verdict::Refused(opening.fault);
     }
     let starts = opening.starts;
-    if all_supported(variables, values, &starts, members, wide(m), words) {
+    let live = copied(words, words_for(tuple_count(&starts)));
+    if all_supported(variables, values, &starts, members, wide(m), &live) {
         return Verdict::Yes;
     }
     Verdict::No

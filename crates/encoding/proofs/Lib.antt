@@ -2,4 +2,3 @@
 pub mod Records
 pub mod Whole
 pub mod Packed
-pub mod Written

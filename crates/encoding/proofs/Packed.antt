@@ -14,6 +14,12 @@ use lib.Arith.{digits-mod}
 use lib.Dec.{ltb}
 use lib.ListN.{length}
 use Rattle.model.specs.declared.Counts.{Counts}
+use Rattle.model.specs.declared.Verdict.{Verdict}
+use Rattle.model.specs.declared.Verdict.the-variants.{No, Yes}
+use Rattle.model.specs.declared.Verdict.the-variants as verdict
+use Rattle.model.specs.declared.Comparison.{Comparison}
+use Rattle.model.specs.declared.Comparison.the-variants.{Differ, Agree}
+use Rattle.model.specs.declared.Comparison.the-variants as comparison
 use Rattle.model.specs.Limits.{maxRelations}
 use Rattle.model.specs.Lists.{all}
 use Rattle.model.specs.TupleSet.{TupleSet}
@@ -21,13 +27,13 @@ use Rattle.model.specs.Network.{Network, total}
 use Rattle.model.specs.LiveWords.{living}
 use Rattle.model.specs.Request.{Change, filter, withdraw, choose, Request}
 use Rattle.model.specs.Fault.{Fault, firstFault, refusal, changeFaults, faultsOn, faults, isNone, accepts}
-use Rattle.model.specs.Reply.{Numbers, Reply, answerNumbers, lowestEmpty, answerFor, remainder, countsFor, leaving, accepted, replyTo, reply}
+use Rattle.model.specs.Reply.{Numbers, Reply, answerNumbers, verdictNumbers, comparisonNumbers, lowestEmpty, answerFor, remainder, countsFor, leaving, accepted, replyTo, reply}
 use Rattle.model.proofs.Bools.{and-left, and-right}
 use Rattle.model.proofs.TupleSet.{count-length}
 use Rattle.model.proofs.LiveWords.{living-length}
 use Rattle.model.proofs.Fault.{faultless, accepts-network}
 use Rattle.model.proofs.Reply.{answer-emptied, answer-settled, answerFor-kind, leaving-sum}
-use Rattle.encoding.specs.Packed.{packedCounts, packed, unpacked}
+use Rattle.encoding.specs.Packed.{packedCounts, packed, unpacked, packedPair, pairIn}
 
 -- The numbers fit their bits.
 pub record Fits (a : Numbers) : Type 0 where
@@ -57,6 +63,23 @@ unpacked-packed a f =
     let d : p / 281474976710656 % 65536 ≡ a .deleted = low-bits 65536 (p / 281474976710656) (a .deleted) 0 (omega (arith, from-deleted)) (f .deleted) in
     λ i. record { kind = k i; subject = s i; left = l i; withdrawn = w i; deleted = d i }
 
+-- .. and so are those of test's and compare's answers
+pub pair-back : (p : ℕ × ℕ) → p .0 < 256 → pairIn (packedPair p) ≡ p
+pair-back p h =
+    let low : (p .0 + 256 * p .1) % 256 ≡ p .0 = omega arith in
+    let high : (p .0 + 256 * p .1) / 256 ≡ p .1 = omega arith in
+    λ i. (low i, high i)
+
+pub verdict-back : (v : Verdict) → pairIn (packedPair (verdictNumbers v)) ≡ verdictNumbers v
+verdict-back No = refl
+verdict-back Yes = refl
+verdict-back (verdict.Refused f) = pair-back (2, f) (omega arith)
+
+pub comparison-back : (a : Comparison) → pairIn (packedPair (comparisonNumbers a)) ≡ comparisonNumbers a
+comparison-back Differ = refl
+comparison-back Agree = refl
+comparison-back (comparison.Refused f) = pair-back (2, f) (omega arith)
+
 -- ---- The numbers of a reply
 
 refusal-below : (b : ℕ) → 0 < b → (fs : List Fault) → all (λ (f : Fault). ltb (f .0) b) fs ≡ true → refusal (firstFault fs) < b
@@ -75,7 +98,7 @@ change-numbers N (withdraw ids) = refl
 change-numbers N (choose x v) = refl
 
 -- an answer's subject is 64 or a relation's number
-answer-subject : (N : Network) (L : TupleSet) (k : Counts) → length (N .relations) ≤ maxRelations → Dec (lowestEmpty N L < length (N .relations)) → answerNumbers (answerFor N L k) .subject < 256
+pub answer-subject : (N : Network) (L : TupleSet) (k : Counts) → length (N .relations) ≤ maxRelations → Dec (lowestEmpty N L < length (N .relations)) → answerNumbers (answerFor N L k) .subject < 256
 answer-subject N L k few (yes h) = omega (arith, h, few, ap (λ a. answerNumbers a .subject) (answer-emptied N L k h))
 answer-subject N L k few (no d) = omega (arith, ap (λ a. answerNumbers a .subject) (answer-settled N L k (omega arith)))
 

@@ -2,3 +2,4 @@
 pub mod Records
 pub mod Whole
 pub mod Packed
+pub mod Call

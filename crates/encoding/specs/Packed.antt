@@ -1,9 +1,8 @@
 -- What a call from C gives and leaves.
 use mathlib.Core.Bool.{cond}
-use mathlib.Core.List.{List, _++_}
+use mathlib.Core.List.{List}
 use Prim.Native.Nat.{ℕ, _+_, _*_, _/_, _%_}
 use lib.Dec.{eqb}
-use lib.ListN.{length, drop}
 use Rattle.model.specs.Reply.{Numbers, Reply}
 use Rattle.wire.specs.Entries.{bytes}
 
@@ -28,9 +27,17 @@ unpacked n =
       deleted = n / 281474976710656 % 65536;
     }
 
+-- what a packed answer says, with the live words and the support list at the end
+abbrev pub repliedIn : ℕ → List ℕ → List ℕ → Reply
+repliedIn n words supports = record { answer = unpacked n; words = words; supports = supports }
+
 -- of test and compare: bits 0 to 7 the answer, 8 to 15 the refusal number
 abbrev pub packedPair : ℕ × ℕ → ℕ
 packedPair a = a .0 + 256 * a .1
+
+-- both read back
+abbrev pub pairIn : ℕ → ℕ × ℕ
+pairIn n = (n % 256, n / 256)
 
 -- ---- .. and the bytes lent
 
@@ -47,12 +54,6 @@ outcome answer marks supports = record { answer = answer; marks = marks; support
 abbrev pub encoded : Reply → Outcome
 encoded r = outcome (packed (r .answer)) (bytes 8 (r .words)) (bytes 2 (r .supports))
 
--- the entries written as the first bytes of a list
-abbrev pub over : ℕ → List ℕ → List ℕ → List ℕ
-over k xs bs = bytes k xs ++ drop (k * length xs) bs
-
--- a reply to lists decoded from the first of these bytes: unless it is a refusal, its words and numbers are written over them
-unfoldable pub writtenBack : Reply → List ℕ → List ℕ → Outcome
-writtenBack r marks supports =
-    cond (eqb (r .answer .kind) 2) (outcome (packed (r .answer)) marks supports)
-    (outcome (packed (r .answer)) (over 8 (r .words) marks) (over 2 (r .supports) supports))
+-- the bytes that a call leaves: those of its reply, or those lent where it is refused
+unfoldable pub replyBytes : Reply → List ℕ → List ℕ → Outcome
+replyBytes r marks supports = cond (eqb (r .answer .kind) 2) (outcome (packed (r .answer)) marks supports) (encoded r)

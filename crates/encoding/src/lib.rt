@@ -1,6 +1,5 @@
-// The parts of the calls from C: what they read from bytes where it lies, and what they give and write back.
+// The parts of the calls from C: what they read from bytes where it lies, and what they give.
 pub mod lengths; // whole numbers of entries
 pub mod sheets; // relation records as bytes
 pub mod ids; // ids as bytes
 pub mod packing; // answers as one number
-pub mod writing; // live words and support numbers back as bytes

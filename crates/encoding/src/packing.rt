@@ -26,17 +26,6 @@ fn pack_numbers(kind: u64, subject: u64, k: Counts) -> u64
     kind + 256 * (subject + 256 * pack_counts(k))
 }
 
-// The kind of an answer: 0 settled, 1 emptied, 2 refused.
-pub fn kind_of(a: Answer) -> u64
-    ensures { λ n. ⌜ n ≡ answerNumbers a .kind ⌝ }
-{
-    match a {
-        Answer::Settled(_) => 0,
-        Answer::Emptied(_, _) => 1,
-        Answer::Refused(_) => 2,
-    }
-}
-
 // The answer of a change call.
 pub fn pack(a: Answer) -> u64
     requires { ⌜ answerNumbers a .subject < 256 ⌝ }

@@ -17,7 +17,8 @@ use Rattle.model.specs.LiveWords.{isLive, living, nextLive, cleared}
 use Rattle.model.proofs.LiveWords.{nextLive-first, written-length, written-below, cleared-count, living-count}
 use Rattle.worklist.proofs.Waiting.{Words, take-waits}
 use Rattle.layout.specs.Setting.{Setting, network, listed, Sound, liveIn}
-use Rattle.engine.specs.Work.{WordArray, Working, Rest, Shrunk, Visited}
+use Rattle.live.specs.Words.{WordArray}
+use Rattle.engine.specs.Work.{Working, Rest, Shrunk, Visited}
 use Rattle.engine.proofs.Steps.{shrunk-trans}
 
 -- What holds whenever a pair is taken, of the queue, the words and the numbers; words₀ and numbers₀ are those of the start.

@@ -3,8 +3,8 @@ use mathlib.Core.Path.{_≡_}
 use mathlib.Core.Bool.{Bool, true, false}
 use mathlib.Core.Logic.{_⊎_}
 use mathlib.Core.List.{List, _++_, map, List·Memᴰ}
-use Prim.Native.Nat.{ℕ, _+_, _*_, _^_, _≤_, _<_}
-use lib.ListN.{length, getD, take, drop, replicate}
+use Prim.Native.Nat.{ℕ, _+_, _*_, _≤_, _<_}
+use lib.ListN.{length, take, drop, replicate}
 use Rattle.model.specs.Limits.{wordBits, noSupport, maxSupportNumbers}
 use Rattle.model.specs.Lists.{pairwise, earlier}
 use Rattle.model.specs.TupleSet.{TupleSet, has, count}
@@ -14,16 +14,11 @@ use Rattle.model.specs.Combination.{Combination}
 use Rattle.model.specs.Support.{candidates, isSupport, firstSupport}
 use Rattle.model.specs.Consistency.{filtered, supportList, needed}
 use Rattle.model.specs.LiveWords.{isLive, cleared, written}
-use Rattle.narrowing.specs.Index.{Indexed, Long}
+use Rattle.narrowing.specs.Index.{Indexed}
 use Rattle.worklist.specs.Supports.{SupportsFit, PairsBegin}
 use Rattle.layout.specs.Loan.{Loan, entry, exit}
 use Rattle.layout.specs.Setting.{Setting, network, listed, liveIn, Sound}
 use Rattle.layout.specs.Pairs.{combinationOf, sizeOf, tupleId, placeOf, held}
-
--- An array of 64 words.
-pub record WordArray (words : List ℕ) : Type 0 where
-  pub long : Long words
-  pub small : (i : ℕ) → i < length words → getD words i 0 < 2 ^ 64
 
 -- Words for every tuple, and numbers for every pair, which are not too many: no fault 11 or 12.
 pub record Room (G : Setting) (words numbers : List ℕ) : Type 0 where

@@ -2,14 +2,17 @@
 ghost use Rattle.layout.specs.Loan.{entry, exit};
 ghost use Rattle.layout.specs.Setting.{setting, Sound};
 ghost use Rattle.narrowing.specs.Index.{Full};
-ghost use Rattle.engine.specs.Work.{WordArray, Room, Prepared, SoundShort, Filters};
+ghost use Rattle.live.specs.Words.{WordArray};
+ghost use Rattle.engine.specs.Work.{Room, Prepared, SoundShort, Filters};
 use super::blank::blank_all;
 use super::visit::visit;
 use layout::Starts;
+use layout::tuple_count;
 use layout::wide;
 use live::Words;
 use live::copied;
 use live::put_back;
+use live::words_for;
 use model::Value;
 use narrowing::INDEX;
 use narrowing::Index;
@@ -94,7 +97,8 @@ pub fn filter(
 {
     let mut index = [0u64; INDEX];
     let begins = prepare(variables, values, starts, members, m, &mut index);
-    let mut live = copied(words);
+    let count = words_for(tuple_count(starts));
+    let mut live = copied(words, count);
     settle(
         variables,
         values,
@@ -106,5 +110,5 @@ pub fn filter(
         &mut live,
         numbers,
     );
-    put_back(&live, words);
+    put_back(&live, words, count);
 }

@@ -2,7 +2,8 @@
 ghost use Rattle.layout.specs.Loan.{entry, exit};
 ghost use Rattle.layout.specs.Setting.{setting};
 ghost use Rattle.narrowing.specs.Index.{Long};
-ghost use Rattle.engine.specs.Work.{WordArray, RenewAt, Renewed, VisitAt, Visited};
+ghost use Rattle.live.specs.Words.{WordArray};
+ghost use Rattle.engine.specs.Work.{RenewAt, Renewed, VisitAt, Visited};
 use layout::Starts;
 use layout::tuple_start;
 use layout::wide;

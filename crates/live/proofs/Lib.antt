@@ -1,2 +1,3 @@
--- The laws of the machine's operations on words.
+-- The laws of the machine's operations on words, and of words copied.
 pub mod Bits
+pub mod Copies

@@ -1,10 +1,11 @@
 // Live words: sixty-four ids to a word, id g at bit g mod 64 of word g / 64, and live where the bit is 1.
 ghost use mathlib.Core.Path.{_≡_};
 ghost use mathlib.Core.List.{_++_};
-ghost use Prim.Native.Nat.{ℕ, _-_, _*_, _/_, _%_, _≤_, _<_};
-ghost use lib.ListN.{length, getD, take, drop};
+ghost use Prim.Native.Nat.{_-_, _*_, _/_, _%_, _≤_, _<_};
+ghost use lib.ListN.{length, take, drop};
 ghost use Rattle.model.specs.TupleSet.{count};
-ghost use Rattle.model.specs.LiveWords.{isLive, livingFrom, nextLive, cleared, raised};
+ghost use Rattle.model.specs.LiveWords.{wordsFor, isLive, livingFrom, nextLive, cleared, raised};
+ghost use Rattle.live.specs.Words.{Copied};
 
 // The words of 4,096 ids.
 pub const WORDS: usize = 64;
@@ -84,21 +85,18 @@ pub fn next(words: &[u64], start: u16, end: u16) -> u16
     end
 }
 
-// n, or 64 where it is more.
-fn capped(n: usize) -> usize
-    ensures { λ r. ⌜ (r ≤ 64) × ((r ≤ n) × (r < 64 → r ≡ n)) ⌝ }
+// How many words the bits of n ids take.
+pub fn words_for(n: u16) -> usize
+    ensures { λ r. ⌜ r ≡ wordsFor n ⌝ }
 {
-    if n < 64 {
-        return n;
-    }
-    64
+    (n as usize + 63) / 64
 }
 
-// The first 64 words, and noughts where there are fewer.
-pub fn copied(words: &[u64]) -> Words
-    ensures { λ r. ⌜ (length r ≡ 64) × ((i : ℕ) → i < 64 → getD r i 0 ≡ getD (now (words .entry)) i 0) ⌝ }
+// The first n words, and noughts behind them.
+pub fn copied(words: &[u64], n: usize) -> Words
+    requires { ⌜ (n ≤ 64) × (n ≤ length (now words)) ⌝ }
+    ensures { λ r. ⌜ Copied n (now (words .entry)) r ⌝ }
 {
-    let n = capped(words.len());
     let mut copy = [0u64; WORDS];
     let mut i = 0;
     while i < n {
@@ -108,12 +106,11 @@ pub fn copied(words: &[u64]) -> Words
     copy
 }
 
-// The first 64 words are those of the copy, as many as there are, and all others stay.
-pub fn put_back(copy: &Words, words: &mut [u64])
-    requires { ⌜ length (now copy) ≡ 64 ⌝ }
-    ensures { λ _. ⌜ now (words .exit) ≡ take (length (now (words .entry))) (now (copy .entry)) ++ drop 64 (now (words .entry)) ⌝ }
+// The first n words are those of the copy, and all others stay.
+pub fn put_back(copy: &Words, words: &mut [u64], n: usize)
+    requires { ⌜ (length (now copy) ≡ 64) × ((n ≤ 64) × (n ≤ length (now words))) ⌝ }
+    ensures { λ _. ⌜ now (words .exit) ≡ take n (now (copy .entry)) ++ drop n (now (words .entry)) ⌝ }
 {
-    let n = capped(words.len());
     let mut i = 0;
     while i < n {
         words[i] = copy[i];

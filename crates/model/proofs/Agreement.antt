@@ -1,14 +1,14 @@
 -- Laws of agreement: two tuples agree exactly if no cell of the one, at whatever place, clashes with a cell of the other.
 -- From the definitions alone; the laws of `fit` and `clash` are all that code needs to know of when values fit.
 use mathlib.Core.Path.{_≡_, refl, sym, _∙_, ap, ap₂}
-use mathlib.Core.Bool.{Bool, true, false, not, _&&_, _||_, and-false, or-false}
+use mathlib.Core.Bool.{Bool, true, false, not, _&&_, _||_, and-false, or-false, false≢true}
 use mathlib.Core.List.{List, [], _∷_, List·Memᴰ}
 use Prim.Native.Nat.{ℕ, zero, suc, _+_, _<_}
 use native.Mathlib.Nat.{le-of-suc-le-suc}
 use native.Mathlib.Omega.{arith}
 use lib.Dec.{eqb}
 use lib.ListN.{length, getD}
-use borrow.Author.Tests.{eq-eqb, eqb-true, not-true}
+use borrow.Author.Tests.{eq-eqb, eqb-true, not-true, not-false}
 use Rattle.model.specs.Lists.{all, any}
 use Rattle.model.specs.Network.{Network, size, firstId, scopeOf, valuesAt, tupleOf}
 use Rattle.model.specs.Agreement.{Cell, fit, cells, clash, agreeing, cellsOf, agree}
@@ -47,6 +47,15 @@ clash-other-variable x y d = clash-none x y (λ e. absurd (d e))
 
 pub clash-fits : (x y : Cell) → fit (x .1) (y .1) ≡ true → clash x y ≡ false
 clash-fits x y e = clash-none x y (λ _. e)
+
+-- .. and the values of cells that do not clash fit
+fits-case : (b x : Bool) → b ≡ true → (b && not x) ≡ false → x ≡ true
+fits-case true x e f = not-false x f
+fits-case false x e f = absurd (false≢true e)
+
+pub fits-none : (x y : Cell) → x .0 ≡ y .0 → clash x y ≡ false → fit (x .1) (y .1) ≡ true
+unfolding clash
+fits-none x y e f = fits-case (eqb (x .0) (y .0)) (fit (x .1) (y .1)) (eq-eqb (x .0) (y .0) e) f
 
 pub clash-unfit : (x y : Cell) → x .0 ≡ y .0 → fit (x .1) (y .1) ≡ false → clash x y ≡ true
 unfolding clash

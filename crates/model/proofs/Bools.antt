@@ -49,6 +49,10 @@ iff-eq true b f g = sym (f refl)
 iff-eq false true f g = g refl
 iff-eq false false f g = refl
 
+pub false-intro : (b : Bool) → (b ≡ true → ⊥) → b ≡ false
+false-intro true h = absurd (h refl)
+false-intro false h = refl
+
 pub not-both : {a : Bool} → a ≡ true → a ≡ false → ⊥
 not-both {a = true} p q = true≢false q
 not-both {a = false} p q = false≢true p

@@ -3,8 +3,8 @@
 use mathlib.Core.Path.{_≡_, refl, sym, _∙_, ap, subst, fun-ext}
 use mathlib.Core.Bool.{Bool, true, false, _&&_, _||_, cond, or-false, or-assoc, false≢true, true≢false}
 use mathlib.Core.Option.{Option, none, some}
-use mathlib.Core.Logic.{_⊎_, inl, inr}
-use mathlib.Core.List.{List, [], _∷_, List·Memᴰ·tail}
+use mathlib.Core.Logic.{_⊎_, inl, inr, ⊎-elim}
+use mathlib.Core.List.{List, [], _∷_, List·Memᴰ, List·Memᴰ·tail, List·Memᴰ·cases-cons, List·Memᴰ·not-nil}
 use Prim.Native.Nat.{ℕ, _+_, _*_, _≤_}
 use native.Mathlib.Omega.{arith}
 use lib.ListN.{length}
@@ -17,9 +17,9 @@ use Rattle.model.specs.Consistency.{filtered}
 use Rattle.model.specs.LiveWords.{living, written}
 use Rattle.model.specs.Request.{Change, Instance, combinationsOf, removes}
 use Rattle.model.specs.Fault.{firstFault, faultsOn, faults, isNone, accepts}
-use Rattle.model.specs.Reply.{Reply, remainder, countsFor, leaving, accepted, reply}
-use Rattle.model.specs.Calls.{Call, lentWords, callRequest, sharedAfter, Proper, State, start, make, makeAll, anyAccepted, removedBy, starting}
-use Rattle.model.proofs.Bools.{not-both}
+use Rattle.model.specs.Reply.{Reply, remainder, countsFor, leaving, accepted, reply, Keeps}
+use Rattle.model.specs.Calls.{Call, lentWords, callRequest, sharedAfter, Proper, Made, callsOf, State, start, after, afterAll, AllKeep, make, makeAll, anyAccepted, removedBy, starting}
+use Rattle.model.proofs.Bools.{not-both, or-false-left, or-false-right}
 use Rattle.model.proofs.Lists.{here}
 use Rattle.model.proofs.TupleSet.{without-without, without-length}
 use Rattle.model.proofs.Consistency.{filtered-length, filtered-without}
@@ -29,7 +29,7 @@ use Rattle.model.proofs.Reply.{reply-accepted, reply-refused, leaving-s
 
 -- ---- Refused calls change nothing
 
-shared-lent : (o : Option (List ℕ)) (ws : List ℕ) → sharedAfter o ws (lentWords o ws) ≡ ws
+pub shared-lent : (o : Option (List ℕ)) (ws : List ℕ) → sharedAfter o ws (lentWords o ws) ≡ ws
 shared-lent none ws = refl
 shared-lent (some own) ws = refl
 
@@ -217,3 +217,31 @@ makeAll-still ws (c ∷ calls) st w h = none-cons ws c calls (makeAll-still ws c
 -- a list with no accepted call changes nothing
 pub makeAll-none : (ws : List ℕ) (calls : List Call) → anyAccepted ws calls ≡ false → makeAll (start ws) calls ≡ start ws
 makeAll-none ws calls h = makeAll-still ws calls (start ws) refl h
+
+-- ---- Calls that keep their contracts
+
+-- they leave what the definition leaves
+pub afterAll-makeAll : (st : State) (made : List Made) → AllKeep st made → afterAll st made ≡ makeAll st (callsOf made)
+unfolding make
+afterAll-makeAll st [] keep = refl
+afterAll-makeAll st (c ∷ made) keep =
+    afterAll-makeAll (after st c) made (keep .1)
+    ∙ ap (λ (p : Reply). makeAll (after st (c .0, p)) (callsOf made)) (keep .0)
+
+-- a refused call leaves the words and the supports lent to it
+kept : (ws : List ℕ) (st : State) (c : Made) → st .words ≡ ws → Keeps (callRequest (st .words) (c .0)) (c .1) → accepts (callRequest ws (c .0)) ≡ false → ((c .1) .words ≡ lentWords ((c .0) .own) ws) × ((c .1) .supports ≡ (c .0) .supports)
+kept ws st c w keep e =
+    let r = keep ∙ ap (λ (v : List ℕ). reply (callRequest v (c .0))) w ∙ reply-refused (callRequest ws (c .0)) e .1 in
+    (ap (λ (p : Reply). p .words) r, ap (λ (p : Reply). p .supports) r)
+
+-- .. and so does every call of a list with none that is accepted
+pub lists-kept : (ws : List ℕ) (st : State) (made : List Made) → st .words ≡ ws → AllKeep st made → anyAccepted ws (callsOf made) ≡ false → (c : Made) → List·Memᴰ c made → ((c .1) .words ≡ lentWords ((c .0) .own) ws) × ((c .1) .supports ≡ (c .0) .supports)
+unfolding anyAccepted
+lists-kept ws st [] w keep h c m = absurd (List·Memᴰ·not-nil m)
+lists-kept ws st (d ∷ made) w keep h c m =
+    let this = kept ws st d w (keep .0) (or-false-left (accepts (callRequest ws (d .0))) (anyAccepted ws (callsOf made)) h) in
+    let still = ap (sharedAfter ((d .0) .own) (st .words)) (this .0) ∙ ap (λ (v : List ℕ). sharedAfter ((d .0) .own) v (lentWords ((d .0) .own) ws)) w ∙ shared-lent ((d .0) .own) ws in
+    ⊎-elim
+    (λ e. subst (λ (x : Made). ((x .1) .words ≡ lentWords ((x .0) .own) ws) × ((x .1) .supports ≡ (x .0) .supports)) (sym e) this)
+    (λ n. lists-kept ws (after st d) made still (keep .1) (or-false-right (accepts (callRequest ws (d .0))) (anyAccepted ws (callsOf made)) h) c n)
+    (List·Memᴰ·cases-cons m)

@@ -1,37 +1,39 @@
--- The edges for buffers of fixed size: lists longer than their bounds are refused alike, and only so many words and support
--- numbers matter. From the order of the faults, and the laws of live words and of support lists.
+-- The edges for buffers of fixed size: lists longer than their bounds are refused alike, and only the needed words and support
+-- numbers are written. From the order of the faults, and the laws of live words and of support lists.
 use mathlib.Core.Path.{_≡_, refl, sym, _∙_, ap}
-use mathlib.Core.Bool.{Bool, true, false, not, _||_, cond}
+use mathlib.Core.Bool.{Bool, true, false, not, cond}
 use mathlib.Core.Option.{Option, none, some}
 use mathlib.Core.Logic.{_⊎_, inl, inr}
-use mathlib.Core.List.{List, [], _∷_, _++_, map, append-assoc, List·Memᴰ·tail}
-use Prim.Native.Nat.{ℕ, suc, _*_, _/_, _%_, _^_, _≤_, _<_}
+use mathlib.Core.List.{List, [], _∷_, _++_, map, append-nil, List·Memᴰ, List·Memᴰ·tail}
+use Prim.Native.Nat.{ℕ, zero, suc, _+_, _*_, _/_, _%_, _^_, _≤_, _<_}
 use native.Mathlib.Nat.{div-add-mod', mul-le-mul}
 use native.Mathlib.Omega.{arith}
 use native.Mathlib.Decide.{decLt}
 use lib.Dec.{leb, ltb, eqb}
-use lib.ListN.{length, getD, take, drop, length-take, length-append, length-drop, take-append-drop}
-use lib.Seq.{take-all, length-take-le, drop-append-le}
-use borrow.Author.Tests.{ltb-true, ltb-false, leb-true, eqb-true, lt-ltb, not-false}
+use lib.ListN.{length, getD, take, drop, replicate, length-map, length-replicate, length-append, length-drop, drop-of-length-le, getD-replicate, List·getD-eq-default}
+use lib.Seq.{take-all, length-take-le, getD-drop}
+use borrow.Author.Tests.{ltb-false, leb-true, eqb-true, not-false}
 use Rattle.model.specs.declared.Relation.{Relation}
 use Rattle.model.specs.declared.Counts.{Counts}
-use Rattle.model.specs.declared.Answer.the-variants.{Refused}
-use Rattle.model.specs.Limits.{maxRelations, maxTuples, minMembers, maxMembers, maxCombinations, maxSupportNumbers, wordBits}
-use Rattle.model.specs.Lists.{from, sum, all}
+use Rattle.model.specs.Limits.{maxRelations, maxTuples, minMembers, maxMembers, maxCombinations, noSupport, wordBits}
+use Rattle.model.specs.Lists.{from, sum, all, select, firstOr, each}
 use Rattle.model.specs.TupleSet.{TupleSet}
-use Rattle.model.specs.Network.{Network, total, variablesIn, tuplesIn, valuesIn, scopeOf}
+use Rattle.model.specs.Network.{Network, total, variablesIn, tuplesIn, valuesIn, idsOf, indexOf, scopeOf}
 use Rattle.model.specs.Agreement.{agree}
-use Rattle.model.specs.Combination.{connected}
+use Rattle.model.specs.Combination.{Combination, connected}
+use Rattle.model.specs.Support.{candidates, isSupport, supports, firstSupport}
 use Rattle.model.specs.Consistency.{isConsistent, supportList, needed}
 use Rattle.model.specs.LiveWords.{living, written}
 use Rattle.model.specs.Request.{Change, Instance, combinationsOf, Request}
 use Rattle.model.specs.Fault.{Fault, firstFault, within, properWidth, properScope, properLengths, properList, properMembers, networkFaults, combinationFaults, instanceFaults, wordsFault, supportsFault, changeFaults, idsFault, faultsOn, faults, testFaults, compareFaults, isNone, accepts}
-use Rattle.model.specs.Reply.{answerNumbers, verdictNumbers, verdictFor, comparisonNumbers, comparisonFor, answerFor, remainder, countsFor, leaving, accepted, refused, replyTo, reply, testReply, compareReply}
-use Rattle.model.specs.Edges.{maxVariables, maxValues, maxMemberList, maxWords, cutNetwork, cutInstance, cutRequest, restored}
-use Rattle.model.proofs.Bools.{and-left, and-right, iff-eq}
-use Rattle.model.proofs.Lists.{here}
-use Rattle.model.proofs.Fault.{fault-here, fault-next, no-fault-at, firstFault-append-none, firstFault-append-some, firstFault-front, few-variables, few-values, faultless, accepts-network, accepts-supports}
-use Rattle.model.proofs.LiveWords.{living-take, written-take, written-length}
+use Rattle.model.specs.Reply.{answerNumbers, verdictNumbers, verdictFor, comparisonNumbers, comparisonFor, answerFor, remainder, leaving, accepted, refused, replyTo, reply, testReply, compareReply, request}
+use Rattle.model.specs.Edges.{maxVariables, maxValues, maxMemberList, cutNetwork, cutInstance, restored}
+use Rattle.model.proofs.Bools.{and-left, and-right, false-intro}
+use Rattle.model.proofs.Lists.{here, select-mem}
+use Rattle.model.proofs.Network.{size-total}
+use Rattle.model.proofs.Support.{candidates-index, candidates-length}
+use Rattle.model.proofs.Fault.{fault-here, fault-next, no-fault-at, firstFault-append-none, firstFault-append-some, few-variables, few-values, faultless, accepts-network, accepts-supports}
+use Rattle.model.proofs.LiveWords.{written-take, written-length, written-below}
 use Rattle.model.proofs.Consistency.{supportList-length}
 
 -- ---- What the calls answer alike
@@ -41,14 +43,11 @@ pub data Alike {A : Type 0} (tests : A → List Fault) (x y : A) : Type 0 where
   same : x ≡ y → Alike tests x y
   faulty : (f : ℕ) → firstFault (tests x) ≡ some f → firstFault (tests y) ≡ some f → Alike tests x y
 
-abbrev asking : Instance → List ℕ → List ℕ → Change → Request
-asking I ws ss change = record { given = I; words = ws; supports = ss; change = change }
-
 module _ (I : Instance) (f : ℕ) (e : firstFault (instanceFaults I) ≡ some f) where
-  reply-faulty : (ws ss : List ℕ) (change : Change) → reply (asking I ws ss change) ≡ refused f (asking I ws ss change)
+  reply-faulty : (ws ss : List ℕ) (change : Change) → reply (request I ws ss change) ≡ refused f (request I ws ss change)
   unfolding reply faults faultsOn
   reply-faulty ws ss change =
-      ap (λ (o : Option ℕ). replyTo o (asking I ws ss change))
+      ap (λ (o : Option ℕ). replyTo o (request I ws ss change))
       (firstFault-append-some (instanceFaults I)
       (wordsFault (I .network) (length ws) ∷ supportsFault I (length ss) ∷ changeFaults (I .network) change) f e)
 
@@ -65,8 +64,8 @@ compareReply-faulty N f e g h =
     (firstFault-append-some (networkFaults N) (idsFault N (g ∷ h ∷ []) ∷ []) f e)
 
 module _ {I J : Instance} where
-  pub reply-alike : Alike instanceFaults I J → (ws ss : List ℕ) (change : Change) → reply (asking I ws ss change) ≡ reply (asking J ws ss change)
-  reply-alike (same e) ws ss change = ap (λ (K : Instance). reply (asking K ws ss change)) e
+  pub reply-alike : Alike instanceFaults I J → (ws ss : List ℕ) (change : Change) → reply (request I ws ss change) ≡ reply (request J ws ss change)
+  reply-alike (same e) ws ss change = ap (λ (K : Instance). reply (request K ws ss change)) e
   reply-alike (faulty f e d) ws ss change = reply-faulty I f e ws ss change ∙ sym (reply-faulty J f d ws ss change)
 
   pub testReply-alike : Alike instanceFaults I J → (ws : List ℕ) → testReply I ws ≡ testReply J ws
@@ -88,10 +87,6 @@ instance-alike {N} {M} (faulty f e d) m members =
     (firstFault-append-some (networkFaults M) (combinationFaults (instance M m members)) f d)
 
 -- ---- More relations than there may be
-
-false-intro : (b : Bool) → (b ≡ true → ⊥) → b ≡ false
-false-intro true h = absurd (h refl)
-false-intro false h = refl
 
 -- the tests that read the records alone, and those that read the lists
 recordFaults : List Relation → List Fault
@@ -231,132 +226,30 @@ module _ (I : Instance) where
   cut-then : Alike instanceFaults (instance (cutNetwork N) (I .m) (I .members)) (cutInstance I)
   cut-then = members-alike (cutNetwork N) (I .m) (I .members) (decLt maxMemberList (length (I .members)))
 
-  reply-lists : (ws ss : List ℕ) (change : Change) → reply (asking I ws ss change) ≡ reply (asking (cutInstance I) ws ss change)
-  reply-lists ws ss change = reply-alike cut-first ws ss change ∙ reply-alike cut-then ws ss change
+  pub reply-cut : (ws ss : List ℕ) (change : Change) → reply (request I ws ss change) ≡ reply (request (cutInstance I) ws ss change)
+  reply-cut ws ss change = reply-alike cut-first ws ss change ∙ reply-alike cut-then ws ss change
 
--- ---- The words and the support numbers cut
-
--- so few words are too few for n tuples, where n words of them are enough for the limit
-few-words : (limit n : ℕ) (ws : List ℕ) → n ≤ wordBits * limit → ltb (length (take limit ws) * wordBits) n ≡ ltb (length ws * wordBits) n
-few-words limit n ws h =
-    iff-eq _ _
-    (λ e. let l = ltb-true (length (take limit ws) * wordBits) n e in lt-ltb (length ws * wordBits) n (omega (arith, length-take limit ws)))
-    (λ e. let l = ltb-true (length ws * wordBits) n e in lt-ltb (length (take limit ws) * wordBits) n (omega (arith, length-take limit ws)))
-
--- k numbers are over the limit, or more than are lent
-few-numbers : (limit k : ℕ) (ss : List ℕ) → (b : Bool) → ltb limit k ≡ b → (b || ltb (length (take limit ss)) k) ≡ (b || ltb (length ss) k)
-few-numbers limit k ss true e = refl
-few-numbers limit k ss false e =
-    let most = ltb-false limit k e in
-    iff-eq _ _
-    (λ e. let l = ltb-true (length (take limit ss)) k e in lt-ltb (length ss) k (omega (arith, length-take limit ss)))
-    (λ e. let l = ltb-true (length ss) k e in lt-ltb (length (take limit ss)) k (omega (arith, length-take limit ss)))
-
--- a list whose first k entries are others, cut at a limit
-supports-take : (limit : ℕ) (xs ss : List ℕ) → length xs ≤ limit → length xs ≤ length ss → xs ++ drop (length xs) ss ≡ xs ++ drop (length xs) (take limit ss) ++ drop limit ss
-supports-take limit xs ss h k =
-    ap (λ (ys : List ℕ). xs ++ ys)
-    (ap (drop (length xs)) (sym (take-append-drop limit ss)) ∙ drop-append-le (length xs) (take limit ss) (drop limit ss) (omega (arith, length-take limit ss)))
-    ∙ sym (append-assoc xs (drop (length xs) (take limit ss)) (drop limit ss))
-
--- what a call leaves, with the words and the numbers cut at limits that are high enough
-leaving-cut : (I : Instance) (L : TupleSet) (k : Counts) (words numbers : ℕ) (ws ss : List ℕ) → ((i : ℕ) → i < length ws → getD ws i 0 < 2 ^ 64) → total (I .network) ≤ wordBits * words → needed (I .network) (combinationsOf I) ≤ numbers → needed (I .network) (combinationsOf I) ≤ length ss → leaving I L k ws ss ≡ restored (drop words ws) (drop numbers ss) (leaving I L k (take words ws) (take numbers ss))
-unfolding leaving
-leaving-cut I L k words numbers ws ss small enough high room =
-    let xs = supportList (I .network) (combinationsOf I) L in
-    let n = supportList-length (I .network) (combinationsOf I) L in
-    ap (λ (vs : List ℕ). record {
-      answer = answerNumbers (answerFor (I .network) L k);
-      words = vs;
-      supports = xs ++ drop (needed (I .network) (combinationsOf I)) ss;
-    })
-    (written-take (total (I .network)) words L ws small enough)
-    ∙ ap (λ (vs : List ℕ). record {
-      answer = answerNumbers (answerFor (I .network) L k);
-      words = written (total (I .network)) L (take words ws) ++ drop words ws;
-      supports = vs;
-    })
-    (ap (λ (j : ℕ). xs ++ drop j ss) (sym n)
-    ∙ supports-take numbers xs ss (omega arith) (omega arith)
-    ∙ ap (λ (j : ℕ). xs ++ drop j (take numbers ss) ++ drop numbers ss) n)
-
-refused-cut : (f words numbers : ℕ) (I : Instance) (ws ss : List ℕ) (change : Change) → refused f (asking I ws ss change) ≡ restored (drop words ws) (drop numbers ss) (refused f (asking I (take words ws) (take numbers ss) change))
-refused-cut f words numbers I ws ss change =
-    ap (λ (vs : List ℕ). record { answer = answerNumbers (Refused f); words = vs; supports = ss }) (sym (take-append-drop words ws))
-    ∙ ap (λ (vs : List ℕ). record { answer = answerNumbers (Refused f); words = take words ws ++ drop words ws; supports = vs }) (sym (take-append-drop numbers ss))
-
-module _ (I : Instance) (ws ss : List ℕ) (change : Change) where
-  abbrev wide : Request
-  wide = asking I ws ss change
-
-  abbrev narrow : Request
-  narrow = asking I (take maxWords ws) (take maxSupportNumbers ss) change
-
-  behind : List ℕ → List ℕ → List Fault
-  behind ws ss = wordsFault (I .network) (length ws) ∷ supportsFault I (length ss) ∷ changeFaults (I .network) change
-
-  lists-cut : total (I .network) ≤ maxTuples → faults narrow ≡ faults wide
-  unfolding faults faultsOn
-  lists-cut h =
-      ap (λ (b : Bool). instanceFaults I ++ ((11, b) ∷ supportsFault I (length (take maxSupportNumbers ss)) ∷ changeFaults (I .network) change)) (few-words maxWords (total (I .network)) ws h)
-      ∙ ap (λ (b : Bool). instanceFaults I ++ (wordsFault (I .network) (length ws) ∷ (12, b) ∷ changeFaults (I .network) change))
-      (few-numbers maxSupportNumbers (needed (I .network) (combinationsOf I)) ss (ltb maxSupportNumbers (needed (I .network) (combinationsOf I))) refl)
-
-  faults-cut : (o : Option ℕ) → firstFault (instanceFaults I) ≡ o → firstFault (faults narrow) ≡ firstFault (faults wide)
-  unfolding faults faultsOn behind
-  faults-cut none e = ap firstFault (lists-cut (faultless (I .network) (firstFault-front (networkFaults (I .network)) (combinationFaults I) e) .tuples))
-  faults-cut (some f) e =
-      firstFault-append-some (instanceFaults I) (behind (take maxWords ws) (take maxSupportNumbers ss)) f e
-      ∙ sym (firstFault-append-some (instanceFaults I) (behind ws ss) f e)
-
-  module _ (small : (i : ℕ) → i < length ws → getD ws i 0 < 2 ^ 64) where
-    accepted-cut : firstFault (faults wide) ≡ none → accepted wide ≡ restored (drop maxWords ws) (drop maxSupportNumbers ss) (accepted narrow)
-    unfolding accepted accepts
-    accepted-cut e =
-        let q = ap isNone e in
-        let few = faultless (I .network) (accepts-network wide q) .tuples in
-        let room = accepts-supports wide q in
-        let S = living (total (I .network)) in
-        leaving-cut I (remainder I change (S ws)) (countsFor I change (S ws)) maxWords maxSupportNumbers ws ss small few (room .0) (room .1)
-        ∙ ap (λ (T : TupleSet). restored (drop maxWords ws) (drop maxSupportNumbers ss) (leaving I (remainder I change T) (countsFor I change T) (take maxWords ws) (take maxSupportNumbers ss)))
-        (sym (living-take (total (I .network)) maxWords ws few))
-
-    replyTo-cut : (o : Option ℕ) → firstFault (faults wide) ≡ o → replyTo o wide ≡ restored (drop maxWords ws) (drop maxSupportNumbers ss) (replyTo o narrow)
-    replyTo-cut none e = accepted-cut e
-    replyTo-cut (some f) e = refused-cut f maxWords maxSupportNumbers I ws ss change
-
-    reply-buffers : reply wide ≡ restored (drop maxWords ws) (drop maxSupportNumbers ss) (reply narrow)
-    unfolding reply
-    reply-buffers =
-        replyTo-cut (firstFault (faults wide)) refl
-        ∙ ap (λ (o : Option ℕ). restored (drop maxWords ws) (drop maxSupportNumbers ss) (replyTo o narrow)) (sym (faults-cut (firstFault (instanceFaults I)) refl))
-
--- ---- What a program with fixed buffers may hold in place of a request
-
-pub reply-cut : (q : Request) → ((i : ℕ) → i < length (q .words) → getD (q .words) i 0 < 2 ^ 64) → reply q ≡ restored (drop maxWords (q .words)) (drop maxSupportNumbers (q .supports)) (reply (cutRequest q))
-reply-cut q small =
-    reply-lists (q .given) (q .words) (q .supports) (q .change)
-    ∙ reply-buffers (cutInstance (q .given)) (q .words) (q .supports) (q .change) small
-
-module _ (I : Instance) (ws : List ℕ) where
-  test-words : (o : Option ℕ) → firstFault (instanceFaults I) ≡ o → testReply I ws ≡ testReply I (take maxWords ws)
-  unfolding testReply testFaults
-  test-words (some f) e = testReply-faulty I f e ws ∙ sym (testReply-faulty I f e (take maxWords ws))
-  test-words none e =
-      let few = faultless (I .network) (firstFault-front (networkFaults (I .network)) (combinationFaults I) e) .tuples in
-      let consistent = isConsistent (I .network) (combinationsOf I) in
-      let S = living (total (I .network)) in
-      ap (λ (b : Bool). verdictNumbers (verdictFor (firstFault (instanceFaults I ++ ((11, b) ∷ []))) (consistent (S ws)))) (sym (few-words maxWords (total (I .network)) ws few))
-      ∙ ap (λ (T : TupleSet). verdictNumbers (verdictFor (firstFault (testFaults I (take maxWords ws))) (consistent T))) (sym (living-take (total (I .network)) maxWords ws few))
-
-pub testReply-cut : (I : Instance) (ws : List ℕ) → testReply I ws ≡ testReply (cutInstance I) (take maxWords ws)
-testReply-cut I ws =
-    testReply-alike (cut-first I) ws
-    ∙ testReply-alike (cut-then I) ws
-    ∙ test-words (cutInstance I) ws (firstFault (instanceFaults (cutInstance I))) refl
+  pub testReply-cut : (ws : List ℕ) → testReply I ws ≡ testReply (cutInstance I) ws
+  testReply-cut ws = testReply-alike cut-first ws ∙ testReply-alike cut-then ws
 
 pub compareReply-cut : (N : Network) (g h : ℕ) → compareReply N g h ≡ compareReply (cutNetwork N) g h
 compareReply-cut N g h = compareReply-alike (cutNetwork-alike N) g h
+
+-- ---- The needed words and support numbers
+
+-- what a call leaves is what it leaves in the needed words, and in a list of as many numbers as are needed, whatever they are
+pub leaving-needed : (I : Instance) (L : TupleSet) (k : Counts) (words : ℕ) (ws ss zs : List ℕ) → ((i : ℕ) → i < length ws → getD ws i 0 < 2 ^ 64) → total (I .network) ≤ wordBits * words → length zs ≡ needed (I .network) (combinationsOf I) → leaving I L k ws ss ≡ restored (drop words ws) (drop (needed (I .network) (combinationsOf I)) ss) (leaving I L k (take words ws) zs)
+unfolding leaving
+leaving-needed I L k words ws ss zs small enough long =
+    let n = needed (I .network) (combinationsOf I) in
+    let xs = supportList (I .network) (combinationsOf I) L in
+    let none : drop n zs ≡ [] = drop-of-length-le zs {i = n} (omega arith) in
+    let numbers : xs ++ drop n ss ≡ xs ++ drop n zs ++ drop n ss = sym (ap (λ (ys : List ℕ). ys ++ drop n ss) (ap (λ (ys : List ℕ). xs ++ ys) none ∙ append-nil xs)) in
+    λ i. record {
+      answer = answerNumbers (answerFor (I .network) L k);
+      words = written-take (total (I .network)) words L ws small enough i;
+      supports = numbers i;
+    }
 
 -- ---- Lengths never change
 
@@ -382,3 +275,72 @@ module _ (q : Request) where
   pub reply-lengths : (length ((reply q) .words) ≡ length (q .words)) × (length ((reply q) .supports) ≡ length (q .supports))
   unfolding reply
   reply-lengths = replyTo-lengths (firstFault (faults q)) refl
+
+-- ---- What a reply holds fits its width
+
+module _ (b : ℕ) (some-number : 0 < b) where
+  below-append : (xs ys : List ℕ) → ((i : ℕ) → getD xs i 0 < b) → ((i : ℕ) → getD ys i 0 < b) → (i : ℕ) → getD (xs ++ ys) i 0 < b
+  below-append [] ys f g i = g i
+  below-append (x ∷ xs) ys f g zero = f 0
+  below-append (x ∷ xs) ys f g (suc i) = below-append xs ys (λ j. f (suc j)) g i
+
+  below-each : {A : Type 0} (f : A → List ℕ) (xs : List A) → ((x : A) (i : ℕ) → getD (f x) i 0 < b) → (i : ℕ) → getD (each f xs) i 0 < b
+  below-each f [] h i = some-number
+  below-each f (x ∷ xs) h i = below-append (f x) (each f xs) (h x) (below-each f xs h) i
+
+  below-past : (xs : List ℕ) (i : ℕ) → ((j : ℕ) → j < length xs → getD xs j 0 < b) → Dec (i < length xs) → getD xs i 0 < b
+  below-past xs i f (yes h) = f i h
+  below-past xs i f (no d) = let e : getD xs i 0 ≡ 0 = List·getD-eq-default xs 0 (omega arith) in omega (arith, e)
+
+module _ (N : Network) (few : total N ≤ maxTuples) (S : TupleSet) where
+  first-below : (c : Combination) (ts : List (List ℕ)) → ((t : List ℕ) → List·Memᴰ t ts → List·Memᴰ t (candidates N c)) → (i : ℕ) → getD (firstOr (replicate (length c) noSupport) (map (map (indexOf N)) ts)) i 0 < 65536
+  first-below c [] f i =
+      below-past 65536 (omega arith) (replicate (length c) noSupport) i
+      (λ j h. rw (getD-replicate (length c) j noSupport 0 (omega (arith, length-replicate (length c) noSupport))) (omega arith))
+      (decLt i (length (replicate (length c) noSupport)))
+  first-below c (t ∷ ts) f i =
+      below-past 65536 (omega arith) (map (indexOf N) t) i
+      (λ j h.
+      let k = candidates-index N c (f t here) j (omega (arith, length-map t (indexOf N), candidates-length N c (f t here))) in
+      omega (arith, k, size-total N (getD c j 0)))
+      (decLt i (length (map (indexOf N) t)))
+
+  supportList-below : (cs : List Combination) (i : ℕ) → getD (supportList N cs S) i 0 < 65536
+  unfolding supportList firstSupport supports
+  supportList-below cs i =
+      let wide : 0 < 65536 = omega arith in
+      below-each 65536 wide (λ (c : Combination). each (λ (r : ℕ). each (firstSupport N S c) (idsOf N r)) c) cs
+      (λ c. below-each 65536 wide (λ (r : ℕ). each (firstSupport N S c) (idsOf N r)) c
+      (λ r. below-each 65536 wide (firstSupport N S c) (idsOf N r)
+      (λ g. first-below c (select (isSupport N S g) (candidates N c)) (λ t m. select-mem (isSupport N S g) (candidates N c) m .0)))) i
+
+module _ (q : Request) where
+  words-below : ((i : ℕ) → getD (q .words) i 0 < 2 ^ 64) → (o : Option ℕ) → (i : ℕ) → getD ((replyTo o q) .words) i 0 < 2 ^ 64
+  unfolding accepted leaving
+  words-below small (some f) i = small i
+  words-below small none i =
+      let I = q .given in
+      let L = remainder I (q .change) (living (total (I .network)) (q .words)) in
+      let ws = written (total (I .network)) L (q .words) in
+      below-past (2 ^ 64) (omega arith) ws i
+      (λ j h. written-below (total (I .network)) L (q .words) j (omega (arith, written-length (total (I .network)) L (q .words))))
+      (decLt i (length ws))
+
+  pub reply-words-below : ((i : ℕ) → getD (q .words) i 0 < 2 ^ 64) → (i : ℕ) → getD ((reply q) .words) i 0 < 2 ^ 64
+  unfolding reply
+  reply-words-below small = words-below small (firstFault (faults q))
+
+  numbers-below : ((i : ℕ) → getD (q .supports) i 0 < 65536) → (o : Option ℕ) → firstFault (faults q) ≡ o → (i : ℕ) → getD ((replyTo o q) .supports) i 0 < 65536
+  unfolding accepted leaving accepts
+  numbers-below small (some f) e i = small i
+  numbers-below small none e i =
+      let I = q .given in
+      let L = remainder I (q .change) (living (total (I .network)) (q .words)) in
+      let n = needed (I .network) (combinationsOf I) in
+      below-append 65536 (omega arith) (supportList (I .network) (combinationsOf I) L) (drop n (q .supports))
+      (supportList-below (I .network) (faultless (I .network) (accepts-network q (ap isNone e)) .tuples) L (combinationsOf I))
+      (λ j. rw getD-drop (small (n + j))) i
+
+  pub reply-supports-below : ((i : ℕ) → getD (q .supports) i 0 < 65536) → (i : ℕ) → getD ((reply q) .supports) i 0 < 65536
+  unfolding reply
+  reply-supports-below small = numbers-below small (firstFault (faults q)) refl

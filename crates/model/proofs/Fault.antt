@@ -1,6 +1,6 @@
 -- Laws of the first fault of a table, and what a network and a request without faults have.
 -- From the definitions alone.
-use mathlib.Core.Path.{_≡_, refl, sym, _∙_, ap}
+use mathlib.Core.Path.{_≡_, refl, sym, _∙_, ap, subst}
 use mathlib.Core.Bool.{Bool, true, false, cond, false≢true, true≢false}
 use mathlib.Core.Option.{Option, none, some}
 use mathlib.Core.List.{List, [], _∷_, _++_, map, List·Memᴰ, List·Memᴰ·tail, List·Memᴰ·cases-cons, List·Memᴰ·not-nil, Memᴰ·append-left, Memᴰ·append-right}
@@ -87,6 +87,15 @@ none-firstFault (g ∷ fs) h = fault-next g fs (h g here) ∙ none-firstFault fs
 pub firstFault-some : (before after : List Fault) (n : ℕ) → ((f : Fault) → List·Memᴰ f before → f .1 ≡ false) → firstFault (before ++ ((n, true) ∷ after)) ≡ some n
 firstFault-some before after n h = firstFault-append-none before ((n, true) ∷ after) (none-firstFault before h)
 
+-- .. and its number passes a test that all numbers of the table pass
+pub firstFault-number : (p : ℕ → Bool) (fs : List Fault) (k : ℕ) → all (λ (f : Fault). p (f .0)) fs ≡ true → firstFault fs ≡ some k → p k ≡ true
+firstFault-number p [] k h e = absurd (some-none (sym e))
+firstFault-number p (f ∷ fs) k h e = either (f .1) (firstFault fs) (and-left (p (f .0)) _ h) (firstFault-number p fs k (and-right (p (f .0)) _ h)) e
+  where
+    either : (x : Bool) (o : Option ℕ) {j : ℕ} → p j ≡ true → (o ≡ some k → p k ≡ true) → cond x (some j) o ≡ some k → p k ≡ true
+    either true o {j} here later e = subst (λ (i : ℕ). p i ≡ true) (ap refusal e) here
+    either false o here later e = later e
+
 -- ---- The first fault from its refusal number
 
 pub isNone-none : (o : Option ℕ) → isNone o ≡ true → o ≡ none
@@ -137,6 +146,25 @@ module _ (I : Instance) (words numbers : ℕ) where
   numbered-change filter = refl
   numbered-change (withdraw ids) = refl
   numbered-change (choose x v) = refl
+
+  numbered-all : (change : Change) → numbered (faultsOn I words numbers change) ≡ true
+  unfolding faultsOn
+  numbered-all filter = refl
+  numbered-all (withdraw ids) = refl
+  numbered-all (choose x v) = refl
+
+  -- the numbers are 2 to 14
+  numbers-all : (change : Change) → all (λ (f : Fault). within 2 14 (f .0)) (faultsOn I words numbers change) ≡ true
+  unfolding faultsOn
+  numbers-all filter = refl
+  numbers-all (withdraw ids) = refl
+  numbers-all (choose x v) = refl
+
+  pub refusal-within : (change : Change) (k : ℕ) → firstFault (faultsOn I words numbers change) ≡ some k → within 2 14 k ≡ true
+  refusal-within change k e = firstFault-number (within 2 14) (faultsOn I words numbers change) k (numbers-all change) e
+
+  pub refusal-all : (change : Change) → refusal (firstFault (faultsOn I words numbers change)) ≡ 0 → firstFault (faultsOn I words numbers change) ≡ none
+  refusal-all change e = refusal-none (faultsOn I words numbers change) (numbered-all change) e
 
   -- a fault that all change calls test is the call's
   pub refusal-shared : (change : Change) (k : ℕ) → k ≡ refusal (firstFault (faultsOn I words numbers filter)) → (k ≡ 0 → ⊥) → firstFault (faultsOn I words numbers change) ≡ some k

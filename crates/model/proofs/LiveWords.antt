@@ -3,13 +3,13 @@
 use mathlib.Core.Path.{_≡_, refl, sym, _∙_, ap, subst}
 use mathlib.Core.Bool.{Bool, true, false, not, _&&_, _||_, cond, and-true, or-false}
 use mathlib.Core.List.{List, [], _∷_, _++_, map}
-use Prim.Native.Nat.{ℕ, zero, suc, _+_, _*_, _-_, _/_, _%_, _^_, _≤_, _<_, min}
+use Prim.Native.Nat.{ℕ, zero, suc, _+_, _*_, _-_, _/_, _%_, _^_, _≤_, _<_}
 use native.Mathlib.Nat.{add-zero, zero-add, add-suc, suc-add, pow-suc, pow-succ', div-div-eq-div-mul, le-of-suc-le-suc}
 use native.Mathlib.Omega.{arith}
 use native.Mathlib.Decide.{ℕ-discrete, decLe}
 use lib.Dec.{ltb, eqb}
-use lib.ListN.{length, getD, set, take, drop, replicate, length-map, length-set, length-take}
-use lib.Seq.{ext-getD, getD-set-same, getD-set-other, getD-take}
+use lib.ListN.{length, getD, set, take, drop, replicate, length-map, length-set}
+use lib.Seq.{ext-getD, getD-set-same, getD-set-other, getD-take, length-take-le}
 use borrow.Author.Tests.{eqb-true, eqb-false, eq-eqb, ne-eqb, lt-ltb, le-ltb, ltb-true, ltb-false}
 use Rattle.model.specs.Limits.{wordBits}
 use Rattle.model.specs.Lists.{from}
@@ -429,21 +429,21 @@ pub written-take : (n k : ℕ) (S : TupleSet) (ws : List ℕ) → ((i : ℕ) →
 unfolding written
 written-take n k S ws small h = writtenFrom-take 0 n k S ws small (omega (arith, zero-add k))
 
--- .. or written to a copy of the first k words, which is put back, as much of it as there are words
-pub written-copy : (n k : ℕ) (S : TupleSet) (copy ws : List ℕ) → length copy ≡ k → ((i : ℕ) → i < k → getD copy i 0 ≡ getD ws i 0) → ((i : ℕ) → i < length ws → getD ws i 0 < 2 ^ 64) → n ≤ wordBits * k → take (length ws) (written n S copy) ++ drop k ws ≡ written n S ws
-written-copy n k S copy ws l same small h =
-    ap (λ (vs : List ℕ). vs ++ drop k ws) (ext-getD 0 (take (length ws) (written n S copy)) (written n S (take k ws)) (omega (arith, long, long-first)) (λ i b. at i (omega (arith, long)) (omega (arith, long))))
+-- .. or written to a copy that begins with them, of which they are put back
+pub written-copy : (n k : ℕ) (S : TupleSet) (copy ws : List ℕ) → k ≤ length copy → k ≤ length ws → ((i : ℕ) → i < k → getD copy i 0 ≡ getD ws i 0) → ((i : ℕ) → i < length ws → getD ws i 0 < 2 ^ 64) → n ≤ wordBits * k → take k (written n S copy) ++ drop k ws ≡ written n S ws
+written-copy n k S copy ws c l same small h =
+    ap (λ (vs : List ℕ). vs ++ drop k ws) (ext-getD 0 (take k (written n S copy)) (written n S (take k ws)) (long ∙ sym long-first) (λ i b. at i (omega (arith, long))))
     ∙ sym (written-take n k S ws small h)
   where
-    long : length (take (length ws) (written n S copy)) ≡ min (length ws) k
-    long = length-take (length ws) (written n S copy) ∙ ap (min (length ws)) (written-length n S copy ∙ l)
+    long : length (take k (written n S copy)) ≡ k
+    long = length-take-le k (written n S copy) (omega (arith, written-length n S copy))
 
-    long-first : length (written n S (take k ws)) ≡ min k (length ws)
-    long-first = written-length n S (take k ws) ∙ length-take k ws
+    long-first : length (written n S (take k ws)) ≡ k
+    long-first = written-length n S (take k ws) ∙ length-take-le k ws l
 
-    at : (i : ℕ) → i < length ws → i < k → getD (take (length ws) (written n S copy)) i 0 ≡ getD (written n S (take k ws)) i 0
-    at i a b =
-        getD-take (length ws) (written n S copy) i 0 a
+    at : (i : ℕ) → i < k → getD (take k (written n S copy)) i 0 ≡ getD (written n S (take k ws)) i 0
+    at i b =
+        getD-take k (written n S copy) i 0 b
         ∙ written-at n S copy i (omega arith)
         ∙ ap (λ (w : ℕ). word (bitAfter n S i w)) (same i b ∙ sym (getD-take k ws i 0 b))
-        ∙ sym (written-at n S (take k ws) i (omega (arith, length-take k ws)))
+        ∙ sym (written-at n S (take k ws) i (omega (arith, length-take-le k ws l)))

@@ -1,9 +1,9 @@
 -- Mission points 1, 2 and 3, proved of `reply` for every request and every list of calls: read this module first. The
 -- statements are the records of specs/Promises.antt; no hypothesis is left that "no listed fault" gives.
-use mathlib.Core.Path.{_≡_, refl, sym, _∙_, ap, subst}
+use mathlib.Core.Path.{_≡_, refl, sym, _∙_, ap, ap₂, subst}
 use mathlib.Core.Bool.{Bool, true, false, cond}
-use mathlib.Core.Option.{Option, none}
-use mathlib.Core.Logic.{_⊎_}
+use mathlib.Core.Option.{Option, none, some}
+use mathlib.Core.Logic.{_⊎_, _↔_}
 use mathlib.Core.List.{List, [], _∷_, _++_, map, List·Memᴰ}
 use Prim.Native.Nat.{ℕ, _+_}
 use native.Mathlib.Omega.{arith}
@@ -14,25 +14,28 @@ use Rattle.model.specs.declared.Counts.{Counts}
 use Rattle.model.specs.Lists.{from, any}
 use Rattle.model.specs.TupleSet.{TupleSet, has, count, without, Largest, Consistent}
 use Rattle.model.specs.Network.{Network, total, idsOf, relationOf}
+use Rattle.model.specs.Agreement.{cellsOf, agree}
 use Rattle.model.specs.Combination.{Combination, Chain}
-use Rattle.model.specs.Consistency.{supported, filtered, supportList, needed}
+use Rattle.model.specs.Consistency.{supported, isConsistent, filtered, supportList, needed}
 use Rattle.model.specs.Solution.{Assignment, isSolution}
 use Rattle.model.specs.LiveWords.{isLive, living, written}
 use Rattle.model.specs.Request.{filter, withdraw, choose, Instance, combinationsOf, Request, removes}
 use Rattle.model.specs.Fault.{Fault, firstFault, faultsOn, faults, testFaults, compareFaults, accepts}
-use Rattle.model.specs.Reply.{Reply, lowestEmpty, answerFor, answerNumbers, remainder, countsFor, leaving, accepted, replyTo, reply}
-use Rattle.model.specs.Calls.{Call, Proper, State, start, makeAll, anyAccepted, removedBy, starting, remaining}
-use Rattle.model.specs.Promises.{Tells, Marked, Supports, Answered, givenTuples, leftTuples, Filtered, StrikeRule, Apart, Local}
+use Rattle.model.specs.Reply.{Reply, lowestEmpty, answerFor, answerNumbers, remainder, countsFor, leaving, accepted, replyTo, reply, verdictNumbers, comparisonNumbers, verdictFor, comparisonFor, testReply, compareReply}
+use Rattle.model.specs.Calls.{Call, Proper, Made, callsOf, State, start, AllKeep, makeAll, anyAccepted, removedBy, starting, remaining}
+use Rattle.model.specs.Promises.{Tells, Marked, Supports, NoFault, FirstFault, Answered, givenTuples, leftTuples, Filtered, StrikeRule, Apart, Local, Claim, Decides, TestAnswered, FitShared, CompareAnswered}
+use Rattle.model.proofs.Bools.{false-intro}
 use Rattle.model.proofs.TupleSet.{without-length}
 use Rattle.model.proofs.Network.{relationOf-ids, ids-below}
+use Rattle.model.proofs.Agreement.{clash-none, fits-none, agreeing-intro, agreeing-at}
 use Rattle.model.proofs.Support.{firstSupport-dead, firstSupport-least}
-use Rattle.model.proofs.Consistency.{supported-at, filtered-largest, filtered-unique, filtered-alone, supportList-length}
+use Rattle.model.proofs.Consistency.{supported-at, isConsistent-iff, filtered-largest, filtered-unique, filtered-alone, supportList-length}
 use Rattle.model.proofs.Solution.{isSolution-filtered, isSolution-empty}
 use Rattle.model.proofs.Locality.{filtered-far}
 use Rattle.model.proofs.LiveWords.{written-isLive, written-length, living-written, living-length, living-has}
-use Rattle.model.proofs.Fault.{none-firstFault, firstFault-some, accepts-words, accepts-exist}
+use Rattle.model.proofs.Fault.{no-fault-at, none-firstFault, firstFault-some, accepts-words, accepts-exist}
 use Rattle.model.proofs.Reply.{reply-accepted, lowestEmpty-first, answerFor-tells, answerFor-kind, emptied-low, remainder-length, leaving-sum}
-use Rattle.model.proofs.Calls.{makeAll-accepted, makeAll-none}
+use Rattle.model.proofs.Calls.{afterAll-makeAll, makeAll-accepted, makeAll-none, lists-kept}
 
 -- ---- The calls' faults, in checking order
 
@@ -56,6 +59,10 @@ test-checks I ws = refl
 pub compare-checks : (N : Network) (g h : ℕ) → map (λ (f : Fault). f .0) (compareFaults N g h) ≡ from 2 5 ++ (13 ∷ [])
 unfolding compareFaults
 compare-checks N g h = refl
+
+-- a table's first fault is the one that is found
+first-fault : {n : ℕ} {fs : List Fault} → FirstFault n fs → firstFault fs ≡ some n
+first-fault {n} f = ap firstFault (f .2) ∙ firstFault-some (f .0) (f .1) n (f .3)
 
 -- what is written of a set of tuples is marked by it
 marked-written : (N : Network) (L : TupleSet) (ws : List ℕ) → Marked N L ws (written (total N) L ws)
@@ -102,7 +109,7 @@ module _ (q : Request) where
         accepted = λ h. subst (λ (p : Reply). ((p .answer) .kind ≡ 0) ⊎ ((p .answer) .kind ≡ 1))
             (sym (ap (λ (o : Option ℕ). replyTo o q) (none-firstFault (faults q) h)))
             (answerFor-kind N left counts (decLt (lowestEmpty N left) (length (N .relations))));
-        first = λ before after n e h. ap (λ (o : Option ℕ). replyTo o q) (ap firstFault e ∙ firstFault-some before after n h);
+        first = λ n f. ap (λ (o : Option ℕ). replyTo o q) (first-fault f);
       }
 
   -- ---- Point 2
@@ -162,25 +169,23 @@ module _ (q : Request) where
 
 module _ (I : Instance) (ws : List ℕ) (calls : List Call) (proper : Proper I ws calls) where
   -- the strike rule
-  pub strike-rule : anyAccepted ws calls ≡ true → StrikeRule I ws calls (makeAll (start ws) calls)
+  strike-rule : anyAccepted ws calls ≡ true → StrikeRule I ws calls (makeAll (start ws) calls)
   unfolding remaining leaving
   strike-rule h =
       let after = makeAll-accepted I ws calls proper h in
       let L = filtered (I .network) (combinationsOf I) (without (removedBy I ws calls) (starting I ws)) in
+      let largest = filtered-largest (I .network) (combinationsOf I) (without (removedBy I ws calls) (starting I ws)) in
       let tells = answerFor-tells (I .network) L (after .counts) (after .left) in
       record {
+        largest = largest;
         marked = subst (Marked (I .network) L ws) (sym (after .words)) (marked-written (I .network) L ws);
         call = after .call;
         reply = leaving I L (after .counts) ws ((after .call) .supports);
         last = after .last;
-        supports = supports-consistent I L ((after .call) .supports) (filtered-largest (I .network) (combinationsOf I) (without (removedBy I ws calls) (starting I ws)) .consistent);
+        supports = supports-consistent I L ((after .call) .supports) (largest .consistent);
         tells = tells;
         sum = omega (arith, after .sum, tells .left);
       }
-
-  -- a list with no accepted call writes nothing
-  pub nothing-written : anyAccepted ws calls ≡ false → makeAll (start ws) calls ≡ start ws
-  nothing-written h = makeAll-none ws calls h
 
   -- locality: what is far from every removed tuple stays
   local-case : Consistent (supported (I .network) (combinationsOf I)) (starting I ws) → (r : ℕ) → Apart I ws calls r → (g : ℕ) → List·Memᴰ g (idsOf (I .network) r) → (x : Bool) → anyAccepted ws calls ≡ x → isLive ((makeAll (start ws) calls) .words) g ≡ isLive ws g
@@ -197,5 +202,53 @@ module _ (I : Instance) (ws : List ℕ) (calls : List Call) (proper : Proper I w
       (λ h lives removed chain. apart h lives removed (subst (λ (s : ℕ). Chain (combinationsOf I) s (relationOf (I .network) h)) (relationOf-ids (I .network) r m) chain))
       ∙ living-has n ws g below
 
-  pub local : Local I ws calls (makeAll (start ws) calls)
+  local : Local I ws calls (makeAll (start ws) calls)
   local consistent r apart g m = local-case consistent r apart g m (anyAccepted ws calls) refl
+
+-- the single claim, of calls that keep their contracts
+pub claim : (I : Instance) (ws : List ℕ) (made : List Made) → Proper I ws (callsOf made) → AllKeep (start ws) made → Claim I ws made
+claim I ws made proper keep =
+    let same = afterAll-makeAll (start ws) made keep in
+    record {
+      rule = λ e. subst (StrikeRule I ws (callsOf made)) (sym same) (strike-rule I ws (callsOf made) proper e);
+      nothing = λ e. record { state = same ∙ makeAll-none ws (callsOf made) e; lists = lists-kept ws (start ws) made refl keep e };
+      local = subst (Local I ws (callsOf made)) (sym same) (local I ws (callsOf made) proper);
+    }
+
+-- ---- Test and compare
+
+-- an answer that is told by the first fault and by a test of the claim
+module _ (numbers : Option ℕ → Bool → ℕ × ℕ) (fs : List Fault) (claim : Type 0) (b : Bool) (holds : (b ≡ true) ↔ claim) (says-yes : numbers none true ≡ (1, 0)) (says-no : numbers none false ≡ (0, 0)) (refuses : (f : ℕ) (x : Bool) → numbers (some f) x ≡ (2, f)) where
+  only-yes : (o : Option ℕ) → firstFault fs ≡ o → (x : Bool) → b ≡ x → (numbers o x) .0 ≡ 1 → NoFault fs × claim
+  only-yes none e true t k = (λ f m. no-fault-at fs e m, holds .0 t)
+  only-yes none e false t k = absurd (omega (arith, k, ap (λ (n : ℕ × ℕ). n .0) says-no))
+  only-yes (some f) e x t k = absurd (omega (arith, k, ap (λ (n : ℕ × ℕ). n .0) (refuses f x)))
+
+  decides : Decides fs claim (numbers (firstFault fs) b)
+  decides =
+      record {
+        yes = λ none-found t. ap₂ numbers (none-firstFault fs none-found) (holds .1 t) ∙ says-yes;
+        no = λ none-found d. ap₂ numbers (none-firstFault fs none-found) (false-intro b (λ t. d (holds .0 t))) ∙ says-no;
+        refused = λ f first. ap (λ (o : Option ℕ). numbers o b) (first-fault first) ∙ refuses f b;
+        only = only-yes (firstFault fs) refl b refl;
+      }
+
+pub test-answered : (I : Instance) (ws : List ℕ) → TestAnswered I ws (testReply I ws)
+unfolding testReply
+test-answered I ws =
+    decides (λ o x. verdictNumbers (verdictFor o x)) (testFaults I ws) (Consistent (supported (I .network) (combinationsOf I)) (starting I ws))
+    (isConsistent (I .network) (combinationsOf I) (starting I ws)) (isConsistent-iff (I .network) (combinationsOf I) (starting I ws))
+    refl refl (λ f x. refl)
+
+agree-iff : (N : Network) (g h : ℕ) → (agree N g h ≡ true) ↔ FitShared N g h
+unfolding agree
+agree-iff N g h = (
+  λ e x y mx my same. fits-none x y same (agreeing-at (cellsOf N g) (cellsOf N h) e mx my),
+  λ f. agreeing-intro (cellsOf N g) (cellsOf N h) (λ x y mx my. clash-none x y (f x y mx my)),
+)
+
+pub compare-answered : (N : Network) (g h : ℕ) → CompareAnswered N g h (compareReply N g h)
+unfolding compareReply
+compare-answered N g h =
+    decides (λ o x. comparisonNumbers (comparisonFor o x)) (compareFaults N g h) (FitShared N g h) (agree N g h) (agree-iff N g h)
+    refl refl (λ f x. refl)

@@ -48,6 +48,10 @@ before-size (R ∷ Rs) zero = omega arith
 before-size (R ∷ Rs) (suc r) = omega (arith, before-size Rs r)
 
 module _ (N : Network) where
+  pub size-total : (r : ℕ) → size N r ≤ total N
+  unfolding sizeAt
+  size-total r = omega (arith, before-size (N .relations) r)
+
   pub ids-below : {g : ℕ} (r : ℕ) → List·Memᴰ g (idsOf N r) → g < total N
   unfolding sizeAt
   ids-below {g} r m = omega (arith, from-mem (firstId N r) (size N r) g m, before-size (N .relations) r)

@@ -1,8 +1,8 @@
 -- Laws of replies: accepted or refused, the lowest empty relation, what the answer tells, and the sum of its counts.
 use mathlib.Core.Path.{_≡_, refl, sym, _∙_, ap}
 use mathlib.Core.Bool.{Bool, true, false, not, cond}
-use mathlib.Core.Option.{Option, none}
-use mathlib.Core.Logic.{_⊎_, inl, inr}
+use mathlib.Core.Option.{Option, none, some}
+use mathlib.Core.Logic.{_⊎_, inl, inr, ⊎-elim}
 use mathlib.Core.List.{List, _++_}
 use Prim.Native.Nat.{ℕ, _+_, _-_, _≤_, _<_}
 use native.Mathlib.Omega.{arith}
@@ -16,13 +16,13 @@ use Rattle.model.specs.TupleSet.{TupleSet, has, count, restrict, without
 use Rattle.model.specs.Network.{Network, total, size, firstId}
 use Rattle.model.specs.Consistency.{isConsistent, supportList, needed}
 use Rattle.model.specs.LiveWords.{isLive, living, nextLive, written}
-use Rattle.model.specs.Request.{Change, filter, Instance, combinationsOf, Request, removes}
-use Rattle.model.specs.Fault.{firstFault, refusal, changeFaults, faultsOn, faults, testFaults, isNone, accepts}
+use Rattle.model.specs.Request.{Change, Instance, combinationsOf, Request, removes}
+use Rattle.model.specs.Fault.{firstFault, refusal, within, faultsOn, faults, testFaults, isNone, accepts}
 use Rattle.model.specs.Reply.{Numbers, answerNumbers, verdictNumbers, verdictFor, Reply, isEmptied, lowestEmpty, answerFor, remainder, countsFor, leaving, accepted, refused, replyTo, reply, testReply}
 use Rattle.model.specs.Promises.{Tells}
 use Rattle.model.proofs.Bools.{not-both}
 use Rattle.model.proofs.Lists.{First, select-from, any-first}
-use Rattle.model.proofs.Fault.{isNone-none, isNone-some, refusal-some, refusal-none, refusal-shared, refusal-own, refusal-neither}
+use Rattle.model.proofs.Fault.{isNone-none, isNone-some, refusal-some, refusal-none, refusal-within, refusal-all}
 use Rattle.model.proofs.TupleSet.{without-count, without-length}
 use Rattle.model.proofs.Consistency.{filtered-length, filtered-count}
 use Rattle.model.proofs.LiveWords.{living-has, nextLive-first, written-written}
@@ -37,27 +37,18 @@ pub reply-refused : (q : Request) → accepts q ≡ false → (n : ℕ) × (repl
 unfolding accepts reply
 reply-refused q e = let k = isNone-some (firstFault (faults q)) e in (k .0, ap (λ (o : Option ℕ). replyTo o q) (k .1))
 
--- the reply from the numbers of two tests: of the faults that all change calls test, and of the change's own
+-- the reply from the number of its first fault
 module _ (q : Request) where
-  abbrev shared : ℕ
-  shared = refusal (firstFault (faultsOn (q .given) (length (q .words)) (length (q .supports)) filter))
+  abbrev number : ℕ
+  number = refusal (firstFault (faultsOn (q .given) (length (q .words)) (length (q .supports)) (q .change)))
 
-  abbrev own : ℕ
-  own = refusal (firstFault (changeFaults ((q .given) .network) (q .change)))
-
-  pub reply-shared : (k : ℕ) → k ≡ shared → (k ≡ 0 → ⊥) → reply q ≡ refused k q
+  pub reply-fault : (k : ℕ) → k ≡ number → (k ≡ 0 → ⊥) → reply q ≡ refused k q
   unfolding reply faults
-  reply-shared k e d =
-      ap (λ (o : Option ℕ). replyTo o q) (refusal-shared (q .given) (length (q .words)) (length (q .supports)) (q .change) k e d)
+  reply-fault k e d = ap (λ (o : Option ℕ). replyTo o q) (refusal-some (firstFault (faults q)) k (sym e) d)
 
-  pub reply-own : 0 ≡ shared → (k : ℕ) → k ≡ own → (k ≡ 0 → ⊥) → reply q ≡ refused k q
-  unfolding reply faults
-  reply-own h k e d =
-      ap (λ (o : Option ℕ). replyTo o q) (refusal-own (q .given) (length (q .words)) (length (q .supports)) (q .change) h k e d)
-
-  pub accepts-neither : 0 ≡ shared → 0 ≡ own → accepts q ≡ true
+  pub accepts-none : 0 ≡ number → accepts q ≡ true
   unfolding accepts faults
-  accepts-neither h e = ap isNone (refusal-neither (q .given) (length (q .words)) (length (q .supports)) (q .change) h e)
+  accepts-none e = ap isNone (refusal-all (q .given) (length (q .words)) (length (q .supports)) (q .change) (sym e))
 
 -- test's answer from the number of its first fault
 module _ (I : Instance) (ws : List ℕ) where
@@ -187,3 +178,29 @@ module _ (I : Instance) where
   leaving-written L R k words supports =
       ap (λ (x : List ℕ). record { answer = answerNumbers (answerFor (I .network) L k); words = x; supports = supportList (I .network) (combinationsOf I) L ++ drop (needed (I .network) (combinationsOf I)) supports })
       (written-written (total (I .network)) L R words)
+
+-- ---- A refusal
+
+module _ (q : Request) where
+  -- what an accepted request is answered is none
+  accepted-kind : ((accepted q) .answer) .kind ≡ 2 → ⊥
+  unfolding accepted leaving
+  accepted-kind e =
+      let I = q .given in
+      let S = living (total (I .network)) (q .words) in
+      let L = remainder I (q .change) S in
+      ⊎-elim (λ h. omega (arith, e, h)) (λ h. omega (arith, e, h))
+      (answerFor-kind (I .network) L (countsFor I (q .change) S) (decLt (lowestEmpty (I .network) L) (length (I .network .relations))))
+
+  kept-of : (o : Option ℕ) → firstFault (faults q) ≡ o → ((replyTo o q) .answer) .kind ≡ 2 → ((replyTo o q) .words ≡ q .words) × ((replyTo o q) .supports ≡ q .supports) × (within 2 14 (((replyTo o q) .answer) .subject) ≡ true)
+  unfolding faults
+  kept-of (some f) e k = (refl, refl, refusal-within (q .given) (length (q .words)) (length (q .supports)) (q .change) f e)
+  kept-of none e k = absurd (accepted-kind k)
+
+  -- it leaves the lists as lent, and its number is one of the published
+  pub reply-kept : ((reply q) .answer) .kind ≡ 2 → ((reply q) .words ≡ q .words) × ((reply q) .supports ≡ q .supports) × (within 2 14 (((reply q) .answer) .subject) ≡ true)
+  unfolding reply
+  reply-kept k = kept-of (firstFault (faults q)) refl k
+
+  pub refused-not : ((reply q) .answer) .kind ≡ 2 → accepts q ≡ true → ⊥
+  refused-not k a = accepted-kind (sym (ap (λ (p : Reply). (p .answer) .kind) (reply-accepted q a)) ∙ k)

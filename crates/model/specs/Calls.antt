@@ -3,7 +3,7 @@ use mathlib.Core.Path.{_≡_}
 use mathlib.Core.Bool.{Bool, false, _&&_, cond}
 use mathlib.Core.Option.{Option, none, some}
 use mathlib.Core.Logic.{_⊎_}
-use mathlib.Core.List.{List, [], _∷_, List·Memᴰ}
+use mathlib.Core.List.{List, [], _∷_, map, List·Memᴰ}
 use Prim.Native.Nat.{ℕ, _+_}
 use Rattle.model.specs.Lists.{any}
 use Rattle.model.specs.TupleSet.{TupleSet, without}
@@ -12,7 +12,7 @@ use Rattle.model.specs.Consistency.{filtered}
 use Rattle.model.specs.LiveWords.{living}
 use Rattle.model.specs.Request.{Change, Instance, combinationsOf, Request, removes}
 use Rattle.model.specs.Fault.{accepts}
-use Rattle.model.specs.Reply.{Reply, reply}
+use Rattle.model.specs.Reply.{Reply, reply, Keeps}
 
 -- One call: an instance, live words of its own or else the shared ones, a support list and a change.
 pub record Call : Type 0 where
@@ -39,24 +39,43 @@ abbrev pub Proper : Instance → List ℕ → List Call → Type 0
 Proper I ws calls =
     (c : Call) → List·Memᴰ c calls → ((c .given ≡ I) × (c .own ≡ none)) ⊎ (accepts (callRequest ws c) ≡ false)
 
+-- A call that was made, with its reply.
+abbrev pub Made : Type 0
+Made = Call × Reply
+
+abbrev pub callsOf : List Made → List Call
+callsOf made = map (λ (c : Made). c .0) made
+
 -- The shared words, how many tuples were withdrawn and deleted so far, and the last accepted call with its reply.
 pub record State : Type 0 where
   pub words : List ℕ
   pub gone : ℕ
-  pub last : Option (Call × Reply)
+  pub last : Option Made
 
 abbrev pub start : List ℕ → State
 start ws = record { words = ws; gone = 0; last = none }
 
--- one call made
-unfoldable pub make : State → Call → State
-make st c =
-    let q = callRequest (st .words) c in
+-- the state after a call, by its reply
+abbrev pub after : State → Made → State
+after st c =
     record {
-      words = sharedAfter (c .own) (st .words) ((reply q) .words);
-      gone = st .gone + (((reply q) .answer) .withdrawn + ((reply q) .answer) .deleted);
-      last = cond (accepts q) (some (c, reply q)) (st .last);
+      words = sharedAfter ((c .0) .own) (st .words) ((c .1) .words);
+      gone = st .gone + (((c .1) .answer) .withdrawn + ((c .1) .answer) .deleted);
+      last = cond (accepts (callRequest (st .words) (c .0))) (some c) (st .last);
     }
+
+abbrev pub afterAll : State → List Made → State
+afterAll st [] = st
+afterAll st (c ∷ cs) = afterAll (after st c) cs
+
+-- each call is given the words that the last one left, and keeps its contract
+abbrev pub AllKeep : State → List Made → Type 0
+AllKeep st [] = Unit {0}
+AllKeep st (c ∷ cs) = Keeps (callRequest (st .words) (c .0)) (c .1) × AllKeep (after st c) cs
+
+-- one call made, replied to by the definition
+unfoldable pub make : State → Call → State
+make st c = after st (c, reply (callRequest (st .words) c))
 
 -- the calls made one after the other, each on the words that the last one left
 abbrev pub makeAll : State → List Call → State

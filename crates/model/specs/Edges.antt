@@ -2,9 +2,8 @@
 use mathlib.Core.List.{List, _++_}
 use Prim.Native.Nat.{ℕ, suc}
 use lib.ListN.{take}
-use Rattle.model.specs.Limits.{maxSupportNumbers}
 use Rattle.model.specs.Network.{Network}
-use Rattle.model.specs.Request.{Instance, Request}
+use Rattle.model.specs.Request.{Instance}
 use Rattle.model.specs.Reply.{Reply}
 
 -- 64 scopes of eight variables
@@ -34,16 +33,6 @@ cutNetwork N =
 
 abbrev pub cutInstance : Instance → Instance
 cutInstance I = record { network = cutNetwork (I .network); m = I .m; members = take (suc maxMemberList) (I .members) }
-
--- .. and as many words and support numbers as a call can need
-abbrev pub cutRequest : Request → Request
-cutRequest q =
-    record {
-      given = cutInstance (q .given);
-      words = take maxWords (q .words);
-      supports = take maxSupportNumbers (q .supports);
-      change = q .change;
-    }
 
 -- the reply with the words and the numbers that were cut off
 abbrev pub restored : List ℕ → List ℕ → Reply → Reply

@@ -8,6 +8,10 @@ use Rattle.model.specs.Limits.{wordBits}
 use Rattle.model.specs.Lists.{from, select, firstOr}
 use Rattle.model.specs.TupleSet.{TupleSet, has}
 
+-- how many words the bits of n ids take
+abbrev pub wordsFor : ℕ → ℕ
+wordsFor n = (n + 63) / wordBits
+
 -- bit k of a word, bit 0 lowest
 unfoldable pub bit : ℕ → ℕ → ℕ
 bit w k = w / 2 ^ k % 2

@@ -12,15 +12,16 @@ use Rattle.model.specs.Limits.{maxRelations, noSupport, wordBits}
 use Rattle.model.specs.Lists.{earlier}
 use Rattle.model.specs.TupleSet.{TupleSet, has, count, without, Largest, Consistent}
 use Rattle.model.specs.Network.{Network, total, idsOf, relationOf, indexOf}
+use Rattle.model.specs.Agreement.{Cell, fit, cellsOf}
 use Rattle.model.specs.Combination.{Combination, Chain}
 use Rattle.model.specs.Support.{candidates, isSupport, firstSupport}
 use Rattle.model.specs.Consistency.{supported, supportList, needed}
 use Rattle.model.specs.Solution.{Assignment, isSolution}
 use Rattle.model.specs.LiveWords.{isLive, living}
 use Rattle.model.specs.Request.{Instance, combinationsOf, Request, removes}
-use Rattle.model.specs.Fault.{Fault, faults}
+use Rattle.model.specs.Fault.{Fault, faults, testFaults, compareFaults}
 use Rattle.model.specs.Reply.{Numbers, Reply, isEmptied, refused}
-use Rattle.model.specs.Calls.{Call, State, removedBy, starting, remaining}
+use Rattle.model.specs.Calls.{Call, lentWords, Made, callsOf, State, start, afterAll, anyAccepted, removedBy, starting, remaining}
 
 -- ---- What an accepted call says and leaves of the tuples L
 
@@ -50,11 +51,19 @@ pub record Supports (I : Instance) (L : TupleSet) (lent after : List ℕ) : Type
 
 -- ---- Mission point 1
 
+-- a table has no fault
+abbrev pub NoFault : List Fault → Type 0
+NoFault fs = (f : Fault) → List·Memᴰ f fs → f .1 ≡ false
+
+-- n is its first fault in checking order
+abbrev pub FirstFault : ℕ → List Fault → Type 0
+FirstFault n fs = (before : List Fault) × (after : List Fault) × (fs ≡ before ++ ((n, true) ∷ after)) × NoFault before
+
 -- A request gets the reply p. It is answered Settled or Emptied where it has no listed fault. Otherwise the first fault in
 -- checking order is its refusal number, and every list is as lent.
 pub record Answered (q : Request) (p : Reply) : Type 0 where
-  pub accepted : ((f : Fault) → List·Memᴰ f (faults q) → f .1 ≡ false) → ((p .answer) .kind ≡ 0) ⊎ ((p .answer) .kind ≡ 1)
-  pub first : (before after : List Fault) (n : ℕ) → faults q ≡ before ++ ((n, true) ∷ after) → ((f : Fault) → List·Memᴰ f before → f .1 ≡ false) → p ≡ refused n q
+  pub accepted : NoFault (faults q) → ((p .answer) .kind ≡ 0) ⊎ ((p .answer) .kind ≡ 1)
+  pub first : (n : ℕ) → FirstFault n (faults q) → p ≡ refused n q
 
 -- ---- Mission point 2
 
@@ -81,10 +90,11 @@ pub record Filtered (q : Request) (p : Reply) : Type 0 where
 
 -- ---- Mission point 3
 
--- The strike rule, of a list with an accepted call and the state after it: the words, and the last accepted call's supports,
--- answer and tuples left are those of one filtering of the starting tuples without all that accepted calls removed; and the
--- number of starting tuples is those left and all withdrawn and deleted.
+-- The strike rule, of a list with an accepted call and the state after it. The tuples that remain are the largest consistent set of
+-- the starting tuples without all that accepted calls removed. They are marked in the words; the last accepted call's supports,
+-- answer and tuples left are theirs; and the number of starting tuples is those left and all withdrawn and deleted.
 pub record StrikeRule (I : Instance) (ws : List ℕ) (calls : List Call) (after : State) : Type 0 where
+  pub largest : Largest (supported (I .network) (combinationsOf I)) (without (removedBy I ws calls) (starting I ws)) (remaining I ws calls)
   pub marked : Marked (I .network) (remaining I ws calls) ws (after .words)
   pub call : Call
   pub reply : Reply
@@ -108,3 +118,36 @@ Local I ws calls after =
     → (g : ℕ)
     → List·Memᴰ g (idsOf (I .network) r)
     → isLive (after .words) g ≡ isLive ws g
+
+-- A list of calls wrote nothing: the shared words are as at the start, and every call left the words and the supports lent to it.
+pub record NothingWritten (ws : List ℕ) (made : List Made) : Type 0 where
+  pub state : afterAll (start ws) made ≡ start ws
+  pub lists : (c : Made) → List·Memᴰ c made → ((c .1) .words ≡ lentWords ((c .0) .own) ws) × ((c .1) .supports ≡ (c .0) .supports)
+
+-- The single claim about a list of calls made on one instance and its words.
+pub record Claim (I : Instance) (ws : List ℕ) (made : List Made) : Type 0 where
+  pub rule : anyAccepted ws (callsOf made) ≡ true → StrikeRule I ws (callsOf made) (afterAll (start ws) made)
+  pub nothing : anyAccepted ws (callsOf made) ≡ false → NothingWritten ws made
+  pub local : Local I ws (callsOf made) (afterAll (start ws) made)
+
+-- ---- Test and compare, which are lent nothing that they could write
+
+-- The numbers n of an answer: yes, if there is no fault and the claim holds; no, if there is none and it does not; and refused for
+-- the first fault. Yes is said of no other request.
+pub record Decides (fs : List Fault) (claim : Type 0) (n : ℕ × ℕ) : Type 0 where
+  pub yes : NoFault fs → claim → n ≡ (1, 0)
+  pub no : NoFault fs → (claim → ⊥) → n ≡ (0, 0)
+  pub refused : (f : ℕ) → FirstFault f fs → n ≡ (2, f)
+  pub only : n .0 ≡ 1 → NoFault fs × claim
+
+-- test: the live tuples are consistent
+abbrev pub TestAnswered : Instance → List ℕ → ℕ × ℕ → Type 0
+TestAnswered I ws n = Decides (testFaults I ws) (Consistent (supported (I .network) (combinationsOf I)) (starting I ws)) n
+
+-- the values of tuples g and h fit under every variable that both their scopes have
+abbrev pub FitShared : Network → ℕ → ℕ → Type 0
+FitShared N g h = (x y : Cell) → List·Memᴰ x (cellsOf N g) → List·Memᴰ y (cellsOf N h) → x .0 ≡ y .0 → fit (x .1) (y .1) ≡ true
+
+-- compare
+abbrev pub CompareAnswered : Network → ℕ → ℕ → ℕ × ℕ → Type 0
+CompareAnswered N g h n = Decides (compareFaults N g h) (FitShared N g h) n

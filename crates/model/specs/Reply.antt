@@ -1,4 +1,5 @@
 -- What each call answers, and what it leaves in the lists lent to it.
+use mathlib.Core.Path.{_≡_}
 use mathlib.Core.Bool.{Bool, true, false, not, cond}
 use mathlib.Core.Option.{Option, none, some}
 use mathlib.Core.List.{List, _++_}
@@ -138,3 +139,17 @@ testReply I ws =
 -- What compare answers: do the tuples with ids g and h agree. It writes nothing.
 unfoldable pub compareReply : Network → ℕ → ℕ → ℕ × ℕ
 compareReply N g h = comparisonNumbers (comparisonFor (firstFault (compareFaults N g h)) (agree N g h))
+
+-- ---- The contracts of the published calls, which they cite by these names
+
+-- A change call keeps its contract: q is its request at entry, p what it answers and leaves.
+abbrev pub Keeps : Request → Reply → Type 0
+Keeps q p = p ≡ reply q
+
+-- .. and test, whose answer has the numbers n
+abbrev pub Tested : Instance → List ℕ → ℕ × ℕ → Type 0
+Tested I words n = n ≡ testReply I words
+
+-- .. and compare
+abbrev pub Compared : Network → ℕ → ℕ → ℕ × ℕ → Type 0
+Compared N g h n = n ≡ compareReply N g h

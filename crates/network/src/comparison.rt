@@ -1,7 +1,7 @@
 // The call that compares two tuples by id.
 ghost use mathlib.Core.Path.{_≡_};
 ghost use Rattle.model.specs.Agreement.{agree};
-ghost use Rattle.model.specs.Reply.{comparisonNumbers, compareReply};
+ghost use Rattle.model.specs.Reply.{comparisonNumbers, Compared};
 ghost use Rattle.layout.specs.Loan.{entry};
 ghost use Rattle.layout.specs.Shape.{networkOf};
 ghost use Rattle.layout.specs.Setting.{lists, networkIn};
@@ -31,7 +31,7 @@ fn ids_agree(variables: &[u16], values: &[Value], starts: &Starts, g: u16, h: u1
 
 // Compares the tuples with ids g and h.
 pub fn compare(shape: Shape, variables: &[u16], values: &[Value], g: u16, h: u16) -> Comparison
-    ensures { λ a. ⌜ comparisonNumbers a ≡ compareReply (networkOf shape (entry variables) (entry values)) g h ⌝ }
+    ensures { λ a. ⌜ Compared (networkOf shape (entry variables) (entry values)) g h (comparisonNumbers a) ⌝ }
 {
     let f = fault(shape, variables, values);
     if f != 0 {

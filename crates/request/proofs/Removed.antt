@@ -26,14 +26,15 @@ use Rattle.model.proofs.TupleSet.{restrict-has, without-length}
 use Rattle.model.proofs.LiveWords.{words-ext, written-length, written-isLive, written-below, living-length, living-has, living-written, none-isLive, raised-length, raised-isLive, raised-below}
 use Rattle.live.proofs.Bits.{isSet-and, isSet-not}
 use Rattle.combination.specs.Proper.{below}
-use Rattle.request.specs.Removal.{added, above, IdsOf, Small, Full, Holds, Room, withoutIds}
+use Rattle.live.specs.Words.{Small, WordArray}
+use Rattle.request.specs.Removal.{added, above, IdsOf, Holds, Room, withoutIds}
 
 -- no id is set in words of noughts
-pub blank-full : Full (replicate 64 0)
+pub blank-full : WordArray (replicate 64 0)
 blank-full = record { long = refl; small = λ k h. let e = getD-replicate {A = ℕ} 64 k 0 0 h in omega arith }
 
 -- one id more
-pub raised-full : (g : ℕ) (ws : List ℕ) → Full ws → Full (raised g ws)
+pub raised-full : (g : ℕ) (ws : List ℕ) → WordArray ws → WordArray (raised g ws)
 raised-full g ws f =
     record {
       long = raised-length g ws ∙ f .long;
@@ -42,12 +43,12 @@ raised-full g ws f =
 
 -- ---- The ids of a list
 
-module _ (g : ℕ) (ws : List ℕ) (full : Full ws) where
-  pub added-full : Full (added g ws)
+module _ (g : ℕ) (ws : List ℕ) (full : WordArray ws) where
+  pub added-full : WordArray (added g ws)
   unfolding added
   added-full = go (ltb g maxTuples)
     where
-      go : (b : Bool) → Full (cond b (raised g ws) ws)
+      go : (b : Bool) → WordArray (cond b (raised g ws) ws)
       go true = raised-full g ws full
       go false = full
 
@@ -104,7 +105,7 @@ above-leb bound g n = go (ltb bound (g + 1)) refl
 -- The words and the bound are those of the ids before place i, and with those from there on of all that are listed.
 pub record Filled (ids words : List ℕ) (bound i : ℕ) : Type 0 where
   pub place : i ≤ length ids
-  pub full : Full words
+  pub full : WordArray words
   pub rest : (g : ℕ) → g < maxTuples → (isLive words g || elem g (drop i ids)) ≡ elem g ids
   pub high : (n : ℕ) → (leb bound n && below n (drop i ids)) ≡ below n ids
 
@@ -242,7 +243,7 @@ module _ (n : ℕ) (ws : List ℕ) where
 
 -- Words that hold the ids below n that pass.
 module _ (n : ℕ) (few : n ≤ maxTuples) (p : ℕ → Bool) (removed : List ℕ) (holds : Holds removed (λ (g : ℕ). ltb g n && p g)) where
-  pub holds-room : (words : List ℕ) → n ≤ wordBits * length words → Full removed → Room words removed n
+  pub holds-room : (words : List ℕ) → n ≤ wordBits * length words → WordArray removed → Room words removed n
   holds-room words enough full =
       record {
         few = few;

@@ -29,7 +29,8 @@ use Rattle.layout.specs.Setting.{Lists, networkIn, SoundLists}
 use Rattle.layout.proofs.SoundStarts.{relations-few, tuple-start, ids-rise}
 use Rattle.layout.proofs.Places.{exists, scope-length, values-length, value-at}
 use Rattle.layout.proofs.Columns.{column-found, column-none}
-use Rattle.request.specs.Removal.{Full, Holds, between, removedBy, removedIn, Added}
+use Rattle.live.specs.Words.{WordArray}
+use Rattle.request.specs.Removal.{Holds, between, removedBy, removedIn, Added}
 use Rattle.layout.proofs.Inside.{scope-proper, index-below, index-back, value-within}
 use Rattle.request.proofs.Removed.{blank-full, raised-full}
 
@@ -79,7 +80,7 @@ module _ (p : ℕ → Bool) where
       apart (no l) = rw (between-above a (a + 1) g (omega arith), ne-eqb a g (λ q. h (sym q))) refl
 
   module _ (ws : List ℕ) (a : ℕ) where
-    pub added-none : Full ws → Added ws ws (span a a)
+    pub added-none : WordArray ws → Added ws ws (span a a)
     added-none full =
         record { full = full; bits = λ g h. sym (ap (λ (x : Bool). isLive ws g || x) (span-none a g (decLt g a)) ∙ or-false (isLive ws g)) }
 
@@ -174,7 +175,7 @@ module _ {L : Lists} (laid : SoundLists L) (r : ℕ) (h : r < maxRelations) wher
             ∙ choose-without N x v r i index (column-none x (scopeOf N r) (omega (arith, scope-length laid r h)))
 
     -- a relation without the variable adds none
-    pub unlike-absent : (v : ℕ) (ws : List ℕ) → Full ws → width N r ≤ column → Added ws ws (removedIn L r (choose x v))
+    pub unlike-absent : (v : ℕ) (ws : List ℕ) → WordArray ws → width N r ≤ column → Added ws ws (removedIn L r (choose x v))
     unlike-absent v ws full l =
         record { full = full; bits = λ g _. sym (ap (λ (y : Bool). isLive ws g || y) (none g (decLt g (tupleStart xs r)) (decLt g (tupleStart xs (r + 1)))) ∙ or-false (isLive ws g)) }
       where
@@ -190,7 +191,7 @@ module _ {L : Lists} (laid : SoundLists L) (r : ℕ) (h : r < maxRelations) wher
 -- The words hold what the relations before r add.
 pub record Unlike (L : Lists) (x v : ℕ) (ws : List ℕ) (r : ℕ) : Type 0 where
   pub few : r ≤ length (recordsIn (L .starts))
-  pub full : Full ws
+  pub full : WordArray ws
   pub holds : Holds ws (λ (g : ℕ). between 0 (tupleStart (L .starts) r) g && removes (networkIn L) (choose x v) g)
 
 module _ {L : Lists} (laid : SoundLists L) (x v : ℕ) where

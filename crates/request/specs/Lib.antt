@@ -2,3 +2,4 @@
 pub mod Checks
 pub mod Removal
 pub mod Answer
+pub mod Plan

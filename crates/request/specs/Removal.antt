@@ -2,28 +2,20 @@
 use mathlib.Core.Path.{_≡_}
 use mathlib.Core.Bool.{Bool, false, _&&_, _||_, cond}
 use mathlib.Core.List.{List}
-use Prim.Native.Nat.{ℕ, _+_, _*_, _^_, _≤_, _<_}
+use Prim.Native.Nat.{ℕ, _+_, _*_, _≤_, _<_}
 use lib.Dec.{leb, ltb}
-use lib.ListN.{length, getD}
+use lib.ListN.{length}
 use Rattle.model.specs.Limits.{maxTuples, wordBits}
 use Rattle.model.specs.Lists.{elem}
 use Rattle.model.specs.TupleSet.{without}
 use Rattle.model.specs.Network.{Network, total}
 use Rattle.model.specs.LiveWords.{isLive, living, written, raised}
 use Rattle.model.specs.Request.{Change, removes}
+use Rattle.live.specs.Words.{WordArray}
 use Rattle.layout.specs.Starts.{tupleStart}
 use Rattle.layout.specs.Setting.{Lists, networkIn}
 use Rattle.combination.specs.Proper.{below}
 use Rattle.request.specs.declared.removal.Ids.{Ids}
-
--- every word is a number of 64 bits
-abbrev pub Small : List ℕ → Type 0
-Small ws = (k : ℕ) → k < length ws → getD ws k 0 < 2 ^ 64
-
--- The words of 4,096 ids.
-pub record Full (ws : List ℕ) : Type 0 where
-  pub long : length ws ≡ 64
-  pub small : Small ws
 
 -- of the ids below 4,096 the words hold those that pass
 abbrev pub Holds : List ℕ → (ℕ → Bool) → Type 0
@@ -61,14 +53,14 @@ removedIn L r change g = between (tupleStart (L .starts) r) (tupleStart (L .star
 
 -- The words vs are ws with the ids that pass besides.
 pub record Added (ws vs : List ℕ) (p : ℕ → Bool) : Type 0 where
-  pub full : Full vs
+  pub full : WordArray vs
   pub bits : (g : ℕ) → g < maxTuples → isLive vs g ≡ (isLive ws g || p g)
 
 -- There is a live bit for each of the n ids, and no other id is removed.
 pub record Room (words removed : List ℕ) (n : ℕ) : Type 0 where
   pub few : n ≤ maxTuples
   pub bits : n ≤ wordBits * length words
-  pub full : Full removed
+  pub full : WordArray removed
   pub inside : (g : ℕ) → n ≤ g → g < maxTuples → isLive removed g ≡ false
 
 -- the words once the ids below n that pass are dead, every other bit as it was

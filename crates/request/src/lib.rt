@@ -1,4 +1,5 @@
 // What the calls do before and after the filter: check the request, remove what the change removes, count and answer.
 pub mod checks; // the faults of a request, in checking order
 pub mod removal; // the tuples that a change removes
+pub mod plan; // both, for each change call
 pub mod answer; // what a change call answers

@@ -5,9 +5,10 @@ ghost use lib.ListN.{length};
 ghost use Rattle.model.specs.Limits.{maxRelations};
 ghost use Rattle.model.specs.LiveWords.{isLive};
 ghost use Rattle.model.specs.Request.{choose};
+ghost use Rattle.live.specs.Words.{WordArray};
 ghost use Rattle.layout.specs.Loan.{entry, exit};
 ghost use Rattle.layout.specs.Setting.{lists, networkIn, SoundLists};
-ghost use Rattle.request.specs.Removal.{added, above, IdsOf, Full, Holds, removedBy, removedIn, Added, Room, withoutIds};
+ghost use Rattle.request.specs.Removal.{added, above, IdsOf, Holds, removedBy, removedIn, Added, Room, withoutIds};
 use layout::Starts;
 use layout::column_of;
 use layout::fit;
@@ -19,9 +20,9 @@ use layout::wide;
 use live::WORDS;
 use live::Words;
 use live::set;
+use live::words_for;
 use model::MAX_TUPLES;
 use model::Value;
-use model::WORD_BITS;
 
 // The ids of a list: those below 4,096 as words, and the least number above all.
 pub struct Ids {
@@ -66,7 +67,7 @@ fn unlike_in(
     v: Value,
     removed: &mut [u64],
 )
-    requires { ⌜ SoundLists (lists now variables values starts) × (r < maxRelations) × Full (now removed) ⌝ }
+    requires { ⌜ SoundLists (lists now variables values starts) × (r < maxRelations) × WordArray (now removed) ⌝ }
     ensures { λ _. ⌜ Added (entry removed) (exit removed) (removedIn (lists entry variables values starts) r (choose x v)) ⌝ }
 {
     let scope = variable_start(starts, r);
@@ -108,7 +109,7 @@ pub fn remove(words: &mut [u64], removed: &Words, n: u16)
     requires { ⌜ Room (now words) (now removed) n ⌝ }
     ensures { λ _. ⌜ exit words ≡ withoutIds n (isLive (entry removed)) (entry words) ⌝ }
 {
-    let end = (wide(n) + WORD_BITS - 1) / WORD_BITS;
+    let end = words_for(n);
     let mut i = 0;
     while i < end {
         words[i] = words[i] & !removed[i];

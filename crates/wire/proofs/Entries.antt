@@ -8,8 +8,8 @@ use native.Mathlib.Numerals.{add-one}
 use native.Mathlib.Omega.{arith}
 use lib.Arith.{mod-mul}
 use lib.ListN.{length, take, drop, getD, set, length-append, length-drop, length-set, take-append-drop, drop-of-length-le}
-use lib.Seq.{drop-cons, drop-nil, drop-drop, drop-at, take-nil, take-suc, take-at, take-length, take-all, length-take-le, getD-drop, set-at, sets-eq}
-use Rattle.wire.specs.Entries.{value, bytesOf, entryAt, entries, bytes, entries16, Filled}
+use lib.Seq.{drop-cons, drop-nil, drop-drop, drop-at, take-nil, take-suc, take-take, take-at, take-length, take-all, length-take-le, getD-drop, set-at, sets-eq}
+use Rattle.wire.specs.Entries.{value, bytesOf, entryAt, entries, bytes, entries16, entries64, Filled}
 
 -- every byte of a list is one
 abbrev pub Bytes : List ℕ → Type 0
@@ -81,6 +81,10 @@ pub entries16-length : (bs : List ℕ) → length (entries16 bs) ≡ length bs /
 unfolding entries16
 entries16-length bs = entries-length 2 (length bs / 2) bs
 
+pub entries64-length : (bs : List ℕ) → length (entries64 bs) ≡ length bs / 8
+unfolding entries64
+entries64-length bs = entries-length 8 (length bs / 8) bs
+
 pub entries16-at : (bs : List ℕ) (i : ℕ) → i < length bs / 2 → getD (entries16 bs) i 0 ≡ entryAt 2 bs i
 unfolding entries16
 entries16-at bs i h = entries-at 2 (length bs / 2) bs i h
@@ -131,6 +135,43 @@ pub entries-below : (k n : ℕ) (bs : List ℕ) → Bytes bs → (i : ℕ) → g
 entries-below k zero bs h i = one-le-pow k 256 (omega arith)
 entries-below k (suc n) bs h zero = value-below k bs h
 entries-below k (suc n) bs h (suc i) = entries-below k n (drop k bs) (drop-bytes k bs h) i
+
+pub entries16-bytes : (xs : List ℕ) → ((i : ℕ) → getD xs i 0 < 65536) → entries16 (bytes 2 xs) ≡ xs
+unfolding entries16
+entries16-bytes xs h =
+    let n : length (bytes 2 xs) / 2 ≡ length xs = omega (arith, bytes-length 2 xs) in
+    ap (λ (k : ℕ). entries 2 k (bytes 2 xs)) n ∙ entries-bytes 2 xs h
+
+pub entries64-bytes : (xs : List ℕ) → ((i : ℕ) → getD xs i 0 < 2 ^ 64) → entries64 (bytes 8 xs) ≡ xs
+unfolding entries64
+entries64-bytes xs h =
+    let n : length (bytes 8 xs) / 8 ≡ length xs = omega (arith, bytes-length 8 xs) in
+    ap (λ (k : ℕ). entries 8 k (bytes 8 xs)) n ∙ entries-bytes 8 xs h
+
+-- the bytes of entries are bytes
+bytesOf-bytes : (k x : ℕ) (bs : List ℕ) → Bytes bs → Bytes (bytesOf k x ++ bs)
+bytesOf-bytes zero x bs h i = h i
+bytesOf-bytes (suc k) x bs h zero = omega arith
+bytesOf-bytes (suc k) x bs h (suc i) = bytesOf-bytes k (x / 256) bs h i
+
+pub bytes-bytes : (k : ℕ) (xs : List ℕ) → Bytes (bytes k xs)
+bytes-bytes k [] i = omega arith
+bytes-bytes k (x ∷ xs) i = bytesOf-bytes k x (bytes k xs) (bytes-bytes k xs) i
+
+drop-take : (j k : ℕ) (bs : List ℕ) → drop j (take (j + k) bs) ≡ take k (drop j bs)
+drop-take zero k bs = rw zero-add
+drop-take (suc j) k [] = rw (suc-add, take-nil)
+drop-take (suc j) k (b ∷ bs) = rw suc-add (drop-take j k bs)
+
+-- the first entries are those of the first bytes
+pub entries-take : (k n m : ℕ) (bs : List ℕ) → n ≤ m → entries k n (take (k * n) bs) ≡ take n (entries k m bs)
+entries-take k zero m bs h = refl
+entries-take k (suc n) zero bs h = absurd (not-suc-le-zero h)
+entries-take k (suc n) (suc m) bs h =
+    let e : k * suc n ≡ k + k * n = mul-suc k n ∙ add-comm (k * n) k in
+    let first : take k (take (k * suc n) bs) ≡ take k bs = take-take k (k * suc n) bs (omega arith) in
+    let rest : drop k (take (k * suc n) bs) ≡ take (k * n) (drop k bs) = ap (λ (j : ℕ). drop k (take j bs)) e ∙ drop-take k (k * n) bs in
+    rw (first, rest) (ap (λ (r : List ℕ). value (take k bs) ∷ r) (entries-take k n m (drop k bs) (omega arith)))
 
 -- encoded from their entries, the bytes of whole entries are the same
 pub bytes-entries : (k n : ℕ) (bs : List ℕ) → length bs ≡ k * n → Bytes bs → bytes k (entries k n bs) ≡ bs

@@ -15,15 +15,19 @@ abbrev verdict : Bool → ℕ
 verdict b = refusal (cond b (some 11) none)
 
 returns : tie.Need-returns
-returns c = let args = c .before .before .args in ap verdict (sym (lt-ltb (args .words * 64) (args .tuples) (omega arith)))
+returns c =
+    let args = c .before .before .args in
+    ap verdict (sym (lt-ltb (args .words * 64) (args .tuples) (omega (arith, c .if1 .taken, c .before .words-for .ensures))))
 
 returns-2 : tie.Need-returns-2
-returns-2 c = let args = c .before .before .args in ap verdict (sym (le-ltb (args .words * 64) (args .tuples) (omega arith)))
+returns-2 c =
+    let args = c .before .before .args in
+    ap verdict (sym (le-ltb (args .words * 64) (args .tuples) (omega (arith, c .if1 .left, c .before .words-for .ensures))))
 
 pub words-fault-spec : {M : Type 1} → statement M
 words-fault-spec =
     tie.close
     (tie.spec
-    (λ c κs. search needs) (λ c. search needs) (λ c. search needs)
+    (λ c κs. search needs)
     returns
     returns-2)

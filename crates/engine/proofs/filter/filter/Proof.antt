@@ -1,6 +1,6 @@
 -- `filter::filter` meets its contract: the tuples that live in the copy are those of the words, and the copy put back is
 -- what is written to the words. From the contract of `settle`, and the laws of words copied and put back.
-use mathlib.Core.Path.{_≡_, sym, ap, subst, _∙_}
+use mathlib.Core.Path.{_≡_, ap, _∙_}
 use mathlib.Core.List.{List, _++_}
 use Prim.Native.Nat.{ℕ, _*_, _^_, _≤_, _<_}
 use native.Mathlib.Omega.{arith}
@@ -11,10 +11,10 @@ use Rattle.model.specs.TupleSet.{TupleSet}
 use Rattle.model.specs.Network.{total}
 use Rattle.model.specs.Consistency.{filtered, supportList, needed}
 use Rattle.model.specs.LiveWords.{written}
-use Rattle.model.proofs.LiveWords.{living-same, written-length, written-copy}
+use Rattle.model.proofs.LiveWords.{written-length}
+use Rattle.live.proofs.Copies.{copied-array, copied-living, copied-written}
 use Rattle.layout.specs.Setting.{Setting, network, listed, liveIn}
-use Rattle.engine.specs.Work.{WordArray}
-use Rattle.layout.proofs.SoundStarts.{tuples-few}
+use Rattle.layout.proofs.SoundStarts.{tuple-count, tuples-few}
 use Rattle.layout.proofs.Outline.{needed-outline}
 use Rattle.engine.proofs.filter.filter.Statement.{statement}
 use Rattle.engine.proofs.filter.filter.Tie as tie
@@ -29,28 +29,41 @@ given s =
       m = a .m;
     }
 
-abbrev entry : tie.After-copied → tie.Start
-entry c = c .before .before .before .before .before .before .before .before .before
+-- ---- The needed words
+
+module _ (c : tie.After-words-for) where
+  abbrev entry : tie.Start
+  entry = c .before .before .before .before .before .before .before .before .before
+
+  abbrev n : ℕ
+  n = total (network (given entry))
+
+  abbrev words : List ℕ
+  words = entry .args .words .now
+
+  all : c .before .tuple-count .result ≡ n
+  all = c .before .tuple-count .ensures ∙ tuple-count (entry .pre .0 .laid .framed)
+
+  few : (c .words-for .result ≤ 64) × (c .words-for .result ≤ length words)
+  few = (
+    omega (arith, c .words-for .ensures, all, tuples-few (entry .pre .0 .laid .framed)),
+    omega (arith, c .words-for .ensures, all, entry .pre .1 .enough),
+  )
+
+  enough : n ≤ wordBits * c .words-for .result
+  enough = omega (arith, c .words-for .ensures, all)
+
+  small : (i : ℕ) → getD words i 0 < 2 ^ 64
+  small i = c .before .before .before .before .before .slice-known .given i .fits
 
 -- ---- The copy
 
-few : (c : tie.After-copied) → total (network (given (entry c))) ≤ wordBits * 64
-few c = tuples-few (entry c .pre .0 .laid .framed)
-
-small : (c : tie.After-copied) (i : ℕ) → getD (entry c .args .words .now) i 0 < 2 ^ 64
-small c i = c .before .before .before .before .before .slice-known .given i .fits
-
-array : (c : tie.After-copied) → WordArray (c .copied .result)
-array c =
-    let e = c .copied .ensures in
-    record {
-      long = e .0;
-      small = λ i h. subst (λ (w : ℕ). w < 2 ^ 64) (sym (e .1 i (omega (arith, e .0)))) (small c i);
-    }
+abbrev sized : tie.After-copied → tie.After-words-for
+sized c = c .before .before
 
 -- the same tuples live in it
-same : (c : tie.After-copied) → liveIn (given (entry c)) (c .copied .result) ≡ liveIn (given (entry c)) (entry c .args .words .now)
-same c = living-same (total (network (given (entry c)))) 64 (c .copied .result) (entry c .args .words .now) (few c) (c .copied .ensures .1)
+same : (c : tie.After-copied) → liveIn (given (entry (sized c))) (c .copied .result) ≡ liveIn (given (entry (sized c))) (words (sized c))
+same c = let w = sized c in copied-living (w .words-for .result) (words w) (c .copied .result) (c .copied .ensures) (n w) (enough w)
 
 abbrev copying : tie.After-settle → tie.After-copied
 copying c = c .before .before .before .before .before
@@ -60,34 +73,39 @@ copying c = c .before .before .before .before .before
 settle-requires : tie.Need-settle-requires
 settle-requires c κs =
     let k = c .before .before .before .before in
-    let s = entry k in (
-      (array k, k .before .before .prepare .ensures),
-      record { enough = omega (arith, few k, k .copied .ensures .0); short = s .pre .1 .short; room = s .pre .1 .room },
+    let w = sized k in
+    let s = entry w in (
+      (copied-array (w .words-for .result) (words w) (k .copied .result) (k .copied .ensures) (small w), w .before .before .prepare .ensures),
+      record { enough = omega (arith, enough w, few w .0, k .copied .ensures .long); short = s .pre .1 .short; room = s .pre .1 .room },
     )
 
 put-back-requires : tie.Need-put-back-requires
 put-back-requires c κs =
     let s = c .before .before .before .before in
     let k = copying s in
-    let G = given (entry k) in
-    ap length (s .settle .ensures .0)
-    ∙ written-length (total (network G)) (filtered (network G) (listed G) (liveIn G (k .copied .result))) (k .copied .result)
-    ∙ k .copied .ensures .0
+    let w = sized k in
+    let G = given (entry w) in (
+      ap length (s .settle .ensures .0)
+          ∙ written-length (total (network G)) (filtered (network G) (listed G) (liveIn G (k .copied .result))) (k .copied .result)
+          ∙ k .copied .ensures .long,
+      few w,
+    )
 
 returns : tie.Need-returns
 returns c =
     let s = c .before .before .before .before .before .before .before in
     let k = copying s in
-    let a = entry k .args in
-    let ws = a .words .now in
-    let G = given (entry k) in
+    let w = sized k in
+    let ws = words w in
+    let j = w .words-for .result in
+    let G = given (entry w) in
     let N = network G in
     let C = listed G in (
       c .before .before .put-back .ensures
-          ∙ ap (λ (xs : List ℕ). take (length ws) xs ++ drop 64 ws) (s .settle .ensures .0)
-          ∙ written-copy (total N) 64 (filtered N C (liveIn G (k .copied .result))) (k .copied .result) ws (k .copied .ensures .0) (k .copied .ensures .1) (λ i h. small k i) (few k)
+          ∙ ap (λ (xs : List ℕ). take j xs ++ drop j ws) (s .settle .ensures .0)
+          ∙ copied-written j ws (k .copied .result) (k .copied .ensures) (total N) (enough w) (filtered N C (liveIn G (k .copied .result))) (few w .0) (few w .1) (small w)
           ∙ ap (λ (S : TupleSet). written (total N) (filtered N C S) ws) (same k),
-      s .settle .ensures .1 ∙ ap (λ (S : TupleSet). supportList N C (filtered N C S) ++ drop (needed N C) (a .numbers .now)) (same k),
+      s .settle .ensures .1 ∙ ap (λ (S : TupleSet). supportList N C (filtered N C S) ++ drop (needed N C) (entry w .args .numbers .now)) (same k),
     )
 
 pub filter-spec : {M : Type 1} → statement M
@@ -95,7 +113,8 @@ filter-spec =
     tie.close
     (tie.spec
     (λ c κs. let s = c .before .before .before .before .before .before in (search needs, record { sound = s .pre .0; short = omega (arith, needed-outline (given s .lists) (listed (given s)), s .pre .1 .short) }))
-    (λ c κs. search needs)
+    (λ c κs. search needs) (λ c κs. search needs)
+    (λ c κs. few (c .before))
     settle-requires
     put-back-requires
     (λ c. search needs) (λ c. search needs)

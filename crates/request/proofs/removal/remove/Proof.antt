@@ -20,7 +20,7 @@ within c =
     let read = c .before .before in
     let start = read .before .before in
     let l = c .before .loop in
-    (omega (arith, start .pre .bits, start .pre .few, l .inv .0 .long, read .wide .ensures .0), omega (arith, start .pre .few, read .wide .ensures .0))
+    (omega (arith, start .pre .bits, start .pre .few, l .inv .0 .long, read .words-for .ensures), omega (arith, start .pre .few, read .words-for .ensures))
 
 loop-again : tie.Need-loop-again Inv-loop μ-loop
 loop-again c =
@@ -33,7 +33,7 @@ returns c =
     let read = c .before .before in
     let start = read .before .before in
     let l = c .before .loop in
-    cut-end _ _ (l .words) (l .i) (l .inv .0) (start .args .n) (start .pre) (λ i _. read .before .slice-known .given i .fits) (omega (arith, read .wide .ensures .0))
+    cut-end _ _ (l .words) (l .i) (l .inv .0) (start .args .n) (start .pre) (λ i _. read .before .slice-known .given i .fits) (omega (arith, read .words-for .ensures))
 
 pub remove-spec : {M : Type 1} → statement M
 remove-spec =
@@ -41,7 +41,7 @@ remove-spec =
     (tie.spec
     Inv-loop
     μ-loop
-    (λ c κs. search needs) (λ c. search needs) (λ c. search needs)
+    (λ c κs. search needs)
     (λ c. (cut-start _ _, search needs))
     (λ c. omega (arith, within c))
     (λ c. omega (arith, within (c .before)))

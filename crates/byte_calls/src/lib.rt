@@ -1,0 +1,6 @@
+// The calls on lists of bytes: decode what is needed, make the call, and encode what it gives and leaves.
+pub mod change; // filter, withdraw and choose
+pub mod reading; // test and compare
+
+// The answer where a list is not a whole number of entries: refused, number 1.
+pub const NOT_WHOLE: u64 = 258;

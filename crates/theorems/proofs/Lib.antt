@@ -1,0 +1,2 @@
+-- The three points of the functions for C.
+pub mod Bytes
