@@ -1,5 +1,6 @@
--- How a relation is read from its record, its scope and its values, and relations one by one, behind those read before.
--- From the definitions of `readRecord`, `readRelation` and `readRelations`.
+-- How a relation is read from its record, its scope and its values, and relations one by one, behind those read before; their records
+-- in the shape, and the noughts behind them.
+-- From the definitions of `readRecord`, `readRelation`, `readRelations` and `shapeOf`.
 use mathlib.Core.Path.{_≡_, refl, sym, ap, ap₂, subst, _∙_}
 use mathlib.Core.Bool.{Bool, true, false, _&&_, cond}
 use mathlib.Core.Option.{none, some}
@@ -186,13 +187,14 @@ records-more r widths tuples w n h l =
     (map-from-same (recordAt S') (recordAt S) 0 r (λ i z b. ap₂ (λ (x y : ℕ). record { width = x; tuples = y }) (getD-set-other widths r i w 0 (λ e. omega arith)) (getD-set-other tuples r i n 0 (λ e. omega arith))))
     last
 
--- .. and noughts behind them
+-- one number more before the noughts
 padded-more : (n : ℕ) (xs : List ℕ) (x : ℕ) → length xs < n → padded n (xs ++ (x ∷ [])) ≡ set (padded n xs) (length xs) x
 unfolding padded
 padded-more zero xs x h = absurd (omega arith)
 padded-more (suc n) [] x h = refl
 padded-more (suc n) (y ∷ xs) x h = ap (λ (ys : List ℕ). y ∷ ys) (padded-more n xs x (le-of-suc-le-suc h))
 
+-- .. of each record
 numbers-more : (f : Relation → ℕ) (Rs : List Relation) (R : Relation) (r : ℕ) (xs : List ℕ) → length Rs ≡ r → r < maxRelations
     → xs ≡ padded maxRelations (map f Rs) → set xs r (f R) ≡ padded maxRelations (map f (Rs ++ (R ∷ [])))
 numbers-more f Rs R r xs c h e =
@@ -206,6 +208,7 @@ module _ (r : ℕ) (widths tuples : List ℕ) where
   abbrev shape : Shape
   shape = record { count = r; widths = widths; tuples = tuples }
 
+  -- behind one record more there are still noughts
   pub blank-more : (w n : ℕ) → r < maxRelations → r < length widths → r < length tuples → IsBlankBehind shape → IsBlankBehind (record { count = r + 1; widths = set widths r w; tuples = set tuples r n })
   unfolding shapeOf
   blank-more w n h k l e =
@@ -218,6 +221,7 @@ module _ (r : ℕ) (widths tuples : List ℕ) where
       let taken : record { count = r + 1; widths = set widths r w; tuples = set tuples r n } ≡ shapeOf (Rs ++ (R ∷ [])) = λ j. record { count = counts j; widths = ws j; tuples = ts j } in
       taken ∙ ap shapeOf (sym (records-more r widths tuples w n k l))
 
+-- before the first record is read there are noughts only
 pub blank-start : (count : ℕ) (S : Shape) → S ≡ blankShape count → IsBlankBehind (record { count = 0; widths = S .widths; tuples = S .tuples })
 unfolding padded shapeOf relationsOf
 blank-start count S e = subst (λ (T : Shape). IsBlankBehind (record { count = 0; widths = T .widths; tuples = T .tuples })) (sym e) refl
