@@ -1,12 +1,14 @@
 // The desk's listing: a text read, its network filtered, and the reply written as a text.
 ghost use mathlib.Core.Path.{_≡_};
 ghost use mathlib.Core.Option.{none, some};
+ghost use mathlib.Core.List.{_++_};
 ghost use Prim.Native.Nat.{_≤_};
-ghost use lib.ListN.{length, take};
+ghost use lib.ListN.{length, take, drop};
 ghost use Rattle.model.specs.Text.{textOf};
 ghost use Rattle.model.specs.Listing.{linesFor, listing};
 ghost use Rattle.layout.specs.Loan.{entry, exit};
 ghost use Rattle.layout.specs.Shape.{instanceOf};
+ghost use Rattle.printing.specs.Appended.{Appended};
 use changes::filter;
 use layout::Shape;
 use live::WORDS;
@@ -22,8 +24,7 @@ use reading::read;
 
 // Writes that a text is not in the form; the number of bytes written.
 fn refused(out: &mut [u8; OUTPUT]) -> usize
-    ensures count { λ n. ⌜ n ≤ length (exit out) ⌝ }
-    ensures text { λ n. ⌜ take n (exit out) ≡ textOf (linesFor none) ⌝ }
+    ensures { λ n. ⌜ Appended (textOf (linesFor none)) (entry out) 0 (exit out) n ⌝ }
 {
     let fields = [2u16, 1, 0, 0];
     line(out, 0, &fields)
@@ -38,8 +39,7 @@ fn filtered(
     members: &[u16],
     out: &mut [u8; OUTPUT],
 ) -> usize
-    ensures count { λ n. ⌜ n ≤ length (exit out) ⌝ }
-    ensures text { λ n. ⌜ take n (exit out) ≡ textOf (linesFor (some (instanceOf shape (entry variables) (entry values) m (entry members)))) ⌝ }
+    ensures { λ n. ⌜ Appended (textOf (linesFor (some (instanceOf shape (entry variables) (entry values) m (entry members))))) (entry out) 0 (exit out) n ⌝ }
 {
     let mut words = [u64::MAX; WORDS];
     let mut supports = [0u16; MAX_SUPPORT_NUMBERS];
@@ -55,10 +55,10 @@ fn filtered(
     print(shape, variables, values, answer, &words, out)
 }
 
-// The listing of a text of any length, at the front of the buffer; the number of bytes written.
+// Writes the listing of a text of any length at the front of the buffer, which behind it stays as lent; the number of bytes written.
 pub fn listing(text: &[u8], out: &mut [u8; OUTPUT]) -> usize
-    ensures count { λ n. ⌜ (n ≤ length (exit out)) × (n ≡ length (take n (exit out))) ⌝ }
-    ensures text { λ n. ⌜ take n (exit out) ≡ listing (entry text) ⌝ }
+    ensures room { λ n. ⌜ (n ≤ length (exit out)) × (n ≡ length (take n (exit out))) ⌝ }
+    ensures text { λ n. ⌜ (n ≡ length (listing (entry text))) × (exit out ≡ listing (entry text) ++ drop n (entry out)) ⌝ }
 {
     let mut variables = [0u16; MAX_VARIABLES];
     let mut values = [0u16; MAX_VALUES];

@@ -16,6 +16,7 @@ use Rattle.model.specs.Reply.{answerNumbers, replied}
 use Rattle.model.specs.Text.{textOf}
 use Rattle.model.specs.Listing.{tupleLine, replyLines}
 use Rattle.layout.specs.Starts.{tupleStart, valueStart, recordsIn, SoundStarts}
+use Rattle.printing.specs.Appended.{Appended}
 
 -- the most bytes of a field: five digits, and the byte that ends it
 abbrev pub fieldRoom : ℕ
@@ -60,6 +61,7 @@ pub record Accepted (N : Network) (words : List ℕ) : Type 0 where
   pub faultless : firstFault (networkFaults N) ≡ none
   pub enough : total N ≤ wordBits * length words
 
--- the text of the reply that has this answer and leaves these words, with any supports
-abbrev pub IsReply : List ℕ → Network → Answer → List ℕ → Type 0
-IsReply text N answer words = (supports : List ℕ) → text ≡ textOf (replyLines N (replied answer words supports))
+-- the text of the reply that has this answer and leaves these words, with any supports, is at the front of the buffer `after`
+abbrev pub Printed : Network → Answer → List ℕ → List ℕ → List ℕ → ℕ → Type 0
+Printed N answer words before after n =
+    (supports : List ℕ) → Appended (textOf (replyLines N (replied answer words supports))) before 0 after n

@@ -1,13 +1,11 @@
 // The answer's line, and a whole reply.
 ghost use mathlib.Core.Path.{_≡_};
 ghost use mathlib.Core.Bool.{false};
-ghost use Prim.Native.Nat.{_≤_};
-ghost use lib.ListN.{length, take};
 ghost use Rattle.model.specs.Reply.{answerNumbers};
 ghost use Rattle.model.specs.Listing.{answerLine};
 ghost use Rattle.layout.specs.Loan.{entry, exit};
 ghost use Rattle.layout.specs.Shape.{networkOf};
-ghost use Rattle.printing.specs.Lines.{isRefusal, Accepted, IsReply};
+ghost use Rattle.printing.specs.Lines.{isRefusal, Accepted, Printed};
 use super::text::line;
 use super::tuples::tuple_lines;
 use layout::Shape;
@@ -50,8 +48,7 @@ pub fn print(
     out: &mut [u8; OUTPUT],
 ) -> usize
     requires { ⌜ (isRefusal answer ≡ false → Accepted (networkOf shape (now variables) (now values)) (now words)) ⌝ }
-    ensures count { λ n. ⌜ n ≤ length (exit out) ⌝ }
-    ensures text { λ n. ⌜ IsReply (take n (exit out)) (networkOf shape (entry variables) (entry values)) answer (entry words) ⌝ }
+    ensures { λ n. ⌜ Printed (networkOf shape (entry variables) (entry values)) answer (entry words) (entry out) (exit out) n ⌝ }
 {
     let fields = answer_fields(answer);
     let n = line(out, 0, &fields);

@@ -1,16 +1,16 @@
--- How a line is read field by field, and lines line by line, behind what was read before.
+-- How a line is read field by field, and lines line by line, behind what was read before; and what is kept behind them.
 -- From the definitions of `readLine` and `readLines`.
 use mathlib.Core.Path.{_≡_, refl, sym, ap, _∙_}
 use mathlib.Core.Bool.{Bool, true, false, cond}
 use mathlib.Core.Option.{none, some}
 use mathlib.Core.List.{List, [], _∷_, _++_, append-nil}
-use Prim.Native.Nat.{ℕ, zero, suc, _+_, _*_, _≤_, _<_}
+use Prim.Native.Nat.{ℕ, zero, suc, _+_, _-_, _*_, _≤_, _<_}
 use native.Mathlib.Nat.{suc-mul, mul-le-mul-right}
 use native.Mathlib.Numerals.{add-one}
 use native.Mathlib.Omega.{arith}
 use lib.Dec.{eqb}
 use lib.ListN.{length, take, drop, set}
-use lib.Seq.{take-suc-set}
+use lib.Seq.{take-suc-set, drop-drop}
 use Rattle.model.specs.Text.{newline, comma}
 use Rattle.model.specs.Reading.{Read, andThen, readField, readLine, readLines}
 use Rattle.reading.specs.Parts.{foundAt, behind}
@@ -19,6 +19,16 @@ use Rattle.reading.proofs.Found.{found-at, behind-behind, map-split, ma
 -- one entry more
 pub take-more : (xs : List ℕ) (i x : ℕ) → i < length xs → take (i + 1) (set xs i x) ≡ take i xs ++ (x ∷ [])
 take-more xs i x h = rw add-one (take-suc-set xs i x h)
+
+-- lists that are alike from entry k on are so from a later one on
+pub drop-later : (k n : ℕ) (xs ys : List ℕ) → k ≤ n → drop k xs ≡ drop k ys → drop n xs ≡ drop n ys
+drop-later k n xs ys h e =
+    let q : n ≡ k + (n - k) = omega arith in
+    ap (λ (i : ℕ). drop i xs) q
+    ∙ sym (drop-drop (n - k) k xs)
+    ∙ ap (drop (n - k)) e
+    ∙ drop-drop (n - k) k ys
+    ∙ ap (λ (i : ℕ). drop i ys) (sym q)
 
 -- a field before j others
 module _ (j k : ℕ) (T us : List ℕ) (h : 0 < j) (q : k ≡ j + 1) where

@@ -1,28 +1,30 @@
--- How a relation is read from its record, its scope and its values, and relations one by one, behind those read before.
--- From the definitions of `readRecord`, `readRelation` and `readRelations`.
-use mathlib.Core.Path.{_≡_, refl, sym, ap, ap₂, _∙_}
+-- How a relation is read from its record, its scope and its values, and relations one by one, behind those read before; their records
+-- in the shape, and the noughts behind them.
+-- From the definitions of `readRecord`, `readRelation`, `readRelations` and `shapeOf`.
+use mathlib.Core.Path.{_≡_, refl, sym, ap, ap₂, subst, _∙_}
 use mathlib.Core.Bool.{Bool, true, false, _&&_, cond}
 use mathlib.Core.Option.{none, some}
 use mathlib.Core.List.{List, [], _∷_, _++_, append-assoc, append-nil, map, map-append}
-use Prim.Native.Nat.{ℕ, suc, _+_, _-_, _≤_, _<_}
-use native.Mathlib.Nat.{zero-add, sub-zero}
+use Prim.Native.Nat.{ℕ, zero, suc, _+_, _-_, _≤_, _<_}
+use native.Mathlib.Nat.{le-of-suc-le-suc, zero-add, sub-zero}
 use native.Mathlib.Numerals.{add-one}
 use native.Mathlib.Omega.{arith}
 use borrow.Author.Tests.{le-leb, lt-leb, leb-true}
 use lib.Dec.{leb}
-use lib.ListN.{length, getD, take, drop, set}
+use lib.ListN.{length, getD, take, drop, set, length-append, length-map}
 use lib.Seq.{take-all, getD-set-same, getD-set-other}
 use Rattle.model.specs.declared.Relation.{Relation}
-use Rattle.model.specs.Limits.{maxWidth}
+use Rattle.model.specs.Limits.{maxRelations, maxWidth}
 use Rattle.model.specs.Lists.{from}
-use Rattle.model.specs.Network.{Network, size, noRelation}
+use Rattle.model.specs.Network.{Network, size, noRelation, variablesIn, tuplesIn}
 use Rattle.model.specs.Fault.{within}
 use Rattle.model.specs.Reading.{Read, andThen, readLine, readLines, readRelations}
 use Rattle.model.proofs.Bools.{and-left}
 use Rattle.model.proofs.Lists.{from-append, map-from-same}
 use Rattle.layout.specs.declared.Shape.{Shape}
-use Rattle.layout.specs.Shape.{recordAt, relationsOf, networkOf}
-use Rattle.reading.specs.Parts.{foundAt, mapRead, behind, append, single, unlisted, readRecord, readRelation}
+use Rattle.layout.specs.Shape.{padded, shapeOf, recordAt, relationsOf, networkOf}
+use Rattle.layout.proofs.Relations.{relation-count}
+use Rattle.reading.specs.Parts.{foundAt, mapRead, behind, append, single, unlisted, readRecord, readRelation, blankShape, IsBlankBehind}
 use Rattle.reading.proofs.Found.{found-at, behind-nil, map-split, map-found, passed-test}
 
 -- a line read into a list of its own
@@ -184,6 +186,45 @@ records-more r widths tuples w n h l =
     ∙ ap₂ (λ (Rs : List Relation) (R : Relation). Rs ++ (R ∷ []))
     (map-from-same (recordAt S') (recordAt S) 0 r (λ i z b. ap₂ (λ (x y : ℕ). record { width = x; tuples = y }) (getD-set-other widths r i w 0 (λ e. omega arith)) (getD-set-other tuples r i n 0 (λ e. omega arith))))
     last
+
+-- one number more before the noughts
+padded-more : (n : ℕ) (xs : List ℕ) (x : ℕ) → length xs < n → padded n (xs ++ (x ∷ [])) ≡ set (padded n xs) (length xs) x
+unfolding padded
+padded-more zero xs x h = absurd (omega arith)
+padded-more (suc n) [] x h = refl
+padded-more (suc n) (y ∷ xs) x h = ap (λ (ys : List ℕ). y ∷ ys) (padded-more n xs x (le-of-suc-le-suc h))
+
+-- .. of each record
+numbers-more : (f : Relation → ℕ) (Rs : List Relation) (R : Relation) (r : ℕ) (xs : List ℕ) → length Rs ≡ r → r < maxRelations
+    → xs ≡ padded maxRelations (map f Rs) → set xs r (f R) ≡ padded maxRelations (map f (Rs ++ (R ∷ [])))
+numbers-more f Rs R r xs c h e =
+    let k : length (map f Rs) ≡ r = length-map Rs f ∙ c in
+    ap (λ (ys : List ℕ). set ys r (f R)) e
+    ∙ ap (λ (i : ℕ). set (padded maxRelations (map f Rs)) i (f R)) (sym k)
+    ∙ sym (padded-more maxRelations (map f Rs) (f R) (omega arith))
+    ∙ ap (padded maxRelations) (sym (map-append f Rs (R ∷ [])))
+
+module _ (r : ℕ) (widths tuples : List ℕ) where
+  abbrev shape : Shape
+  shape = record { count = r; widths = widths; tuples = tuples }
+
+  -- behind one record more there are still noughts
+  pub blank-more : (w n : ℕ) → r < maxRelations → r < length widths → r < length tuples → IsBlankBehind shape → IsBlankBehind (record { count = r + 1; widths = set widths r w; tuples = set tuples r n })
+  unfolding shapeOf
+  blank-more w n h k l e =
+      let R : Relation = record { width = w; tuples = n } in
+      let Rs = relationsOf shape in
+      let c = relation-count shape in
+      let counts : r + 1 ≡ length (Rs ++ (R ∷ [])) = omega (arith, c, length-append Rs (R ∷ [])) in
+      let ws = numbers-more variablesIn Rs R r widths c h (ap (λ (S : Shape). S .widths) e) in
+      let ts = numbers-more tuplesIn Rs R r tuples c h (ap (λ (S : Shape). S .tuples) e) in
+      let taken : record { count = r + 1; widths = set widths r w; tuples = set tuples r n } ≡ shapeOf (Rs ++ (R ∷ [])) = λ j. record { count = counts j; widths = ws j; tuples = ts j } in
+      taken ∙ ap shapeOf (sym (records-more r widths tuples w n k l))
+
+-- before the first record is read there are noughts only
+pub blank-start : (count : ℕ) (S : Shape) → S ≡ blankShape count → IsBlankBehind (record { count = 0; widths = S .widths; tuples = S .tuples })
+unfolding padded shapeOf relationsOf
+blank-start count S e = subst (λ (T : Shape). IsBlankBehind (record { count = 0; widths = T .widths; tuples = T .tuples })) (sym e) refl
 
 -- before the first relation
 pub relations-start : (k room : ℕ) (T widths tuples : List ℕ) → mapRead (append (networkOf (record { count = 0; widths = widths; tuples = tuples }) [] [])) (readRelations (k - 0) room T) ≡ readRelations k room T

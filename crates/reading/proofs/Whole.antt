@@ -9,7 +9,7 @@ use native.Mathlib.Nat.{zero-add}
 use native.Mathlib.Omega.{arith}
 use borrow.Author.Tests.{le-leb, lt-leb, leb-true}
 use lib.Dec.{leb}
-use lib.ListN.{length, getD, take, drop-of-length-le}
+use lib.ListN.{length, getD, take, drop, drop-of-length-le}
 use lib.Seq.{drop-cons, length-take-le}
 use Rattle.model.specs.Limits.{maxRelations, maxTuples, minMembers, maxMembers, maxCombinations}
 use Rattle.model.specs.Network.{Network}
@@ -17,10 +17,12 @@ use Rattle.model.specs.Request.{Instance}
 use Rattle.model.specs.Fault.{within}
 use Rattle.model.specs.Text.{maxText}
 use Rattle.model.specs.Reading.{Read, andThen, readLine, readLines, readRelations, readInstance, whole, read}
-use Rattle.model.proofs.Bools.{and-left, and-right}
+use Rattle.model.proofs.Bools.{and-left, and-right, not-both}
+use Rattle.layout.specs.declared.Shape.{Shape}
+use Rattle.layout.specs.Shape.{instanceOf}
 use Rattle.reading.specs.declared.Book.{Book}
-use Rattle.reading.specs.Parts.{foundAt, mapRead, behind, Numbers, readHeading}
-use Rattle.reading.specs.Book.{found, Filled, Stands}
+use Rattle.reading.specs.Parts.{foundAt, mapRead, behind, IsBlankBehind, Numbers, readHeading}
+use Rattle.reading.specs.Book.{bookOf, found, Filled, Standing}
 use Rattle.reading.proofs.Found.{found-at, behind-nil, map-found, passed-test}
 
 -- ---- The heading
@@ -134,16 +136,26 @@ module _ (t : List ℕ) where
 
 -- ---- What stands in the lists
 
-pub filled : (n : ℕ) (xs : List ℕ) → n ≤ length xs → Filled n xs
-filled n xs h = record { within = h; count = sym (length-take-le n xs h) }
+pub filled : (ok : Bool) (n : ℕ) (xs₀ xs : List ℕ) → n ≤ length xs → length xs ≡ length xs₀ → (ok ≡ true → drop n xs ≡ drop n xs₀) → Filled ok n xs₀ xs
+filled ok n xs₀ xs h l kept = record { within = h; count = sym (length-take-le n xs h); long = l; rest = kept }
 
--- nothing was read
-pub stands-none : (t : List ℕ) (b : Book) (vs xs ms : List ℕ) → read t ≡ none → (b .ok ≡ false) × (b .variables ≡ 0) × (b .values ≡ 0) × (b .members ≡ 0) → Stands t b vs xs ms
-stands-none t b vs xs ms e h =
-    let absent : found b vs xs ms ≡ none = rw (h .0) in
-    record {
-      is-read = absent ∙ sym e;
-      variables-filled = filled (b .variables) vs (omega (arith, h .1));
-      values-filled = filled (b .values) xs (omega (arith, h .2));
-      members-filled = filled (b .members) ms (omega (arith, h .3));
-    }
+module _ (t : List ℕ) (vs₀ vs xs₀ xs ms₀ ms : List ℕ) where
+  -- nothing was read
+  pub stands-none : (b : Book) → read t ≡ none → b ≡ bookOf none → length vs ≡ length vs₀ → length xs ≡ length xs₀ → length ms ≡ length ms₀ → Standing t b vs₀ vs xs₀ xs ms₀ ms
+  stands-none b e h lv lx lm =
+      let refused : b .ok ≡ false = ap (λ (c : Book). c .ok) h in
+      record {
+        given = h ∙ ap bookOf (sym e);
+        is-read = ap (λ (c : Book). found c vs xs ms) h ∙ sym e;
+        variables-filled = filled (b .ok) (b .variables) vs₀ vs (omega (arith, ap (λ (c : Book). c .variables) h)) lv (λ k. absurd (not-both k refused));
+        values-filled = filled (b .ok) (b .values) xs₀ xs (omega (arith, ap (λ (c : Book). c .values) h)) lx (λ k. absurd (not-both k refused));
+        members-filled = filled (b .ok) (b .members) ms₀ ms (omega (arith, ap (λ (c : Book). c .members) h)) lm (λ k. absurd (not-both k refused));
+      }
+
+  -- an instance was read
+  pub stands-some : (S : Shape) (m v x k : ℕ) → IsBlankBehind S → read t ≡ some (instanceOf S (take v vs) (take x xs) m (take k ms))
+      → Filled true v vs₀ vs → Filled true x xs₀ xs → Filled true k ms₀ ms → Standing t (record { ok = true; shape = S; m = m; variables = v; values = x; members = k }) vs₀ vs xs₀ xs ms₀ ms
+  stands-some S m v x k blank e fv fx fk =
+      let I : Instance = instanceOf S (take v vs) (take x xs) m (take k ms) in
+      let whole-book : record { ok = true; shape = S; m = m; variables = v; values = x; members = k } ≡ bookOf (some I) = λ j. record { ok = true; shape = blank j; m = m; variables = fv .count j; values = fx .count j; members = fk .count j } in
+      record { given = whole-book ∙ ap bookOf (sym e); is-read = sym e; variables-filled = fv; values-filled = fx; members-filled = fk }

@@ -3,16 +3,17 @@ use mathlib.Core.Path.{_≡_}
 use mathlib.Core.Bool.{_&&_, cond}
 use mathlib.Core.Option.{none, some}
 use mathlib.Core.List.{List, [], _∷_, _++_}
-use Prim.Native.Nat.{ℕ, _+_, _*_}
+use Prim.Native.Nat.{ℕ, _+_, _*_, _<_}
 use lib.Dec.{leb, eqb}
-use lib.ListN.{getD, take, drop}
+use lib.ListN.{getD, take, drop, replicate}
 use Rattle.model.specs.declared.Relation.{Relation}
 use Rattle.model.specs.Limits.{maxRelations, maxWidth, minMembers, maxMembers, maxCombinations}
 use Rattle.model.specs.Network.{Network}
 use Rattle.model.specs.Fault.{within}
 use Rattle.model.specs.Reading.{Read, andThen, readLine, readLines}
 use Rattle.layout.specs.Loan.{Loan, entry, exit}
-use Rattle.layout.specs.Shape.{networkOf}
+use Rattle.layout.specs.declared.Shape.{Shape}
+use Rattle.layout.specs.Shape.{shapeOf, relationsOf, networkOf}
 use Rattle.reading.specs.declared.Heading.{Heading}
 use Rattle.reading.specs.declared.relations.Record.{Record}
 use Rattle.reading.specs.declared.relations.Listed.{Listed}
@@ -28,6 +29,10 @@ mapRead f R = andThen R (λ x. λ rest. some (f x, rest))
 -- the numbers us, and behind them those that were read
 abbrev pub behind : List ℕ → Read (List ℕ) → Read (List ℕ)
 behind us R = mapRead (λ (vs : List ℕ). us ++ vs) R
+
+-- from entry n on the list is as lent
+abbrev pub KeptFrom : ℕ → Loan → Type 0
+KeptFrom n xs = drop n (exit xs) ≡ drop n (entry xs)
 
 -- the relations of N, and behind them those of M
 abbrev pub append : Network → Network → Network
@@ -75,9 +80,21 @@ RelationRead text at room variables variable values value r =
     let after = single (recordOf r) (take (variable + r .width) (exit variables)) (take (value + r .tuples * r .width) (exit values)) in
     foundAt (r .next) after (entry text) ≡ mapRead (append before) (readRelation room (drop at (entry text)))
 
+-- so many records, all noughts
+abbrev pub blankShape : ℕ → Shape
+blankShape count = record { count = count; widths = replicate maxRelations 0; tuples = replicate maxRelations 0 }
+
+-- behind the last record there are noughts
+abbrev pub IsBlankBehind : Shape → Type 0
+IsBlankBehind S = S ≡ shapeOf (relationsOf S)
+
 -- the network of all relations read, whose scopes and values stand at the front of the lists
 abbrev pub listed : Listed → List ℕ → List ℕ → Network
 listed r variables values = networkOf (r .shape) (take (r .variables) variables) (take (r .values) values)
+
+-- once all relations are read: behind their records there are noughts, and behind their scopes and values the lists are as lent
+abbrev pub RestKept : Listed → Loan → Loan → Type 0
+RestKept r variables values = 0 < r .next → IsBlankBehind (r .shape) × KeptFrom (r .variables) variables × KeptFrom (r .values) values
 
 -- ---- The first line
 

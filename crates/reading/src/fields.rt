@@ -5,7 +5,7 @@ ghost use lib.ListN.{length, take, drop};
 ghost use Rattle.model.specs.Fault.{within};
 ghost use Rattle.model.specs.Reading.{readDigits, readField, readLine, readLines};
 ghost use Rattle.layout.specs.Loan.{entry, exit};
-ghost use Rattle.reading.specs.Parts.{foundAt, behind};
+ghost use Rattle.reading.specs.Parts.{foundAt, behind, KeptFrom};
 
 // Document 01's bytes, and its largest field. The model names them in specs/Text.antt.
 const NEWLINE: u8 = 10;
@@ -75,7 +75,8 @@ fn field(text: &[u8], at: usize, end: u8) -> Decimal
 // Reads a line of n fields into a list, from entry `start` on. Gives the position behind the line; 0 if there is no such line.
 pub fn line(text: &[u8], at: usize, n: usize, into: &mut [u16], start: usize) -> usize
     requires { ⌜ (0 < n) × (start + n ≤ length (now into)) ⌝ }
-    ensures { λ p. ⌜ foundAt p (take (start + n) (exit into)) (entry text) ≡ behind (take start (entry into)) (readLine n (drop at (entry text))) ⌝ }
+    ensures read { λ p. ⌜ foundAt p (take (start + n) (exit into)) (entry text) ≡ behind (take start (entry into)) (readLine n (drop at (entry text))) ⌝ }
+    ensures kept { λ _. ⌜ KeptFrom (start + n) into ⌝ }
 {
     let last = start + n - 1;
     let mut from = at;
@@ -97,7 +98,8 @@ pub fn line(text: &[u8], at: usize, n: usize, into: &mut [u16], start: usize) ->
 // Reads k lines of n fields each into a list, from entry `start` on. Gives the position behind them; 0 if there are no such lines.
 pub fn lines(text: &[u8], at: usize, k: usize, n: usize, into: &mut [u16], start: usize) -> usize
     requires { ⌜ (0 < at) × (0 < n) × (start + k * n ≤ length (now into)) ⌝ }
-    ensures { λ p. ⌜ foundAt p (take (start + k * n) (exit into)) (entry text) ≡ behind (take start (entry into)) (readLines k n (drop at (entry text))) ⌝ }
+    ensures read { λ p. ⌜ foundAt p (take (start + k * n) (exit into)) (entry text) ≡ behind (take start (entry into)) (readLines k n (drop at (entry text))) ⌝ }
+    ensures kept { λ _. ⌜ KeptFrom (start + k * n) into ⌝ }
 {
     let mut from = at;
     let mut to = start;

@@ -1,11 +1,11 @@
 // Reads the desk's text into the lists of a network and its combinations.
 ghost use mathlib.Core.Path.{_≡_};
-ghost use mathlib.Core.Bool.{false};
+ghost use mathlib.Core.Option.{none};
 ghost use Prim.Native.Nat.{_≤_};
 ghost use Rattle.model.specs.Limits.{maxRelations, maxMembers, maxCombinations};
-ghost use Rattle.layout.specs.Loan.{entry, exit};
+ghost use Rattle.layout.specs.Loan.{entry};
 ghost use Rattle.reading.specs.Parts.{foundAt, readHeading, numbersOf};
-ghost use Rattle.reading.specs.Book.{Stands};
+ghost use Rattle.reading.specs.Book.{bookOf, Stands};
 use fields::line;
 use fields::lines;
 use fields::within;
@@ -90,7 +90,7 @@ fn heading_of(text: &[u8]) -> Heading
 
 // Nothing was read.
 fn nothing() -> Book
-    ensures { λ b. ⌜ (b .ok ≡ false) × (b .variables ≡ 0) × (b .values ≡ 0) × (b .members ≡ 0) ⌝ }
+    ensures { λ b. ⌜ b ≡ bookOf none ⌝ }
 {
     Book {
         ok: false,
@@ -102,14 +102,15 @@ fn nothing() -> Book
     }
 }
 
-// Reads a text: the network's lists and the combinations' members go into the lists, from the front on.
+// Reads a text: the network's lists and the combinations' members go into the lists, from the front on. Behind them the lists stay
+// as lent; where the text is not in the form they may hold anything.
 pub fn read(
     text: &[u8],
     variables: &mut [u16; MAX_VARIABLES],
     values: &mut [Value; MAX_VALUES],
     members: &mut [u16; MAX_MEMBER_LIST],
 ) -> Book
-    ensures { λ b. ⌜ Stands (entry text) b (exit variables) (exit values) (exit members) ⌝ }
+    ensures { λ b. ⌜ Stands text b variables values members ⌝ }
 {
     if MAX_TEXT < text.len() {
         return nothing();

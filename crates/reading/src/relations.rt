@@ -6,7 +6,7 @@ ghost use Rattle.model.specs.Limits.{maxRelations, maxWidth, maxTuples};
 ghost use Rattle.model.specs.Reading.{readRelations};
 ghost use Rattle.model.specs.Edges.{maxVariables, maxValues};
 ghost use Rattle.layout.specs.Loan.{entry, exit};
-ghost use Rattle.reading.specs.Parts.{foundAt, readRecord, recordOf, RelationRead, listed};
+ghost use Rattle.reading.specs.Parts.{foundAt, KeptFrom, readRecord, recordOf, RelationRead, blankShape, listed, RestKept};
 use super::fields::line;
 use super::fields::lines;
 use super::fields::within;
@@ -66,7 +66,7 @@ fn relation_at(
 ) -> Record
     requires { ⌜ (variable + maxWidth ≤ length (now variables)) × (value + maxWidth * room ≤ length (now values)) ⌝ }
     ensures read { λ r. ⌜ RelationRead text at room variables variable values value r ⌝ }
-    ensures small { λ r. ⌜ (r .width ≤ maxWidth) × (r .tuples ≤ room) ⌝ }
+    ensures rest { λ r. ⌜ (r .width ≤ maxWidth) × (r .tuples ≤ room) × KeptFrom (variable + r .width) variables × KeptFrom (value + r .tuples * r .width) values ⌝ }
 {
     let r = record_at(text, at, room);
     let record_end = r.next;
@@ -77,8 +77,8 @@ fn relation_at(
     if scope_end == 0 {
         return Record {
             next: 0,
-            width: 0,
-            tuples: 0,
+            width: r.width,
+            tuples: r.tuples,
         };
     }
     let next = lines(text, scope_end, r.tuples, r.width, values, value);
@@ -100,7 +100,7 @@ pub struct Listed {
 
 // So many relation records, with nothing in them yet.
 pub fn blank(count: usize) -> Shape
-    ensures { λ s. ⌜ (s .count ≡ count) × (length (s .widths) ≡ maxRelations) × (length (s .tuples) ≡ maxRelations) ⌝ }
+    ensures { λ s. ⌜ s ≡ blankShape count ⌝ }
 {
     let none = [0u16; MAX_RELATIONS];
     Shape {
@@ -120,7 +120,7 @@ pub fn relations_at(
 ) -> Listed
     requires { ⌜ (0 < at) × (count ≤ maxRelations) × (maxVariables ≤ length (now variables)) × (maxValues ≤ length (now values)) ⌝ }
     ensures read { λ r. ⌜ foundAt (r .next) (listed r (exit variables) (exit values)) (entry text) ≡ readRelations count maxTuples (drop at (entry text)) ⌝ }
-    ensures small { λ r. ⌜ (r .variables ≤ maxVariables) × (r .values ≤ maxValues) ⌝ }
+    ensures rest { λ r. ⌜ (r .variables ≤ maxVariables) × (r .values ≤ maxValues) × RestKept r variables values ⌝ }
 {
     let mut shape = blank(count);
     let mut room = MAX_TUPLES;

@@ -1,11 +1,12 @@
 -- `filtered` writes what the change call replies where every tuple lives.
 -- From what the call and the printing ensure, and what an accepted reply gives.
-use mathlib.Core.Path.{_≡_, ap, _∙_}
+use mathlib.Core.Path.{_≡_, ap}
 use Rattle.model.specs.Request.{Instance}
 use Rattle.model.specs.Reply.{Reply, reply, replied}
 use Rattle.model.specs.Text.{textOf}
 use Rattle.model.specs.Listing.{allLive, fresh, replyLines}
 use Rattle.layout.specs.Shape.{networkOf, instanceOf}
+use Rattle.printing.proofs.Appended.{appended-same}
 use Rattle.desk.proofs.Fresh.{reply-printable}
 use borrow.Author.Needs.{needs}
 use Rattle.desk.proofs.filtered.Statement.{statement}
@@ -32,7 +33,8 @@ returns : tie.Need-returns
 returns c =
     let f = c .before .before .before .before .before in
     let a = start f .args in
-    (c .print .ensures .0, c .print .ensures .1 (f .filter .last .1 .1 .1 .1 .1 .1 .0) ∙ ap (λ (r : Reply). textOf (replyLines (networkOf (a .shape) (a .variables .now) (a .values .now)) r)) (answered f))
+    appended-same (ap (λ (r : Reply). textOf (replyLines (networkOf (a .shape) (a .variables .now) (a .values .now)) r)) (answered f))
+    (c .print .ensures (f .filter .last .1 .1 .1 .1 .1 .1 .0))
 
 pub filtered-spec : {M : Type 1} → statement M
 filtered-spec =

@@ -3,13 +3,17 @@
 use mathlib.Core.Path.{_≡_, sym, ap, _∙_}
 use mathlib.Core.Bool.{Bool, true, false, cond}
 use mathlib.Core.Option.{Option, none, some}
+use mathlib.Core.List.{List, _++_}
+use Prim.Native.Nat.{ℕ, _≤_}
 use borrow.Author.Tests.{not-true, not-false}
-use lib.ListN.{take}
+use lib.ListN.{length, take, drop}
 use lib.Seq.{length-take-le}
 use Rattle.model.specs.Request.{Instance}
 use Rattle.model.specs.Text.{textOf}
 use Rattle.model.specs.Listing.{linesFor, listing}
 use Rattle.layout.specs.Shape.{instanceOf}
+use Rattle.printing.specs.Appended.{Appended}
+use Rattle.printing.proofs.Appended.{appended-same, appended-whole}
 use borrow.Author.Needs.{needs}
 use Rattle.desk.proofs.listing.Statement.{statement}
 use Rattle.desk.proofs.listing.Tie as tie
@@ -30,15 +34,20 @@ told c ok e =
     ap (λ (o : Option Instance). textOf (linesFor o))
     (sym (ap (λ (k : Bool). cond k (some (instance c)) none) e) ∙ c .read .ensures .is-read)
 
+-- what was written is all that the contract says
+written : {lines before after : List ℕ} {n : ℕ} (text : List ℕ) → lines ≡ listing text → Appended lines before 0 after n
+    → ((n ≤ length after) × (n ≡ length (take n after))) × ((n ≡ length (listing text)) × (after ≡ listing text ++ drop n before))
+written text e a = ((a .fits, sym (length-take-le _ _ (a .fits))), appended-whole (appended-same e a))
+
 returns : tie.Need-returns
 returns c =
-    let h = c .refused .ensures .0 in
-    ((h, sym (length-take-le _ _ h)), c .refused .ensures .1 ∙ told (c .before .before .before .before) false (not-true _ (c .before .before .if1 .taken)))
+    let read = c .before .before .before .before in
+    written (start read .args .text .now) (told read false (not-true _ (c .before .before .if1 .taken))) (c .refused .ensures)
 
 returns-2 : tie.Need-returns-2
 returns-2 c =
-    let h = c .filtered .ensures .0 in
-    ((h, sym (length-take-le _ _ h)), c .filtered .ensures .1 ∙ told (c .before .before .before .before .before .before .before) true (not-false _ (c .before .before .before .before .before .if1 .left)))
+    let read = c .before .before .before .before .before .before .before in
+    written (start read .args .text .now) (told read true (not-false _ (c .before .before .before .before .before .if1 .left))) (c .filtered .ensures)
 
 pub listing-spec : {M : Type 1} → statement M
 listing-spec =

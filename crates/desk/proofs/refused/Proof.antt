@@ -1,17 +1,16 @@
 -- `refused` writes the one line of a text that is not in the form.
 -- From what the line's writing ensures.
-use mathlib.Core.Path.{sym, _∙_}
+use mathlib.Core.Path.{sym}
 use mathlib.Core.List.{[], _∷_, append-nil}
 use Rattle.model.specs.Text.{lineText, textOf}
+use Rattle.printing.proofs.Appended.{appended-same}
 use borrow.Author.Needs.{needs}
 use Rattle.desk.proofs.refused.Statement.{statement}
 use Rattle.desk.proofs.refused.Tie as tie
 
 returns : tie.Need-returns
 unfolding textOf
-returns c =
-    let l = c .line .ensures in
-    (l .fits, l .front ∙ sym (append-nil (lineText (2 ∷ 1 ∷ 0 ∷ 0 ∷ []))))
+returns c = appended-same (sym (append-nil (lineText (2 ∷ 1 ∷ 0 ∷ 0 ∷ [])))) (c .line .ensures)
 
 pub refused-spec : {M : Type 1} → statement M
 refused-spec =

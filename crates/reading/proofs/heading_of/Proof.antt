@@ -24,7 +24,7 @@ line-read : (c : tie.After-line) → (let t = c .before .before .before .args .t
 line-read c =
     let t = c .before .before .before .args .text .now in
     let three : length (numbers c) ≡ 3 = search needs in
-    line-alone 3 t t (numbers c) (c .line .result) three (c .line .ensures)
+    line-alone 3 t t (numbers c) (c .line .result) three (c .line .ensures .0)
 
 -- .. where it is in the form
 line-some : (c : tie.Else1) → (let t = c .before .before .before .before .before .args .text .now in readLine 3 t ≡ some (numbers (c .before .before), drop (c .before .before .line .result) t))

@@ -1,11 +1,12 @@
 -- `read` meets its contract.
 -- From how an instance is read from its heading, its relations and its combinations, and the contracts of `heading_of`,
 -- `relations_at` and `lines`.
-use mathlib.Core.Path.{_≡_, sym, _∙_}
+use mathlib.Core.Path.{_≡_, refl, sym, subst, _∙_}
+use mathlib.Core.Bool.{true}
 use mathlib.Core.Option.{some}
 use mathlib.Core.List.{List}
 use Prim.Native.Nat.{ℕ, _*_, _≤_, _<_}
-use native.Mathlib.Nat.{mul-le-mul}
+use native.Mathlib.Nat.{zero-add, mul-le-mul}
 use native.Mathlib.Omega.{arith}
 use borrow.Author.Needs.{needs}
 use lib.ListN.{length, take, drop}
@@ -17,7 +18,7 @@ use Rattle.layout.specs.Shape.{networkOf}
 use Rattle.reading.specs.declared.Heading.{Heading}
 use Rattle.reading.specs.Parts.{foundAt, readHeading, numbersOf}
 use Rattle.reading.proofs.Found.{positive, found-at, found-none}
-use Rattle.reading.proofs.Whole.{heading-members, instanceWith, instance-none, instance-broken, instance-found, read-long, read-none, read-more, read-some, filled, stands-none}
+use Rattle.reading.proofs.Whole.{heading-members, instanceWith, instance-none, instance-broken, instance-found, read-long, read-none, read-more, read-some, filled, stands-none, stands-some}
 use Rattle.reading.proofs.read.Statement.{statement}
 use Rattle.reading.proofs.read.Tie as tie
 
@@ -51,6 +52,13 @@ module _ (c : tie.After-relations-at) where
   long : (maxVariables ≤ length (c .relations-at .last .1 .1 .1 .0)) × (maxValues ≤ length (c .relations-at .last .1 .1 .1 .1 .0))
   long = (search needs, search needs)
 
+  -- .. as they were lent
+  abbrev start : tie.Start
+  start = headed .before .before .before .before .before
+
+  same-long : (length (c .relations-at .last .1 .1 .1 .0) ≡ length (start .args .variables .now)) × (length (c .relations-at .last .1 .1 .1 .1 .0) ≡ length (start .args .values .now))
+  same-long = (search needs, search needs)
+
 -- past the combinations
 module _ (c : tie.After-lines) where
   abbrev listed : tie.After-relations-at
@@ -58,6 +66,9 @@ module _ (c : tie.After-lines) where
 
   abbrev members : List ℕ
   members = c .lines .last .1 .1 .1 .1 .0
+
+  members-long : length members ≡ length (start listed .args .members .now)
+  members-long = search needs
 
   abbrev whole-instance : Instance
   whole-instance =
@@ -70,12 +81,12 @@ module _ (c : tie.After-lines) where
       let h = heading (headed listed) in
       let next = listed .relations-at .result .next in
       let relations = sym (listed .relations-at .ensures .0) ∙ found-at t next (network listed) (c .before .before .if3 .left) in
-      instance-found t (numbersOf h) (drop (h .next) t) (heading-some (headed listed)) (network listed) (drop next t) t members (c .lines .result) relations (c .lines .ensures)
+      instance-found t (numbersOf h) (drop (h .next) t) (heading-some (headed listed)) (network listed) (drop next t) t members (c .lines .result) relations (c .lines .ensures .0)
 
 returns : tie.Need-returns
 returns c =
     let t = c .before .before .before .args .text .now in
-    stands-none t (c .nothing .result) _ _ _ (read-long t (c .before .if1 .taken)) (c .nothing .ensures)
+    stands-none t _ _ _ _ _ _ (c .nothing .result) (read-long t (c .before .if1 .taken)) (c .nothing .ensures) refl refl refl
 
 returns-2 : tie.Need-returns-2
 returns-2 c =
@@ -83,7 +94,7 @@ returns-2 c =
     let t = after .before .before .before .args .text .now in
     let h = after .heading-of .result in
     let absent = sym (after .heading-of .ensures .0) ∙ found-none t (h .next) (numbersOf h) (c .before .if2 .taken) in
-    stands-none t (c .nothing2 .result) _ _ _ (read-none t (after .before .if1 .left) (instance-none t absent)) (c .nothing2 .ensures)
+    stands-none t _ _ _ _ _ _ (c .nothing2 .result) (read-none t (after .before .if1 .left) (instance-none t absent)) (c .nothing2 .ensures) refl refl refl
 
 returns-3 : tie.Need-returns-3
 returns-3 c =
@@ -91,7 +102,7 @@ returns-3 c =
     let t = text (headed after) in
     let h = heading (headed after) in
     let absent = sym (after .relations-at .ensures .0) ∙ found-none t (after .relations-at .result .next) (network after) (c .before .if3 .taken) in
-    stands-none t (c .nothing3 .result) _ _ _ (read-none t (headed after .before .before .before .if1 .left) (instance-broken t (numbersOf h) (drop (h .next) t) (heading-some (headed after)) absent)) (c .nothing3 .ensures)
+    stands-none t _ _ _ _ _ _ (c .nothing3 .result) (read-none t (headed after .before .before .before .if1 .left) (instance-broken t (numbersOf h) (drop (h .next) t) (heading-some (headed after)) absent)) (c .nothing3 .ensures) (same-long after .0) (same-long after .1) refl
 
 lines-requires : tie.Need-lines-requires
 lines-requires c κs =
@@ -103,13 +114,13 @@ returns-4 c =
     let after = c .before .before in
     let headed = headed (listed after) in
     let absent = instance-read after ∙ found-none (text headed) (after .lines .result) (whole-instance after) (c .before .if4 .taken) in
-    stands-none (text headed) (c .nothing4 .result) _ _ _ (read-none (text headed) (headed .before .before .before .if1 .left) absent) (c .nothing4 .ensures)
+    stands-none (text headed) _ _ _ _ _ _ (c .nothing4 .result) (read-none (text headed) (headed .before .before .before .if1 .left) absent) (c .nothing4 .ensures) (same-long (listed after) .0) (same-long (listed after) .1) (members-long after)
 
 returns-5 : tie.Need-returns-5
 returns-5 c =
     let after = c .before .before .before in
     let headed = headed (listed after) in
-    stands-none (text headed) (c .nothing5 .result) _ _ _ (read-more (text headed) (headed .before .before .before .if1 .left) (whole-instance after) (after .lines .result) (instance-read after) (c .before .before .if4 .left) (c .before .if5 .taken)) (c .nothing5 .ensures)
+    stands-none (text headed) _ _ _ _ _ _ (c .nothing5 .result) (read-more (text headed) (headed .before .before .before .if1 .left) (whole-instance after) (after .lines .result) (instance-read after) (c .before .before .if4 .left) (c .before .if5 .taken)) (c .nothing5 .ensures) (same-long (listed after) .0) (same-long (listed after) .1) (members-long after)
 
 returns-6 : tie.Need-returns-6
 returns-6 c =
@@ -119,12 +130,16 @@ returns-6 c =
     let lengths = long (listed after) in
     let variables-fit : r .result .variables ≤ length (r .last .1 .1 .1 .0) = omega (arith, r .ensures .1 .0, lengths .0) in
     let values-fit : r .result .values ≤ length (r .last .1 .1 .1 .1 .0) = omega (arith, r .ensures .1 .1, lengths .1) in
-    record {
-      is-read = sym (read-some (text headed) (headed .before .before .before .if1 .left) (whole-instance after) (after .lines .result) (instance-read after) (c .before .before .if4 .left) (c .before .if5 .left));
-      variables-filled = filled (r .result .variables) (r .last .1 .1 .1 .0) variables-fit;
-      values-filled = filled (r .result .values) (r .last .1 .1 .1 .1 .0) values-fit;
-      members-filled = filled (heading headed .combinations * heading headed .m) (members after) (omega (arith, few headed));
-    }
+    let rest = r .ensures .1 .2 (positive (r .result .next) (after .before .before .if3 .left)) in
+    let k = heading headed .combinations * heading headed .m in
+    let lent = start (listed after) .args .members .now in
+    let members-kept = subst (λ (i : ℕ). drop i (members after) ≡ drop i lent) (zero-add k) (after .lines .ensures .1) in
+    stands-some (text headed) _ _ _ _ _ _ (r .result .shape) (heading headed .m) (r .result .variables) (r .result .values) k
+    (rest .0)
+    (read-some (text headed) (headed .before .before .before .if1 .left) (whole-instance after) (after .lines .result) (instance-read after) (c .before .before .if4 .left) (c .before .if5 .left))
+    (filled true (r .result .variables) _ (r .last .1 .1 .1 .0) variables-fit (same-long (listed after) .0) (λ _. rest .1))
+    (filled true (r .result .values) _ (r .last .1 .1 .1 .1 .0) values-fit (same-long (listed after) .1) (λ _. rest .2))
+    (filled true k _ (members after) (omega (arith, few headed)) (members-long after) (λ _. members-kept))
 
 pub read-spec : {M : Type 1} → statement M
 read-spec =

@@ -53,7 +53,7 @@ module _ (c : tie.After-line) where
 returns : tie.Need-returns
 returns c =
     let l = first (c .before) in
-    (l .fits, (λ supports. l .front ∙ sym (replyText-refused (network (c .before)) (made (c .before) supports) (eq-eqb _ _ (sym (kind (c .before)) ∙ c .if1 .taken)))))
+    λ supports. appended-same (sym (replyText-refused (network (c .before)) (made (c .before) supports) (eq-eqb _ _ (sym (kind (c .before)) ∙ c .if1 .taken)))) l
 
 -- ---- The tuples' lines
 
@@ -85,10 +85,8 @@ returns-2 c =
     let l = begun .before .before in
     let a = start l .args in
     let t = c .tuple-lines .ensures in
-    let lines = ap (λ (xs : List ℕ). tupleLines (rows xs (a .values .now)) (a .words .now)) (begun .starts-of .ensures) ∙ accepted-lines (a .shape) (a .variables .now) (a .values .now) (a .words .now) (accepted (begun .before)) in (
-      t .fits,
-      (λ supports. appended-then (first l) (appended-same (ap textOf lines) t) .front ∙ sym (replyText-accepted (network l) (made l supports) (no-refusal (begun .before)))),
-    )
+    let lines = ap (λ (xs : List ℕ). tupleLines (rows xs (a .values .now)) (a .words .now)) (begun .starts-of .ensures) ∙ accepted-lines (a .shape) (a .variables .now) (a .values .now) (a .words .now) (accepted (begun .before)) in
+    λ supports. appended-same (sym (replyText-accepted (network l) (made l supports) (no-refusal (begun .before)))) (appended-then (first l) (appended-same (ap textOf lines) t))
 
 pub print-spec : {M : Type 1} → statement M
 print-spec =

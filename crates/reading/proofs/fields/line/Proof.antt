@@ -1,11 +1,12 @@
 -- `fields::line` meets its contract. The loop's invariant: the entries before `to` and the rest of the line are the entries before
--- `start` and the whole line.
+-- `start` and the whole line; behind it the list is as lent.
 -- From how a line is read field by field, and the contract of `fields::field`.
-use mathlib.Core.Path.{_≡_, sym, ap, ap₂, _∙_}
+use mathlib.Core.Path.{_≡_, refl, sym, ap, ap₂, _∙_}
 use mathlib.Core.List.{List}
 use Prim.Native.Nat.{ℕ, _+_, _-_, _≤_, _<_}
 use native.Mathlib.Omega.{arith}
 use lib.ListN.{length, take, drop, set, length-set}
+use lib.Seq.{drop-set-lt}
 use borrow.Author.Needs.{needs}
 use Rattle.model.specs.Reading.{readLine}
 use Rattle.reading.specs.Parts.{foundAt, behind}
@@ -20,6 +21,7 @@ Inv-loop text at n into₀ start last from₀ to₀ into from to =
     × (to < start + n)
     × (length into ≡ length into₀)
     × (behind (take to into) (readLine (start + n - to) (drop from text)) ≡ behind (take start into₀) (readLine n (drop at text)))
+    × (drop (start + n) into ≡ drop (start + n) into₀)
 
 abbrev μ-loop : tie.MeasureT-loop
 μ-loop text at n into₀ start last from₀ to₀ into from to = last - to
@@ -28,7 +30,7 @@ loop-holds : tie.Need-loop-holds Inv-loop μ-loop
 loop-holds c =
     let a = c .before .before .args in
     let e : a .start + a .n - a .start ≡ a .n = omega arith in
-    (search needs, search needs, search needs, ap (λ (k : ℕ). behind (take (a .start) (a .into .now)) (readLine k (drop (a .at) (a .text .now)))) e)
+    (search needs, search needs, search needs, ap (λ (k : ℕ). behind (take (a .start) (a .into .now)) (readLine k (drop (a .at) (a .text .now)))) e, refl)
 
 returns : tie.Need-returns Inv-loop μ-loop
 returns c =
@@ -36,9 +38,11 @@ returns c =
     let a = turn .before .before .before .before .args in
     let l = turn .before .loop in
     let f = c .before .before .field in
-    let stops = sym (f .ensures) ∙ found-none (a .text .now) (f .result .next) (f .result .value) (c .if1 .taken) in
-    sym (line-stop (a .start + a .n - (l .to + 1)) (a .start + a .n - l .to) (drop (l .from) (a .text .now)) (take (l .to) (l .into)) (omega arith) (omega arith) stops)
-    ∙ l .inv .3
+    let stops = sym (f .ensures) ∙ found-none (a .text .now) (f .result .next) (f .result .value) (c .if1 .taken) in (
+      sym (line-stop (a .start + a .n - (l .to + 1)) (a .start + a .n - l .to) (drop (l .from) (a .text .now)) (take (l .to) (l .into)) (omega arith) (omega arith) stops)
+          ∙ l .inv .3,
+      l .inv .4,
+    )
 
 loop-again : tie.Need-loop-again Inv-loop μ-loop
 loop-again c =
@@ -54,6 +58,7 @@ loop-again c =
       ap (λ (us : List ℕ). behind us (readLine j (drop (f .result .next) (a .text .now)))) (take-more (l .into) (l .to) (f .result .value) (omega arith))
           ∙ sym (line-more j (a .start + a .n - l .to) (drop (l .from) (a .text .now)) (take (l .to) (l .into)) (omega arith) (omega arith) (drop (f .result .next) (a .text .now)) (f .result .value) reads)
           ∙ l .inv .3,
+      drop-set-lt (a .start + a .n) (l .into) (l .to) (f .result .value) (omega arith) ∙ l .inv .4,
     )
 
 returns-2 : tie.Need-returns-2 Inv-loop μ-loop
@@ -65,12 +70,14 @@ returns-2 c =
     let t = a .text .now in
     let all : a .start + a .n ≡ last + 1 = omega arith in
     let here : last ≡ l .to = omega arith in
-    let one : 1 ≡ a .start + a .n - l .to = omega arith in
-    ap (λ (k : ℕ). foundAt (f .result .next) (take k (set (l .into) last (f .result .value))) t) all
-    ∙ ap (λ (us : List ℕ). foundAt (f .result .next) us t) (take-more (l .into) last (f .result .value) (omega arith))
-    ∙ line-last t (drop (l .from) t) (take last (l .into)) (f .result .next) (f .result .value) (f .ensures)
-    ∙ ap₂ (λ (i k : ℕ). behind (take i (l .into)) (readLine k (drop (l .from) t))) here one
-    ∙ l .inv .3
+    let one : 1 ≡ a .start + a .n - l .to = omega arith in (
+      ap (λ (k : ℕ). foundAt (f .result .next) (take k (set (l .into) last (f .result .value))) t) all
+          ∙ ap (λ (us : List ℕ). foundAt (f .result .next) us t) (take-more (l .into) last (f .result .value) (omega arith))
+          ∙ line-last t (drop (l .from) t) (take last (l .into)) (f .result .next) (f .result .value) (f .ensures)
+          ∙ ap₂ (λ (i k : ℕ). behind (take i (l .into)) (readLine k (drop (l .from) t))) here one
+          ∙ l .inv .3,
+      drop-set-lt (a .start + a .n) (l .into) last (f .result .value) (omega arith) ∙ l .inv .4,
+    )
 
 pub line-spec : {M : Type 1} → statement M
 line-spec =

@@ -1,7 +1,7 @@
 -- `fields::lines` meets its contract. The loop's invariant: the entries before `to` and the lines still to read are the entries before
--- `start` and all lines.
+-- `start` and all lines; behind them the list is as lent.
 -- From how lines are read line by line, and the contract of `fields::line`.
-use mathlib.Core.Path.{_≡_, sym, ap, _∙_}
+use mathlib.Core.Path.{_≡_, refl, sym, ap, _∙_}
 use Prim.Native.Nat.{ℕ, _+_, _*_, _-_, _≤_, _<_}
 use native.Mathlib.Nat.{sub-zero}
 use native.Mathlib.Omega.{arith}
@@ -10,7 +10,7 @@ use borrow.Author.Needs.{needs}
 use Rattle.model.specs.Reading.{readLines}
 use Rattle.reading.specs.Parts.{foundAt, behind}
 use Rattle.reading.proofs.Found.{positive}
-use Rattle.reading.proofs.Lines.{lines-stop, lines-more, lines-end, line-inside, next-place}
+use Rattle.reading.proofs.Lines.{drop-later, lines-stop, lines-more, lines-end, line-inside, next-place}
 use Rattle.reading.proofs.fields.lines.Statement.{statement}
 use Rattle.reading.proofs.fields.lines.Tie as tie
 
@@ -21,16 +21,29 @@ Inv-loop text at k n into₀ start from₀ to₀ i₀ into from to i =
     × (to ≡ start + i * n)
     × (length into ≡ length into₀)
     × (behind (take to into) (readLines (k - i) n (drop from text)) ≡ behind (take start into₀) (readLines k n (drop at text)))
+    × (drop (start + k * n) into ≡ drop (start + k * n) into₀)
 
 abbrev μ-loop : tie.MeasureT-loop
 μ-loop text at k n into₀ start from₀ to₀ i₀ into from to i = k - i
 
--- the next line's entries lie in the list
-inside : (c : tie.In-loop Inv-loop μ-loop) → c .before .loop .to + c .before .before .before .before .args .n ≤ length (c .before .loop .into)
-inside c =
-    let start = c .before .before .before .before in
-    let l = c .before .loop in
-    omega (arith, line-inside (l .i) (start .args .k) (start .args .n) (c .loop-test .taken), start .pre .2)
+module _ (c : tie.In-loop Inv-loop μ-loop) where
+  abbrev start : tie.Start Inv-loop μ-loop
+  start = c .before .before .before .before
+
+  -- the next line's entries are among those of all lines, and lie in the list
+  among : c .before .loop .to + start .args .n ≤ start .args .start + start .args .k * start .args .n
+  among = let l = c .before .loop in omega (arith, line-inside (l .i) (start .args .k) (start .args .n) (c .loop-test .taken), l .inv .2)
+
+  inside : c .before .loop .to + start .args .n ≤ length (c .before .loop .into)
+  inside = omega (arith, among, start .pre .2)
+
+-- behind all lines the list is still as lent
+kept : (c : tie.After-line Inv-loop μ-loop) → (let a = start (c .before .before) .args in let end = a .start + a .k * a .n in drop end (c .line .last .1 .1 .1 .0) ≡ drop end (a .into .now))
+kept c =
+    let turn = c .before .before in
+    let a = start turn .args in
+    let l = turn .before .loop in
+    drop-later (l .to + a .n) (a .start + a .k * a .n) (c .line .last .1 .1 .1 .0) (l .into) (among turn) (c .line .ensures .1) ∙ l .inv .5
 
 loop-holds : tie.Need-loop-holds Inv-loop μ-loop
 loop-holds c =
@@ -40,6 +53,7 @@ loop-holds c =
       search needs,
       search needs,
       ap (λ (j : ℕ). behind (take (a .start) (a .into .now)) (readLines j (a .n) (drop (a .at) (a .text .now)))) (sub-zero (a .k)),
+      refl,
     )
 
 returns : tie.Need-returns Inv-loop μ-loop
@@ -47,9 +61,11 @@ returns c =
     let after = c .before .before .before in
     let turn = after .before .before in
     let a = turn .before .before .before .before .args in
-    let l = turn .before .loop in
-    sym (lines-stop (a .k - (l .i + 1)) (a .k - l .i) (a .n) (a .text .now) (drop (l .from) (a .text .now)) (take (l .to) (l .into)) (take (l .to + a .n) (after .line .last .1 .1 .1 .0)) (after .line .result) (omega arith) (after .line .ensures) (c .if1 .taken))
-    ∙ l .inv .4
+    let l = turn .before .loop in (
+      sym (lines-stop (a .k - (l .i + 1)) (a .k - l .i) (a .n) (a .text .now) (drop (l .from) (a .text .now)) (take (l .to) (l .into)) (take (l .to + a .n) (after .line .last .1 .1 .1 .0)) (after .line .result) (omega arith) (after .line .ensures .0) (c .if1 .taken))
+          ∙ l .inv .4,
+      kept after,
+    )
 
 loop-again : tie.Need-loop-again Inv-loop μ-loop
 loop-again c =
@@ -61,8 +77,9 @@ loop-again c =
       positive (after .line .result) (c .if1 .left),
       next-place (a .start) (l .to) (l .i) (a .n) (l .inv .2),
       search needs,
-      sym (lines-more (a .k - (l .i + 1)) (a .k - l .i) (a .n) (a .text .now) (drop (l .from) (a .text .now)) (take (l .to) (l .into)) (take (l .to + a .n) (after .line .last .1 .1 .1 .0)) (after .line .result) (omega arith) (after .line .ensures) (c .if1 .left))
+      sym (lines-more (a .k - (l .i + 1)) (a .k - l .i) (a .n) (a .text .now) (drop (l .from) (a .text .now)) (take (l .to) (l .into)) (take (l .to + a .n) (after .line .last .1 .1 .1 .0)) (after .line .result) (omega arith) (after .line .ensures .0) (c .if1 .left))
           ∙ l .inv .4,
+      kept after,
     )
 
 returns-2 : tie.Need-returns-2 Inv-loop μ-loop
@@ -72,11 +89,13 @@ returns-2 c =
     let t = a .text .now in
     let i : l .i ≡ a .k = omega arith in
     let all : a .start + a .k * a .n ≡ l .to = ap (λ (j : ℕ). a .start + j * a .n) (sym i) ∙ sym (l .inv .2) in
-    let none-left : 0 ≡ a .k - l .i = omega arith in
-    ap (λ (j : ℕ). foundAt (l .from) (take j (l .into)) t) all
-    ∙ lines-end (a .n) t (take (l .to) (l .into)) (l .from) (l .inv .1)
-    ∙ ap (λ (j : ℕ). behind (take (l .to) (l .into)) (readLines j (a .n) (drop (l .from) t))) none-left
-    ∙ l .inv .4
+    let none-left : 0 ≡ a .k - l .i = omega arith in (
+      ap (λ (j : ℕ). foundAt (l .from) (take j (l .into)) t) all
+          ∙ lines-end (a .n) t (take (l .to) (l .into)) (l .from) (l .inv .1)
+          ∙ ap (λ (j : ℕ). behind (take (l .to) (l .into)) (readLines j (a .n) (drop (l .from) t))) none-left
+          ∙ l .inv .4,
+      l .inv .5,
+    )
 
 pub lines-spec : {M : Type 1} → statement M
 lines-spec =

@@ -23,7 +23,7 @@ line-read : (c : tie.After-line) → (let t = c .before .before .before .args .t
 line-read c =
     let start = c .before .before .before in
     let two : length (numbers c) ≡ 2 = search needs in
-    line-alone 2 (start .args .text .now) (drop (start .args .at) (start .args .text .now)) (numbers c) (c .line .result) two (c .line .ensures)
+    line-alone 2 (start .args .text .now) (drop (start .args .at) (start .args .text .now)) (numbers c) (c .line .result) two (c .line .ensures .0)
 
 -- .. where it is in the form
 line-some : (c : tie.Else1) → (let t = c .before .before .before .before .before .args .text .now in readLine 2 (drop (c .before .before .before .before .before .args .at) t) ≡ some (numbers (c .before .before), drop (c .before .before .line .result) t))

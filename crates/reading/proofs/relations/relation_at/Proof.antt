@@ -1,6 +1,6 @@
 -- `relations::relation_at` meets its contract.
 -- From how a relation is read from its record, its scope and its values, and the contracts of `record_at`, `line` and `lines`.
-use mathlib.Core.Path.{_≡_, sym, ap, _∙_}
+use mathlib.Core.Path.{_≡_, refl, sym, ap, _∙_}
 use mathlib.Core.Option.{some}
 use mathlib.Core.List.{List, _++_}
 use Prim.Native.Nat.{ℕ, _+_, _*_, _≤_, _<_}
@@ -37,8 +37,10 @@ returns c =
     let a = c .before .before .before .before .before .args in
     let r = c .before .record-at .result in
     let t = a .text .now in
-    let absent = sym (c .before .record-at .ensures .0) ∙ found-none t (r .next) (recordOf r) (c .if1 .taken) in
-    (found-none t (r .next) _ (c .if1 .taken) ∙ sym (ap (mapRead (append (unlisted (take (a .variable) (a .variables .now)) (take (a .value) (a .values .now))))) (relation-none (a .room) (drop (a .at) t) absent)), c .before .record-at .ensures .1)
+    let absent = sym (c .before .record-at .ensures .0) ∙ found-none t (r .next) (recordOf r) (c .if1 .taken) in (
+      found-none t (r .next) _ (c .if1 .taken) ∙ sym (ap (mapRead (append (unlisted (take (a .variable) (a .variables .now)) (take (a .value) (a .values .now))))) (relation-none (a .room) (drop (a .at) t) absent)),
+      (c .before .record-at .ensures .1 .0, c .before .record-at .ensures .1 .1, refl, refl),
+    )
 
 line-requires : tie.Need-line-requires
 line-requires c κs =
@@ -53,8 +55,10 @@ returns-2 c =
     let r = read .before .record-at .result in
     let t = a .text .now in
     let us = take (a .variable) (a .variables .now) in
-    let absent = map-none (λ (vs : List ℕ). us ++ vs) t (after .line .result) (take (a .variable + r .width) (after .line .last .1 .1 .1 .0)) (readLine (r .width) (drop (r .next) t)) (after .line .ensures) (c .if2 .taken) in
-    (sym (ap (mapRead (append (unlisted us (take (a .value) (a .values .now))))) (relation-scopeless (a .room) (drop (a .at) t) (recordOf r) (drop (r .next) t) (record-some read) absent)), (search needs, search needs))
+    let absent = map-none (λ (vs : List ℕ). us ++ vs) t (after .line .result) (take (a .variable + r .width) (after .line .last .1 .1 .1 .0)) (readLine (r .width) (drop (r .next) t)) (after .line .ensures .0) (c .if2 .taken) in (
+      sym (ap (mapRead (append (unlisted us (take (a .value) (a .values .now))))) (relation-scopeless (a .room) (drop (a .at) t) (recordOf r) (drop (r .next) t) (record-some read) absent)),
+      (read .before .record-at .ensures .1 .0, read .before .record-at .ensures .1 .1, after .line .ensures .1, refl),
+    )
 
 lines-requires : tie.Need-lines-requires
 lines-requires c κs =
@@ -76,8 +80,8 @@ returns-3 c =
       relation-found (a .room) (drop (a .at) t) (recordOf r) (drop (r .next) t) (record-some read)
           t (take (a .variable) (a .variables .now)) (take (a .variable + r .width) (line-read .line .last .1 .1 .1 .0))
           (take (a .value) (a .values .now)) (take (a .value + r .tuples * r .width) (after .lines .last .1 .1 .1 .1 .0))
-          (line-read .line .result) (after .lines .result) (line-read .line .ensures) (after .before .before .if2 .left) (after .lines .ensures),
-      read .before .record-at .ensures .1,
+          (line-read .line .result) (after .lines .result) (line-read .line .ensures .0) (after .before .before .if2 .left) (after .lines .ensures .0),
+      (read .before .record-at .ensures .1 .0, read .before .record-at .ensures .1 .1, line-read .line .ensures .1, after .lines .ensures .1),
     )
 
 pub relation-at-spec : {M : Type 1} → statement M

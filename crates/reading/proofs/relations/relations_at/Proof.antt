@@ -1,7 +1,8 @@
 -- `relations::relations_at` meets its contract. The loop's invariant: the relations in the lists and those still to read are all
--- relations, and the lists have room for eight variables of each relation and eight values of each tuple still to come.
+-- relations; the lists have room for eight variables of each relation and eight values of each tuple still to come; and behind what was
+-- read the shape has noughts and the lists are as lent.
 -- From how relations are read one by one, and the contract of `relation_at`.
-use mathlib.Core.Path.{_≡_, sym, ap, _∙_}
+use mathlib.Core.Path.{_≡_, refl, sym, ap, subst, _∙_}
 use mathlib.Core.Option.{none}
 use mathlib.Core.List.{List, [], _∷_, _++_}
 use Prim.Native.Nat.{ℕ, _+_, _*_, _-_, _≤_, _<_}
@@ -17,16 +18,20 @@ use Rattle.model.specs.Reading.{readRelations}
 use Rattle.layout.specs.declared.Shape.{Shape}
 use Rattle.layout.specs.Shape.{networkOf}
 use Rattle.reading.specs.declared.relations.Record.{Record}
-use Rattle.reading.specs.Parts.{foundAt, mapRead, append, single, unlisted, readRelation, recordOf}
+use Rattle.reading.specs.Parts.{foundAt, mapRead, append, single, unlisted, readRelation, recordOf, IsBlankBehind}
 use Rattle.reading.proofs.Found.{positive, found-none, map-none}
-use Rattle.reading.proofs.Networks.{relations-start, relations-stop, relations-more, relations-end, records-more}
+use Rattle.reading.proofs.Lines.{drop-later}
+use Rattle.reading.proofs.Networks.{relations-start, relations-stop, relations-more, relations-end, records-more, blank-start, blank-more}
 use Rattle.reading.proofs.relations.relations_at.Statement.{statement}
 use Rattle.reading.proofs.relations.relations_at.Tie as tie
 
+-- the first r records of the shape
+abbrev front : Shape → ℕ → Shape
+front shape r = record { count = r; widths = shape .widths; tuples = shape .tuples }
+
 -- the relations that stand in the lists
 abbrev standing : List ℕ → List ℕ → Shape → ℕ → ℕ → ℕ → Network
-standing variables values shape variable value r =
-    networkOf (record { count = r; widths = shape .widths; tuples = shape .tuples }) (take variable variables) (take value values)
+standing variables values shape variable value r = networkOf (front shape r) (take variable variables) (take value values)
 
 abbrev Inv-loop : tie.InvT-loop
 Inv-loop text at count variables₀ values₀ shape₀ room₀ from₀ variable₀ value₀ r₀ variables values shape room from variable value r =
@@ -35,6 +40,8 @@ Inv-loop text at count variables₀ values₀ shape₀ room₀ from₀ variable�
     × (length (shape .widths) ≡ maxRelations) × (length (shape .tuples) ≡ maxRelations)
     × (variable ≤ maxWidth * r) × (value + maxWidth * room ≤ maxValues) × (shape .count ≡ count)
     × (mapRead (append (standing variables values shape variable value r)) (readRelations (count - r) room (drop from text)) ≡ readRelations count maxTuples (drop at text))
+    × IsBlankBehind (front shape r)
+    × (drop variable variables ≡ drop variable variables₀) × (drop value values ≡ drop value values₀)
 
 abbrev μ-loop : tie.MeasureT-loop
 μ-loop text at count variables₀ values₀ shape₀ room₀ from₀ variable₀ value₀ r₀ variables values shape room from variable value r =
@@ -94,8 +101,21 @@ module _ (c : tie.After-relation-at Inv-loop μ-loop) where
 loop-holds : tie.Need-loop-holds Inv-loop μ-loop
 loop-holds c =
     let a = c .before .before .before .before .args in
-    let b = c .blank .ensures in
-    (search needs, c .before .before .before .before .pre .0, search needs, search needs, b .1, b .2, search needs, search needs, b .0, relations-start (a .count) maxTuples (drop (a .at) (a .text .now)) _ _)
+    let b = c .blank .ensures in (
+      search needs,
+      c .before .before .before .before .pre .0,
+      search needs,
+      search needs,
+      ap (λ (S : Shape). length (S .widths)) b,
+      ap (λ (S : Shape). length (S .tuples)) b,
+      search needs,
+      search needs,
+      ap (λ (S : Shape). S .count) b,
+      relations-start (a .count) maxTuples (drop (a .at) (a .text .now)) _ _,
+      blank-start (a .count) (c .blank .result) b,
+      refl,
+      refl,
+    )
 
 relation-at-requires : tie.Need-relation-at-requires Inv-loop μ-loop
 relation-at-requires c κs =
@@ -131,6 +151,9 @@ loop-again c =
       ap (λ (Rs : List Relation). mapRead (append (record { relations = Rs; variables = scopes read; values = tuple-values read })) (readRelations k (l .room - f .tuples) (drop (f .next) (text read))))
           (records-more (l .r) (l .shape .widths) (l .shape .tuples) (f .width) (f .tuples) (omega (arith, below-limit (turn read), l .inv .4)) (omega (arith, below-limit (turn read), l .inv .5)))
           ∙ goes-on read (c .before .before .before .before .before .if1 .left),
+      blank-more (l .r) (l .shape .widths) (l .shape .tuples) (f .width) (f .tuples) (below-limit (turn read)) (omega (arith, below-limit (turn read), l .inv .4)) (omega (arith, below-limit (turn read), l .inv .5)) (l .inv .10),
+      e .1 .2 ∙ drop-later (l .variable) (l .variable + f .width) (l .variables) (start read .args .variables .now) (omega arith) (l .inv .11),
+      e .1 .3 ∙ drop-later (l .value) (l .value + f .tuples * f .width) (l .values) (start read .args .values .now) (omega arith) (l .inv .12),
     )
 
 returns : tie.Need-returns Inv-loop μ-loop
@@ -146,13 +169,14 @@ returns c =
           ∙ relations-end (l .room) t N (l .from) (l .inv .1)
           ∙ ap (λ (i : ℕ). mapRead (append N) (readRelations i (l .room) (drop (l .from) t))) none-left
           ∙ l .inv .9,
-      (omega (arith, entry .pre .1), search needs),
+      (omega (arith, entry .pre .1), search needs, (λ p. (subst (λ (i : ℕ). IsBlankBehind (front (l .shape) i)) (sym all) (l .inv .10), l .inv .11, l .inv .12))),
     )
 
 returns-2 : tie.Need-returns-2 Inv-loop μ-loop
 returns-2 c =
     let read = c .before .before .before .before .before in
-    (found-none (text read) (found read .next) _ (c .if1 .taken) ∙ sym (stops read (c .if1 .taken)), (omega (arith, below-limit (turn read)), search needs))
+    let z = c .if1 .taken in
+    (found-none (text read) (found read .next) _ z ∙ sym (stops read z), (omega (arith, below-limit (turn read)), search needs, (λ p. absurd (omega arith))))
 
 pub relations-at-spec : {M : Type 1} → statement M
 relations-at-spec =
