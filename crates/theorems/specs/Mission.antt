@@ -1,13 +1,17 @@
 -- Read this first: the mission's three points, of the calls themselves and from nothing but their contracts.
 --
--- A change call answers and leaves the live words and the support list. The contract of each of
---   changes::filter, changes::withdraw, changes::choose                       (plain lists)
---   wakhvosi_filter_records, wakhvosi_withdraw_records, wakhvosi_choose_records   (the relation records as one slice, for C)
--- is `Keeps q p` by name, with q the request of its arguments at entry and p the reply that its answer and the lists make.
--- It has no `requires`. The contracts of test and compare are `Tested` and `Compared`. All three are in the model's
--- specs/Reply.antt, beside the definitions `reply`, `testReply` and `compareReply`.
--- The functions for C on bytes keep `KeepsBytes`, `TestedBytes` and `ComparedBytes`: Bytes.antt has their three points.
--- The promises are the records of the model's specs/Promises.antt.
+--   the calls                                         their contract               what follows of them
+--   changes::filter, withdraw, choose                 Keeps                        point-1, point-2, point-3
+--   wakhvosi_filter_records, .. (records as a slice)  Keeps, of the packed answer  point-1, point-2, point-3
+--   wakhvosi_filter, withdraw, choose (bytes)         KeepsBytes                   points-1-2, point-3-bytes
+--   consistency::test, network::comparison::compare   Tested, Compared             test-promise, compare-promise
+--   wakhvosi_test_records, wakhvosi_compare_records   Tested, Compared             test-promise, compare-promise
+--   wakhvosi_test, wakhvosi_compare (bytes)           TestedBytes, ComparedBytes   test-promise-bytes, compare-promise-bytes
+--
+-- A contract is that definition by name and nothing more, with the call's request at entry, and what it answers and leaves. No call
+-- has a `requires`. The definitions on lists are in the model's specs/Reply.antt, beside `reply`, `testReply` and `compareReply`; those
+-- on bytes in encoding's specs/Call.antt. What follows are the records of the model's specs/Promises.antt; on bytes those of
+-- ByteCalls.antt beside this file, proved in proofs/Bytes.antt.
 use mathlib.Core.Path.{_≡_, refl, sym, _∙_, ap, subst}
 use mathlib.Core.Bool.{true}
 use mathlib.Core.List.{List, [], _∷_}
