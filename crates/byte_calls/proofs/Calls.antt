@@ -24,8 +24,8 @@ use Rattle.layout.specs.declared.Shape.{Shape}
 use Rattle.layout.specs.Shape.{shapeOf, networkOf, instanceOf}
 use Rattle.layout.specs.Setting.{instanceIn}
 use Rattle.layout.proofs.Records.{reply-shapeOf, testReply-shapeOf, compareReply-shapeOf}
-use Rattle.wire.specs.Entries.{entries, entries16, entries64, bytes, Filled}
-use Rattle.wire.proofs.Entries.{Bytes, entries-length, entries16-length, entries64-length, entries-below, entries-take, bytes-entries, bytes-append, bytes-behind}
+use Rattle.wire.specs.Entries.{Bytes, entries, entries16, entries64, bytes, Filled}
+use Rattle.wire.proofs.Entries.{entries-length, entries16-length, entries64-length, entries-below, entries-take, bytes-entries, bytes-append, bytes-behind}
 use Rattle.request.specs.declared.plan.Plan.{Plan}
 use Rattle.request.specs.Plan.{settingOf, Planned}
 use Rattle.changes.specs.Change.{changed}

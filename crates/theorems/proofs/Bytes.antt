@@ -26,8 +26,8 @@ use Rattle.model.proofs.Reply.{reply-refused, reply-kept, refused-not}
 use Rattle.model.proofs.Edges.{reply-lengths, reply-words-below, reply-supports-below}
 use Rattle.model.proofs.Calls.{shared-lent}
 use Rattle.model.proofs.Mission.{answered, filtering, claim, test-answered, compare-answered}
-use Rattle.wire.specs.Entries.{entries16, entries64, bytes}
-use Rattle.wire.proofs.Entries.{Bytes, entries-below, entries64-length, bytes-length, bytes-bytes, entries16-bytes, entries64-bytes}
+use Rattle.wire.specs.Entries.{Bytes, entries16, entries64, bytes}
+use Rattle.wire.proofs.Entries.{entries-below, entries64-length, bytes-length, bytes-bytes, entries16-bytes, entries64-bytes}
 use Rattle.encoding.specs.Whole.{whole, wholeInstance}
 use Rattle.encoding.specs.Packed.{packed, unpacked, packedPair, pairIn, Outcome, outcome, encoded, replyBytes}
 use Rattle.encoding.specs.Call.{ByteBook, byteNetwork, byteInstance, ByteRequest, isWhole, wholeLists, wholeIds, notWhole, decoded, acceptsBytes, byteReply, KeepsBytes, wholeTest, byteTest, TestedBytes, wholeBook, byteCompare, ComparedBytes}

@@ -14,8 +14,7 @@ use Rattle.model.specs.Request.{Change}
 use Rattle.model.specs.Reply.{Reply}
 use Rattle.model.specs.Calls.{Call, lentWords, sharedAfter, Made, callsOf, State}
 use Rattle.model.specs.Promises.{Answered, Filtered, StrikeRule, Local, TestAnswered, CompareAnswered}
-use Rattle.wire.specs.Entries.{entries16, entries64, bytes}
-use Rattle.wire.proofs.Entries.{Bytes}
+use Rattle.wire.specs.Entries.{Bytes, entries16, entries64, bytes}
 use Rattle.encoding.specs.Packed.{unpacked, repliedIn, pairIn, Outcome, outcome}
 use Rattle.encoding.specs.Call.{ByteBook, byteNetwork, byteInstance, wholeTest, wholeBook, ByteRequest, byteRequest, isWhole, notWhole, decodedChange, decoded, acceptsBytes, KeepsBytes}
 

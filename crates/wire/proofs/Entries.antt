@@ -9,11 +9,7 @@ use native.Mathlib.Omega.{arith}
 use lib.Arith.{mod-mul}
 use lib.ListN.{length, take, drop, getD, set, length-append, length-drop, length-set, take-append-drop, drop-of-length-le}
 use lib.Seq.{drop-cons, drop-nil, drop-drop, drop-at, take-nil, take-suc, take-take, take-at, take-length, take-all, length-take-le, getD-drop, set-at, sets-eq}
-use Rattle.wire.specs.Entries.{value, bytesOf, entryAt, entries, bytes, entries16, entries64, Filled}
-
--- every byte of a list is one
-abbrev pub Bytes : List ℕ → Type 0
-Bytes bs = (i : ℕ) → getD bs i 0 < 256
+use Rattle.wire.specs.Entries.{Bytes, value, bytesOf, entryAt, entries, bytes, entries16, entries64, Filled}
 
 -- ---- One entry
 
