@@ -116,6 +116,61 @@ uint64_t wakhvosi_compare(const uint8_t *sheets, size_t sheets_bytes,
                           const uint8_t *codes, size_t codes_bytes,
                           uint16_t a, uint16_t b);
 
+/* ---- The same calls on typed arrays
+ *
+ * For a program that has its book in arrays of numbers. Each call is the one above whose name it begins with: the same answer, the
+ * same refusals in the same order, the same writes. What differs:
+ *
+ *   - each list is a pointer and then its number of entries, as many as the list has of the numbers (of the records, for sheets)
+ *     that its type names; combinations_entries is thus m for each combination;
+ *   - there is no refusal number 1: every list is a whole number of entries;
+ *   - numbers stand in the machine's own byte order, and a list is aligned as its type asks.
+ */
+
+/* A sheet record. */
+typedef struct {
+    uint16_t width; /* how many questions the sheet asks */
+    uint16_t rows;  /* its number of rows */
+} wakhvosi_sheet;
+
+uint64_t wakhvosi_filter_records(const wakhvosi_sheet *sheets, size_t sheets_entries,
+                                 const uint16_t *questions, size_t questions_entries,
+                                 const uint16_t *codes, size_t codes_entries,
+                                 uint16_t m,
+                                 const uint16_t *combinations, size_t combinations_entries,
+                                 uint64_t *marks, size_t marks_entries,
+                                 uint16_t *supports, size_t supports_entries);
+
+uint64_t wakhvosi_withdraw_records(const wakhvosi_sheet *sheets, size_t sheets_entries,
+                                   const uint16_t *questions, size_t questions_entries,
+                                   const uint16_t *codes, size_t codes_entries,
+                                   uint16_t m,
+                                   const uint16_t *combinations, size_t combinations_entries,
+                                   uint64_t *marks, size_t marks_entries,
+                                   uint16_t *supports, size_t supports_entries,
+                                   const uint16_t *rows, size_t rows_entries);
+
+uint64_t wakhvosi_choose_records(const wakhvosi_sheet *sheets, size_t sheets_entries,
+                                 const uint16_t *questions, size_t questions_entries,
+                                 const uint16_t *codes, size_t codes_entries,
+                                 uint16_t m,
+                                 const uint16_t *combinations, size_t combinations_entries,
+                                 uint64_t *marks, size_t marks_entries,
+                                 uint16_t *supports, size_t supports_entries,
+                                 uint16_t question, uint16_t code);
+
+uint64_t wakhvosi_test_records(const wakhvosi_sheet *sheets, size_t sheets_entries,
+                               const uint16_t *questions, size_t questions_entries,
+                               const uint16_t *codes, size_t codes_entries,
+                               uint16_t m,
+                               const uint16_t *combinations, size_t combinations_entries,
+                               const uint64_t *marks, size_t marks_entries);
+
+uint64_t wakhvosi_compare_records(const wakhvosi_sheet *sheets, size_t sheets_entries,
+                                  const uint16_t *questions, size_t questions_entries,
+                                  const uint16_t *codes, size_t codes_entries,
+                                  uint16_t a, uint16_t b);
+
 #ifdef __cplusplus
 }
 #endif

@@ -1,13 +1,12 @@
 /* Document 01's examples P1 to P9, and test and compare beside them, through the calls over relation records: the lines that the
  * program test_examples writes through the calls on plain lists. */
-#include "records.h"
 #include "wakhvosi.h"
 #include <inttypes.h>
 #include <stdio.h>
 
 #define LIST(list) list, sizeof list / sizeof *list
 
-static const relation of_a[] = {{2, 3}, {2, 2}, {2, 2}};
+static const wakhvosi_sheet of_a[] = {{2, 3}, {2, 2}, {2, 2}};
 static const uint16_t round_about[] = {0, 1, 1, 2, 2, 0};
 static const uint16_t codes_of_a[] = {1, 1, 1, 2, 2, 2, 1, 5, 2, 6, 5, 1, 6, 1};
 static const uint16_t pairs[] = {0, 1, 0, 2, 1, 2};
@@ -35,7 +34,7 @@ static void say_whether(const char *what, uint64_t answer) {
 /* Book A with one tuple withdrawn. */
 static void withdrawn(const char *what, uint64_t words[1], uint16_t id) {
     uint16_t supports[40], ids[] = {id};
-    uint64_t answer = records_withdraw(BOOK_A, 2, LIST(pairs), words, 1, LIST(supports), LIST(ids));
+    uint64_t answer = wakhvosi_withdraw_records(BOOK_A, 2, LIST(pairs), words, 1, LIST(supports), LIST(ids));
     say(what, answer, words[0]);
 }
 
@@ -43,40 +42,42 @@ static void withdrawn(const char *what, uint64_t words[1], uint16_t id) {
 static void book_a(void) {
     uint64_t words[] = {127};
     uint16_t supports[40];
-    say_whether("fresh A settled", records_test(BOOK_A, 2, LIST(pairs), LIST(words)));
-    uint64_t p1 = records_filter(BOOK_A, 2, LIST(pairs), LIST(words), LIST(supports));
+    say_whether("fresh A settled", wakhvosi_test_records(BOOK_A, 2, LIST(pairs), LIST(words)));
+    uint64_t p1 = wakhvosi_filter_records(BOOK_A, 2, LIST(pairs), LIST(words), LIST(supports));
     say("P1", p1, words[0]);
     printf("P2: %u,%u\n", supports[8], supports[9]);
-    say_whether("filtered A settled", records_test(BOOK_A, 2, LIST(pairs), LIST(words)));
+    say_whether("filtered A settled", wakhvosi_test_records(BOOK_A, 2, LIST(pairs), LIST(words)));
     withdrawn("P3", words, 5);
     withdrawn("P4", words, 6);
     words[0] = 127;
     withdrawn("P5", words, 5);
     words[0] = 127;
-    uint64_t p9 = records_choose(BOOK_A, 2, LIST(pairs), LIST(words), LIST(supports), 2, 6);
+    uint64_t p9 = wakhvosi_choose_records(BOOK_A, 2, LIST(pairs), LIST(words), LIST(supports), 2, 6);
     say("P9", p9, words[0]);
-    say_whether("rows 0 and 3 agree", records_compare(BOOK_A, 0, 3));
-    say_whether("rows 2 and 3 agree", records_compare(BOOK_A, 2, 3));
+    say_whether("rows 0 and 3 agree", wakhvosi_compare_records(BOOK_A, 0, 3));
+    say_whether("rows 2 and 3 agree", wakhvosi_compare_records(BOOK_A, 2, 3));
 }
 
 /* P6 and P7. */
 static void triples(void) {
-    const relation relations[] = {{2, 2}, {2, 2}, {2, 2}};
+    const wakhvosi_sheet relations[] = {{2, 2}, {2, 2}, {2, 2}};
     const uint16_t values[] = {0, 1, 1, 0, 0, 1, 1, 0, 0, 1, 1, 0}, triple[] = {0, 1, 2};
     uint64_t words[] = {63};
     uint16_t supports[40];
-    uint64_t p6 = records_filter(LIST(relations), LIST(round_about), LIST(values), 2, LIST(pairs), LIST(words), LIST(supports));
+    uint64_t p6 =
+        wakhvosi_filter_records(LIST(relations), LIST(round_about), LIST(values), 2, LIST(pairs), LIST(words), LIST(supports));
     say("P6", p6, words[0]);
-    uint64_t p7 = records_filter(LIST(relations), LIST(round_about), LIST(values), 3, LIST(triple), LIST(words), LIST(supports));
+    uint64_t p7 =
+        wakhvosi_filter_records(LIST(relations), LIST(round_about), LIST(values), 3, LIST(triple), LIST(words), LIST(supports));
     say("P7", p7, words[0]);
 }
 
 /* P8. */
 static void empty_sheet(void) {
-    const relation relations[] = {{1, 1}, {1, 0}};
+    const wakhvosi_sheet relations[] = {{1, 1}, {1, 0}};
     const uint16_t variables[] = {0, 0}, values[] = {4};
     uint64_t words[] = {1};
-    uint64_t p8 = records_filter(LIST(relations), LIST(variables), LIST(values), 2, NULL, 0, LIST(words), NULL, 0);
+    uint64_t p8 = wakhvosi_filter_records(LIST(relations), LIST(variables), LIST(values), 2, NULL, 0, LIST(words), NULL, 0);
     say("P8", p8, words[0]);
 }
 

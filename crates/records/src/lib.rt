@@ -1,20 +1,21 @@
-// The five calls over a list of relation records.
+// The five calls over a list of relation records, exported for C programs with typed arrays. include/wakhvosi.h says what each
+// means there.
 ghost use mathlib.Core.Path.{_≡_};
 ghost use Prim.Native.Nat.{_<_};
 ghost use Rattle.model.specs.Limits.{maxRelations};
 ghost use Rattle.model.specs.Request.{filter, withdraw, choose};
-ghost use Rattle.model.specs.Reply.{verdictNumbers, testReply, comparisonNumbers, compareReply};
+ghost use Rattle.model.specs.Reply.{Tested, Compared};
 ghost use Rattle.layout.specs.Loan.{entry};
 ghost use Rattle.layout.specs.Shape.{shapeOf};
-ghost use Rattle.changes.specs.Change.{Replies};
+ghost use Rattle.encoding.specs.Packed.{pairIn};
 ghost use Rattle.records.specs.Records.{entryNetwork, entryInstance, lesser, unread, withRecord};
+ghost use Rattle.records.specs.Packed.{RepliesIn};
 use layout::Shape;
-use model::Answer;
-use model::Comparison;
 use model::MAX_RELATIONS;
 use model::Relation;
 use model::Value;
-use model::Verdict;
+
+pub mod packed; // the calls on the records' shape, their answers packed
 
 // n, or 64 where n is more.
 fn at_most_64(n: usize) -> usize
@@ -60,7 +61,8 @@ pub fn shape_of(relations: &[Relation]) -> Shape
 }
 
 // Filters what lives.
-pub fn filter(
+#[no_mangle]
+pub extern "C" fn wakhvosi_filter_records(
     relations: &[Relation],
     variables: &[u16],
     values: &[Value],
@@ -68,15 +70,16 @@ pub fn filter(
     members: &[u16],
     words: &mut [u64],
     supports: &mut [u16],
-) -> Answer
-    ensures { λ a. ⌜ Replies a (entryInstance relations variables values m members) words supports filter ⌝ }
+) -> u64
+    ensures { λ n. ⌜ RepliesIn n (entryInstance relations variables values m members) words supports filter ⌝ }
 {
     let shape = shape_of(relations);
-    changes::filter(shape, variables, values, m, members, words, supports)
+    packed::filter(shape, variables, values, m, members, words, supports)
 }
 
 // Withdraws the tuples listed, live or dead, and filters what then lives.
-pub fn withdraw(
+#[no_mangle]
+pub extern "C" fn wakhvosi_withdraw_records(
     relations: &[Relation],
     variables: &[u16],
     values: &[Value],
@@ -85,15 +88,16 @@ pub fn withdraw(
     words: &mut [u64],
     supports: &mut [u16],
     ids: &[u16],
-) -> Answer
-    ensures { λ a. ⌜ Replies a (entryInstance relations variables values m members) words supports (withdraw (entry ids)) ⌝ }
+) -> u64
+    ensures { λ n. ⌜ RepliesIn n (entryInstance relations variables values m members) words supports (withdraw (entry ids)) ⌝ }
 {
     let shape = shape_of(relations);
-    changes::withdraw(shape, variables, values, m, members, words, supports, ids)
+    packed::withdraw(shape, variables, values, m, members, words, supports, ids)
 }
 
 // Withdraws every tuple that has another value than v under variable x, and filters what then lives.
-pub fn choose(
+#[no_mangle]
+pub extern "C" fn wakhvosi_choose_records(
     relations: &[Relation],
     variables: &[u16],
     values: &[Value],
@@ -103,38 +107,40 @@ pub fn choose(
     supports: &mut [u16],
     x: u16,
     v: Value,
-) -> Answer
-    ensures { λ a. ⌜ Replies a (entryInstance relations variables values m members) words supports (choose x v) ⌝ }
+) -> u64
+    ensures { λ n. ⌜ RepliesIn n (entryInstance relations variables values m members) words supports (choose x v) ⌝ }
 {
     let shape = shape_of(relations);
-    changes::choose(shape, variables, values, m, members, words, supports, x, v)
+    packed::choose(shape, variables, values, m, members, words, supports, x, v)
 }
 
 // Whether the live tuples are consistent: each has a support in every combination that holds its relation.
-pub fn test(
+#[no_mangle]
+pub extern "C" fn wakhvosi_test_records(
     relations: &[Relation],
     variables: &[u16],
     values: &[Value],
     m: u16,
     members: &[u16],
     words: &[u64],
-) -> Verdict
-    ensures { λ v. ⌜ verdictNumbers v ≡ testReply (entryInstance relations variables values m members) (entry words) ⌝ }
+) -> u64
+    ensures { λ n. ⌜ Tested (entryInstance relations variables values m members) (entry words) (pairIn n) ⌝ }
 {
     let shape = shape_of(relations);
-    consistency::test(shape, variables, values, m, members, words)
+    packed::test(shape, variables, values, m, members, words)
 }
 
 // Compares the tuples with ids g and h.
-pub fn compare(
+#[no_mangle]
+pub extern "C" fn wakhvosi_compare_records(
     relations: &[Relation],
     variables: &[u16],
     values: &[Value],
     g: u16,
     h: u16,
-) -> Comparison
-    ensures { λ a. ⌜ comparisonNumbers a ≡ compareReply (entryNetwork relations variables values) g h ⌝ }
+) -> u64
+    ensures { λ n. ⌜ Compared (entryNetwork relations variables values) g h (pairIn n) ⌝ }
 {
     let shape = shape_of(relations);
-    network::comparison::compare(shape, variables, values, g, h)
+    packed::compare(shape, variables, values, g, h)
 }
