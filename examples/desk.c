@@ -48,10 +48,10 @@ static void show(const char *asked, uint64_t answer) {
 }
 
 static void show_reply(const char *asked, uint64_t answer) {
-    if ((answer & 255) == 2)
-        printf("%s: refused, number %u\n", asked, (unsigned)(answer >> 8));
+    if (wakhvosi_kind(answer) == WAKHVOSI_REFUSED)
+        printf("%s: refused, number %u\n", asked, wakhvosi_refusal(answer));
     else
-        printf("%s: %s\n", asked, answer == 1 ? "yes" : "no");
+        printf("%s: %s\n", asked, wakhvosi_kind(answer) == WAKHVOSI_YES ? "yes" : "no");
 }
 
 static uint64_t filter(void) {

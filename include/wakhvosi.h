@@ -1,6 +1,6 @@
 /* Wakhvosi: the row filter of the compatibility book, for programs in C.
  *
- * Link with the archive alone; it needs no other library.
+ * Link with libwakhvosi, the archive or the shared library. Of other libraries it calls memcpy and memset alone (docs/C-API.md).
  *
  * Lists. Each list is a pointer to bytes and then its length in bytes. Numbers stand in them little-endian, end to end:
  *
@@ -50,26 +50,81 @@
 extern "C" {
 #endif
 
-/* ---- Answers of the change calls: five numbers in one */
+/* The version of the library that this header is of. */
+#define WAKHVOSI_VERSION "0.1.0"
 
-/* The kind of an answer. */
+/* ---- Limits of a book */
+
+enum {
+    WAKHVOSI_MAX_SHEETS = 64, /* at least 1 */
+    WAKHVOSI_MAX_WIDTH = 8,   /* questions of a sheet, at least 1 */
+    WAKHVOSI_MAX_ROWS = 4096, /* rows of all sheets together */
+    WAKHVOSI_QUESTIONS = 64,  /* every question is below this number */
+    WAKHVOSI_MIN_MEMBERS = 2, /* m, the sheets of one combination */
+    WAKHVOSI_MAX_MEMBERS = 4,
+    WAKHVOSI_MAX_COMBINATIONS = 256,
+    WAKHVOSI_MAX_SUPPORTS = 32768, /* numbers that the supports may need */
+    WAKHVOSI_NO_SUPPORT = 65535,   /* stands m times in the supports where a row is dead */
+    WAKHVOSI_NO_SHEET = 64         /* the subject of a settled answer */
+};
+
+/* ---- How many bytes of marks and supports a book needs */
+
+/* No accepted book needs more than these. */
+enum { WAKHVOSI_MAX_MARKS_BYTES = WAKHVOSI_MAX_ROWS / 8, WAKHVOSI_MAX_SUPPORTS_BYTES = 2 * WAKHVOSI_MAX_SUPPORTS };
+
+/* The number of rows of a sheet; 0 of one that the list does not have. */
+static inline size_t wakhvosi_sheet_rows(const uint8_t *sheets, size_t sheets_bytes, size_t sheet) {
+    return sheet < sheets_bytes / 4 ? sheets[4 * sheet + 2] + 256u * sheets[4 * sheet + 3] : 0;
+}
+
+/* Of marks: 8 for every 64 rows of the book, the last of them rounded up. */
+static inline size_t wakhvosi_marks_bytes(const uint8_t *sheets, size_t sheets_bytes) {
+    size_t rows = 0;
+    for (size_t sheet = 0; sheet < sheets_bytes / 4; sheet++)
+        rows += wakhvosi_sheet_rows(sheets, sheets_bytes, sheet);
+    return (rows + 63) / 64 * 8;
+}
+
+/* Of supports: 2 * m for every row of every sheet that the combinations list, each time that it is listed. */
+static inline size_t wakhvosi_supports_bytes(const uint8_t *sheets, size_t sheets_bytes,
+                                             uint16_t m,
+                                             const uint8_t *combinations, size_t combinations_bytes) {
+    size_t rows = 0;
+    for (size_t i = 0; i < combinations_bytes / 2; i++)
+        rows += wakhvosi_sheet_rows(sheets, sheets_bytes, combinations[2 * i] + 256u * combinations[2 * i + 1]);
+    return 2 * (size_t)m * rows;
+}
+
+/* ---- Answers */
+
+/* The kind of a change call's answer (filter, withdraw, choose) and of test's or compare's. */
 enum {
     WAKHVOSI_SETTLED = 0, /* every sheet has a row left */
     WAKHVOSI_EMPTIED = 1, /* a sheet has none: no complete order exists */
-    WAKHVOSI_REFUSED = 2  /* the request has a fault; nothing was written */
+    WAKHVOSI_NO = 0,      /* test: the marks are not settled; compare: the rows do not agree */
+    WAKHVOSI_YES = 1,
+    WAKHVOSI_REFUSED = 2 /* of every call: the request has a fault; nothing was written */
 };
 
-/* Bits 0 to 7: the kind. */
+/* Of every call. Bits 0 to 7: the kind. */
 static inline unsigned wakhvosi_kind(uint64_t answer) { return (unsigned)(answer & 255); }
 
-/* Bits 8 to 15: 64 if settled, the lowest sheet with no row left if emptied, the refusal number if refused. */
+/* Of a change call. Bits 8 to 15: 64 if settled, the lowest sheet with no row left if emptied, the refusal number if refused. */
 static inline unsigned wakhvosi_subject(uint64_t answer) { return (unsigned)(answer >> 8 & 255); }
 
-/* Bits 16 to 31: the rows left. 32 to 47: the living rows that the call withdrew. 48 to 63: those that the filter deleted.
- * All three are 0 if refused. */
+/* Of every call: the refusal number, or 0 if it was accepted. */
+static inline unsigned wakhvosi_refusal(uint64_t answer) {
+    return wakhvosi_kind(answer) == WAKHVOSI_REFUSED ? wakhvosi_subject(answer) : 0;
+}
+
+/* Of a change call. Bits 16 to 31: the rows left. 32 to 47: the living rows that the call withdrew. 48 to 63: those that the filter
+ * deleted. All three are 0 if refused. */
 static inline unsigned wakhvosi_left(uint64_t answer) { return (unsigned)(answer >> 16 & 65535); }
 static inline unsigned wakhvosi_withdrawn(uint64_t answer) { return (unsigned)(answer >> 32 & 65535); }
 static inline unsigned wakhvosi_deleted(uint64_t answer) { return (unsigned)(answer >> 48); }
+
+/* ---- Change calls */
 
 /* Filter: leaves the largest set of the living rows in which each row has a support in every combination with its sheet. */
 uint64_t wakhvosi_filter(const uint8_t *sheets, size_t sheets_bytes,
@@ -100,7 +155,7 @@ uint64_t wakhvosi_choose(const uint8_t *sheets, size_t sheets_bytes,
                          uint8_t *supports, size_t supports_bytes,
                          uint16_t question, uint16_t code);
 
-/* ---- Answers of test and compare: 0 no, 1 yes, 2 with the refusal number in bits 8 to 15 */
+/* ---- Test and compare: the answer has a kind, and a refusal number if refused; its other bits are 0 */
 
 /* Test: are the marks settled. */
 uint64_t wakhvosi_test(const uint8_t *sheets, size_t sheets_bytes,
