@@ -5,12 +5,9 @@ use mathlib.Core.List.{List, [], _∷_}
 use Prim.Native.Nat.{ℕ}
 use lib.ListN.{drop}
 use Rattle.model.specs.declared.Relation.{Relation}
-use Rattle.model.specs.Reply.{Compared}
 use Rattle.model.proofs.Relation as T
-use Rattle.layout.specs.Shape.{shapeOf, networkOf}
+use Rattle.layout.specs.Shape.{shapeOf}
 use Rattle.layout.proofs.Records.{compareReply-shapeOf}
-use Rattle.encoding.specs.Packed.{pairIn}
-use Rattle.records.specs.Records.{recordNetwork}
 use Rattle.records.proofs.Walk.{URA, named, w16, vint, SProp, ent, id⊢, flft, Memory, Routine, Heap, WpFn, Tables, Atoms, sem, Lfts, Shares, Fun, givenOf, tables, tablesOf, Given, ‵, raw, _⊛_, _$_, _∵_, !, qed, move, init, stop, from, no-more, land, enter, params1, pass1, pass0, fmOf, owns, flat, Are, Ises, RefT, now, slice-vals, uint-vals, uint-tells, shr-slice-tells, typesAt, u16, Contract, Triple, Args, Vals, alive, onEntry, Meets, tripleOf, entered, cited, ensured, lasts}
 use Rattle.records.proofs.Locals.{sv, list-typed, others, allocated, operand, met, retold}
 use Rattle.records.proofs.Pass.{ShapeOf, records, takes-apart, answers}
@@ -58,9 +55,7 @@ module _ {M : Type 1} (𝓤 : URA M) (H : Heap 𝓤) (A : Atoms 𝓤) (W : Given
 
   tells : (n : ℕ) → ent 𝓤 (Said n) (Told n)
   tells n =
-      retold 𝓤 (λ zs. (tt, zs .1)) (λ zs. sem 𝓤 H A (lasts f.ended κs a zs))
-      (λ zs. Compared (networkOf (shapeOf (now relations)) (now variables) (now values)) g h (pairIn n))
-      (λ zs. Compared (recordNetwork (now relations) (now variables) (now values)) g h (pairIn n))
+      retold 𝓤 (λ zs. (tt, zs .1)) (λ zs. sem 𝓤 H A (lasts f.ended κs a zs)) _ _
       (λ zs e. e ∙ compareReply-shapeOf (now relations) (now variables) (now values) g h)
 
   walk : (𝓣 : Tables 𝓤 H) → Triple 𝓤 (𝓣 .C #records·shape-of) (ShapeOf 𝓤 H A mem run) → Triple 𝓤 (𝓣 .C #records·packed·compare) (Work 𝓤 H A mem run)

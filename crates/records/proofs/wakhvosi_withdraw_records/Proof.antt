@@ -5,13 +5,10 @@ use mathlib.Core.List.{List, [], _∷_}
 use Prim.Native.Nat.{ℕ}
 use lib.ListN.{drop}
 use Rattle.model.specs.declared.Relation.{Relation}
-use Rattle.model.specs.Request.{Instance, withdraw}
-use Rattle.model.specs.Reply.{request, Keeps}
+use Rattle.model.specs.Request.{withdraw}
 use Rattle.model.proofs.Relation as T
-use Rattle.layout.specs.Shape.{shapeOf, instanceOf}
+use Rattle.layout.specs.Shape.{shapeOf}
 use Rattle.layout.proofs.Records.{reply-shapeOf}
-use Rattle.encoding.specs.Packed.{repliedIn}
-use Rattle.records.specs.Records.{recordInstance}
 use Rattle.records.proofs.Walk.{URA, named, w16, vint, vptr, SProp, ent, id⊢, flft, Memory, Routine, Heap, WpFn, Tables, Atoms, sem, Lfts, Shares, Fun, givenOf, tables, tablesOf, Given, ‵, raw, _⊛_, _$_, _∵_, !, qed, move, whole, sub, look-in, agg, look, hop, fld, load, addr, and-then, assigns, init, stop, from, no-more, land, enter, params1, pass1, pass0, fmOf, owns, flat, Are, Ises, RefT, now, ptr, slice-vals, uint-vals, uint-tells, shr-slice-tells, mut-slice-tells, typesAt, u16, u64, Contract, Triple, Args, Vals, alive, onEntry, Meets, tripleOf, entered, cited, ensured, lasts}
 use Rattle.records.proofs.Locals.{sv, list-typed, others, allocated, operand, met, retold}
 use Rattle.records.proofs.Pass.{ShapeOf, records, takes-apart, answers}
@@ -57,15 +54,9 @@ module _ {M : Type 1} (𝓤 : URA M) (H : Heap 𝓤) (A : Atoms 𝓤) (W : Given
   abbrev Told : ℕ → SProp 𝓤
   Told n = ensured 𝓤 H A f.ended (f.clauses 𝓤 H A mem run) κs a tt n
 
-  -- the reply on an instance
-  abbrev Replies : Instance → ℕ → List ℕ → List ℕ → Type 0
-  Replies I n ws ns = Keeps (request I (now words) (now supports) (withdraw (now ids))) (repliedIn n ws ns)
-
   tells : (n : ℕ) → ent 𝓤 (Said n) (Told n)
   tells n =
-      retold 𝓤 (λ zs. (tt, zs .1)) (λ zs. sem 𝓤 H A (lasts f.ended κs a zs))
-      (λ zs. Replies (instanceOf (shapeOf (now relations)) (now variables) (now values) m (now members)) n (zs .1 .1 .1 .1 .1 .0) (zs .1 .1 .1 .1 .1 .1 .0))
-      (λ zs. Replies (recordInstance (now relations) (now variables) (now values) m (now members)) n (zs .1 .1 .1 .1 .1 .0) (zs .1 .1 .1 .1 .1 .1 .0))
+      retold 𝓤 (λ zs. (tt, zs .1)) (λ zs. sem 𝓤 H A (lasts f.ended κs a zs)) _ _
       (λ zs e. e ∙ reply-shapeOf (now relations) (now variables) (now values) m (now members) (now words) (now supports) (withdraw (now ids)))
 
   walk : (𝓣 : Tables 𝓤 H) → Triple 𝓤 (𝓣 .C #records·shape-of) (ShapeOf 𝓤 H A mem run) → Triple 𝓤 (𝓣 .C #records·packed·withdraw) (Work 𝓤 H A mem run)
