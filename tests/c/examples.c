@@ -7,7 +7,7 @@
 
 #define LIST(list) list, sizeof list / sizeof *list
 
-static const relation of_a[] = {{2, 3}, {2, 2}, {2, 2}};
+static const wakhvosi_sheet of_a[] = {{2, 3}, {2, 2}, {2, 2}};
 static const uint16_t round_about[] = {0, 1, 1, 2, 2, 0};
 static const uint16_t codes_of_a[] = {1, 1, 1, 2, 2, 2, 1, 5, 2, 6, 5, 1, 6, 1};
 static const uint16_t pairs[] = {0, 1, 0, 2, 1, 2};
@@ -61,7 +61,7 @@ static void book_a(void) {
 
 /* P6 and P7. */
 static void triples(void) {
-    const relation relations[] = {{2, 2}, {2, 2}, {2, 2}};
+    const wakhvosi_sheet relations[] = {{2, 2}, {2, 2}, {2, 2}};
     const uint16_t values[] = {0, 1, 1, 0, 0, 1, 1, 0, 0, 1, 1, 0}, triple[] = {0, 1, 2};
     uint64_t words[] = {63};
     uint16_t supports[40];
@@ -73,7 +73,7 @@ static void triples(void) {
 
 /* P8. */
 static void empty_sheet(void) {
-    const relation relations[] = {{1, 1}, {1, 0}};
+    const wakhvosi_sheet relations[] = {{1, 1}, {1, 0}};
     const uint16_t variables[] = {0, 0}, values[] = {4};
     uint64_t words[] = {1};
     uint64_t p8 = records_filter(LIST(relations), LIST(variables), LIST(values), 2, NULL, 0, LIST(words), NULL, 0);

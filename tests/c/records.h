@@ -1,4 +1,4 @@
-/* The calls over a lent list of relation records, as the crate test_records exports them. Answers are packed as include/wakhvosi.h
+/* The calls over a lent list of sheet records, as the crate test_records exports them. Answers are packed as include/wakhvosi.h
  * says. */
 #ifndef RECORDS_H
 #define RECORDS_H
@@ -6,17 +6,17 @@
 #include <stdint.h>
 
 typedef struct {
-    uint16_t width, tuples;
-} relation;
+    uint16_t width, rows;
+} wakhvosi_sheet;
 
-#define NETWORK \
-    const relation *relations, size_t relation_count, const uint16_t *variables, size_t variable_count, const uint16_t *values, \
-        size_t value_count
-#define INSTANCE NETWORK, uint16_t m, const uint16_t *members, size_t member_count
-#define CHANGED INSTANCE, uint64_t *words, size_t word_count, uint16_t *supports, size_t support_count
-uint64_t records_filter(CHANGED);
-uint64_t records_withdraw(CHANGED, const uint16_t *ids, size_t id_count);
-uint64_t records_choose(CHANGED, uint16_t x, uint16_t v);
-uint64_t records_test(INSTANCE, const uint64_t *words, size_t word_count);
-uint64_t records_compare(NETWORK, uint16_t g, uint16_t h);
+#define BOOK_LISTS \
+    const wakhvosi_sheet *sheets, size_t sheet_count, const uint16_t *questions, size_t question_count, const uint16_t *codes, \
+        size_t code_count
+#define READ_LISTS BOOK_LISTS, uint16_t m, const uint16_t *combinations, size_t combination_entries
+#define CHANGED_LISTS READ_LISTS, uint64_t *marks, size_t mark_words, uint16_t *supports, size_t support_numbers
+uint64_t records_filter(CHANGED_LISTS);
+uint64_t records_withdraw(CHANGED_LISTS, const uint16_t *rows, size_t row_count);
+uint64_t records_choose(CHANGED_LISTS, uint16_t question, uint16_t code);
+uint64_t records_test(READ_LISTS, const uint64_t *marks, size_t mark_words);
+uint64_t records_compare(BOOK_LISTS, uint16_t a, uint16_t b);
 #endif
