@@ -1,27 +1,48 @@
-/* The calls on plain lists, each lent on a block of its exact size. */
-#include "request.h"
+/* The calls on plain lists, as the crate test_calls exports them. */
+#include "lend.h"
 
-#define BOOK const uint16_t *, size_t, const uint16_t *, size_t, const uint16_t *, size_t
-#define LISTS BOOK, uint16_t, const uint16_t *, size_t, uint64_t *, size_t, uint16_t *, size_t
-void plain_filter(LISTS, uint16_t *);
-void plain_withdraw(LISTS, const uint16_t *, size_t, uint16_t *);
-void plain_choose(LISTS, const uint16_t *, uint16_t *);
-uint32_t plain_test(BOOK, uint16_t, const uint16_t *, size_t, const uint64_t *, size_t);
-uint32_t plain_compare(BOOK, uint16_t, uint16_t);
+const side last_side = BEFORE;
 
-#define GIVEN q->records.at, q->records.n, q->questions.at, q->questions.n, q->codes.at, q->codes.n
-#define LENT GIVEN, q->m, q->members.at, q->members.n, marks.at, marks.n, q->supports.at, q->supports.n
+#define BOOK_LISTS const uint16_t *, size_t, const uint16_t *, size_t, const uint16_t *, size_t
+#define CHANGED_LISTS BOOK_LISTS, uint16_t, const uint16_t *, size_t, uint64_t *, size_t, uint16_t *, size_t
+void plain_filter(CHANGED_LISTS, uint16_t *);
+void plain_withdraw(CHANGED_LISTS, const uint16_t *, size_t, uint16_t *);
+void plain_choose(CHANGED_LISTS, const uint16_t *, uint16_t *);
+uint32_t plain_test(BOOK_LISTS, uint16_t, const uint16_t *, size_t, const uint64_t *, size_t);
+uint32_t plain_compare(BOOK_LISTS, uint16_t, uint16_t);
 
-bool put_to_library(request *q, words marks, uint16_t out[5]) {
-    uint32_t short_answer;
+#define AT(i, type) (type *)q->lists[i].at, q->lists[i].bytes / sizeof(type)
+#define BOOK AT(SHEETS, uint16_t), AT(QUESTIONS, uint16_t), AT(CODES, uint16_t)
+#define LENT BOOK, q->m, AT(COMBINATIONS, uint16_t), AT(MARKS, uint64_t), AT(SUPPORTS, uint16_t)
+
+/* The answer's five numbers in one; the largest number where a kind or a subject has no room in it. */
+static uint64_t packed(const uint16_t numbers[5]) {
+    if (numbers[0] > 255 || numbers[1] > 255) return UINT64_MAX;
+    uint64_t answer = numbers[0] | numbers[1] << 8;
+    for (int i = 2; i < 5; i++) answer |= (uint64_t)numbers[i] << (16 * i - 16);
+    return answer;
+}
+
+/* The change calls write the five numbers to a list, and choose takes its question and code as a list. */
+static uint64_t change(const request *q) {
+    fenced numbers = fence((uint16_t[5]){9, 9, 9, 9, 9}, 10, q->where);
+    fenced choice = fence((uint16_t[2]){q->x, q->y}, 4, q->where);
+    only_read(choice);
+    uint16_t *out = (uint16_t *)numbers.at;
     switch (q->call) {
     case FILTER: plain_filter(LENT, out); break;
-    case WITHDRAW: plain_withdraw(LENT, q->rows.at, q->rows.n, out); break;
-    case CHOOSE: plain_choose(LENT, (uint16_t[]){q->question, q->code}, out); break;
-    default:
-        short_answer = q->call == TEST ? plain_test(GIVEN, q->m, q->members.at, q->members.n, marks.at, marks.n)
-                                       : plain_compare(GIVEN, q->rows.at[0], q->rows.at[1]);
-        out[0] = short_answer % 256, out[1] = (uint16_t)(short_answer / 256);
+    case WITHDRAW: plain_withdraw(LENT, AT(ROWS, uint16_t), out); break;
+    default: plain_choose(LENT, (uint16_t *)choice.at, out);
     }
-    return true;
+    uint64_t answer = packed(out);
+    unfence(numbers), unfence(choice);
+    return answer;
+}
+
+uint64_t answer_of(const request *q) {
+    switch (q->call) {
+    case TEST: return plain_test(BOOK, q->m, AT(COMBINATIONS, uint16_t), AT(MARKS, uint64_t));
+    case COMPARE: return plain_compare(BOOK, q->x, q->y);
+    default: return change(q);
+    }
 }

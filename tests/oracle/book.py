@@ -203,11 +203,9 @@ def first_support(book: Book, combination: Combination, living: set[int], seeker
 
 def supported(book: Book, combinations: list[Combination], living: set[int], g: int) -> bool:
     """Whether row g has a support in every combination holding its sheet."""
-    for combination in combinations:
-        holds = any(g in book.sheets[sheet] for sheet in combination)
-        if holds and first_support(book, combination, living, g) is None:
-            return False
-    return True
+    own = next(sheet for sheet, rows in enumerate(book.sheets) if g in rows)
+    holding = [combination for combination in combinations if own in combination]
+    return all(first_support(book, combination, living, g) is not None for combination in holding)
 
 
 def settled(book: Book, combinations: list[Combination], living: set[int]) -> bool:

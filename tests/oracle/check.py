@@ -10,6 +10,7 @@ from unittest import mock
 
 import book
 import draw
+import reach
 from book import Book, Combination, Reply, Request, Row
 
 Check = tuple[str, Callable[[], bool]]
@@ -207,12 +208,16 @@ def texts_refused() -> bool:
 # Laws that every draw keeps
 
 
+Replied = list[tuple[Request, Reply]]
+
+
 @functools.lru_cache(maxsize=None)
-def sample(size: str, count: int) -> list[tuple[Request, Reply]]:
-    return [(request, book.reply(request)) for request in draw.requests(1, count, draw.CALLS, size)]
+def sample(size: str, count: int) -> Replied:
+    calls = draw.CHANGES if size == "full" else draw.CALLS
+    return [(request, book.reply(request)) for request in draw.requests(1, count, calls, size)]
 
 
-def changes_accepted(size: str, count: int) -> list[tuple[Request, Reply]]:
+def changes_accepted(size: str, count: int) -> Replied:
     asked = [pair for pair in sample(size, count) if pair[0].call in draw.CHANGES]
     return [(request, reply) for request, reply in asked if reply[0][0] != book.REFUSED]
 
@@ -441,7 +446,8 @@ def shapes_occur() -> bool:
 
 
 def same_seed_same_draws() -> bool:
-    requests = [draw.requests(7, 50, draw.CALLS, "mixed") for _ in range(2)]
+    sizes = (("mixed", 50), ("crowded", 4), ("alike", 4))
+    requests = [[draw.requests(7, count, draw.CALLS, size) for size, count in sizes] for _ in range(2)]
     lists = [draw.lists_of_calls(7, 20) for _ in range(2)]
     texts = [draw.texts(7, 50) for _ in range(2)]
     return all(first == second for first, second in (requests, lists, texts))
@@ -518,6 +524,35 @@ def filtered_by_shrunk_sheets(whole: Book, combinations: list[Combination], livi
     return living
 
 
+def supported_but_in_word(word: int, whole: Book, combinations: list[Combination], living: set[int], g: int) -> bool:
+    """Passes over the pairs of combination and member that one word of the waiting list would hold."""
+    own = next(sheet for sheet, rows in enumerate(whole.sheets) if g in rows)
+    pairs = [(place * len(c) + c.index(own), c) for place, c in enumerate(combinations) if own in c]
+    return all_supported(whole, [c for pair, c in pairs if pair // 64 != word], living, g)
+
+
+def visited(whole: Book, pairs: list[tuple[Combination, int]], living: set[int]) -> set[int]:
+    """The pairs in turn, again and again until nothing falls."""
+    while True:
+        before = living
+        for combination, sheet in pairs:
+            seekers = [g for g in whole.sheets[sheet] if g in living]
+            living = living - {g for g in seekers if book.first_support(whole, combination, living, g) is None}
+        if living == before:
+            return living
+
+
+def filtered_with_later_half_once(whole: Book, combinations: list[Combination], living: set[int]) -> set[int]:
+    """The lowest waiting pair first; but the pairs from number 512 on are not queued again."""
+    pairs = [(combination, sheet) for combination in combinations for sheet in combination]
+    living = visited(whole, pairs[:512], living)
+    for combination, sheet in pairs[512:]:
+        seekers = [g for g in whole.sheets[sheet] if g in living]
+        fallen = {g for g in seekers if book.first_support(whole, combination, living, g) is None}
+        living = visited(whole, pairs[:512], living - fallen) if fallen else living
+    return living
+
+
 def filtered_once(whole: Book, combinations: list[Combination], living: set[int]) -> set[int]:
     return {g for g in living if book.supported(whole, combinations, living, g)}
 
@@ -537,12 +572,26 @@ VARIANTS: list[tuple[str, Callable]] = [
 ]
 
 
-def told_apart(place: str, variant: Callable) -> bool:
-    """Whether some drawn requests get another answer or other marks; supports are left out."""
-    drawn = sample("small", 600)
+def told_apart(place: str, variant: Callable, drawn: Callable[[], Replied], least: int) -> bool:
+    """Whether so many of the drawn requests get another answer or other marks; supports are left out."""
+    replied = drawn()
     with mock.patch.object(book, place, variant), mock.patch.object(book, "supports_after"):
-        differing = [book.reply(request)[:2] != reply[:2] for request, reply in drawn]
-    return sum(differing) >= 3
+        differing = (request for request, reply in replied if book.reply(request)[:2] != reply[:2])
+        return len(list(itertools.islice(differing, least))) == least
+
+
+def of_many_pairs() -> Replied:
+    """Changes with all of the 1,024 pairs, by which rows fall and rows stay."""
+    drawn = sample("full", 10)
+    return [(asked, reply) for asked, reply in drawn if f"1,024 pairs, {asked.call}" in reach.reached(asked, reply)]
+
+
+def later_pairs() -> list[Check]:
+    """Of 1,024 pairs every word of the later half decides something, and so does queueing them again."""
+    named: list[tuple[str, str, Callable]] = [("later pairs queued again", "filtered", filtered_with_later_half_once)]
+    for word in range(8, 16):
+        named.append((f"pairs of word {word}", "supported", functools.partial(supported_but_in_word, word)))
+    return [(name, functools.partial(told_apart, place, variant, of_many_pairs, 1)) for name, place, variant in named]
 
 
 # The whole check
@@ -559,7 +608,9 @@ def checks() -> list[Check]:
     named = [(function.__name__, function) for function in plain]
     named += [(f"edge of {number}", functools.partial(edge_holds, number)) for number in draw.EDGES]
     named += [(f"fault {number} alone", functools.partial(fault_alone, number)) for number in book.FAULT_TESTS]
-    return named + [(variant.__name__, functools.partial(told_apart, place, variant)) for place, variant in VARIANTS]
+    few = functools.partial(sample, "small", 600)
+    named += [(variant.__name__, functools.partial(told_apart, place, variant, few, 3)) for place, variant in VARIANTS]
+    return named + later_pairs()
 
 
 def passes(name: str, check: Callable[[], bool]) -> bool:

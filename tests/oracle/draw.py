@@ -4,7 +4,7 @@ import itertools
 import math
 import random
 from dataclasses import replace
-from typing import Callable, NamedTuple
+from typing import Callable, NamedTuple, Optional
 
 import book
 from book import Request, Row
@@ -18,6 +18,8 @@ ALPHABETS = ((0, 1), (0, 1), (0, 1, 2), (0, 65535), (1, 256, 257))
 LIKELY_BYTES = b"0123456789,,\n\n\r -+.\t\0\x0b\xff\xb2"
 LIKELY_FIELDS = b"0 1 5 9 63 64 65 256 257 4096 4097 65535 65536 99999".split()
 BAD_QUESTIONS = (64, 65, 127, 128, 256, 319, 65535)
+# The library sorts codes by their remainder by 17; the other numbers are such as a library might take.
+MODULI = (17, 17, 17, 16, 64, 256, 1000)
 
 
 class Network(NamedTuple):
@@ -126,6 +128,164 @@ def loose_network(rng: random.Random) -> Network:
     return Network([(questions, rows)] + pages, m, [[sheet + 1 for sheet in members] for members in combinations])
 
 
+def tall_network(rng: random.Random) -> Network:
+    """Sheets of several mark words, each paired with sheets of few rows."""
+    pool, codes = rng.sample(range(64), 3), list(range(rng.choice((2, 3, 4, 8))))
+    counts = [rng.randint(100, 400) for _ in range(rng.choice((1, 2, 3)))]
+    pages = draw_pages(rng, pool, codes, [2, 3], counts)
+    pages += draw_pages(rng, pool, codes, [1, 2], [rng.randint(1, 6) for _ in range(rng.choice((2, 3, 4)))])
+    rng.shuffle(pages)
+    return Network(pages, 2, draw_combinations(rng, pages, 2, rng.choice((2, 3, 4, 6)), 2500))
+
+
+def alike(rng: random.Random, network: Network) -> Network:
+    """The network with other codes in place of its own, all of them with one remainder by one number."""
+    own = sorted({code for _, rows in network.pages for row in rows for code in row})
+    modulus = rng.choice(MODULI)
+    new = dict(zip(own, rng.sample(range(rng.randrange(modulus), 65536, modulus), len(own))))
+    pages = [(questions, [[new[code] for code in row] for row in rows]) for questions, rows in network.pages]
+    return Network(pages, network.m, network.combinations)
+
+
+def alike_network(rng: random.Random) -> Network:
+    return alike(rng, rng.choice((wide_network, tall_network))(rng))
+
+
+def loose_alike_network(rng: random.Random) -> Network:
+    return alike(rng, loose_network(rng))
+
+
+# Networks of many sheets
+
+
+def neighbours(pages: list[Page]) -> list[list[int]]:
+    """For each sheet the others that ask one of its questions."""
+    asked = [set(questions) for questions, _ in pages]
+    return [[t for t in range(len(pages)) if t != s and asked[s] & asked[t]] for s in range(len(pages))]
+
+
+def grown_combination(rng: random.Random, near: list[list[int]], m: int) -> tuple[int, ...]:
+    """Sheets from any one on, each sharing a question with one before it: m of them, or all that can be reached."""
+    members = [rng.randrange(len(near))]
+    while len(members) < m:
+        others = [sheet for member in members for sheet in near[member] if sheet not in members]
+        if not others:
+            break
+        members.append(rng.choice(others))
+    return tuple(sorted(members))
+
+
+def different_combinations(rng: random.Random, pages: list[Page], m: int, count: int) -> list[list[int]]:
+    """So many different connected combinations, or fewer where they are hard to find."""
+    near = neighbours(pages)
+    found: dict[tuple[int, ...], None] = {}
+    for _ in range(20 * count):
+        members = grown_combination(rng, near, m)
+        if len(members) == m and len(found) < count:
+            found[members] = None
+    return [list(members) for members in found]
+
+
+def many_pages(rng: random.Random, sheets: int, most_orders: int) -> list[Page]:
+    """Sheets with the rows of some complete orders; now and then one is missing, or there is a stray one."""
+    pool = rng.sample(range(64), rng.randint(sheets // 3, sheets // 2 + 6))
+    codes = rng.choice(ALPHABETS)
+    orders = [{question: rng.choice(codes) for question in pool} for _ in range(1 + rng.randint(1, most_orders))]
+    missing = [0 if chance(rng, 75) else 3] + [6] * (len(orders) - 2)
+    pages = []
+    for _ in range(sheets):
+        questions = rng.sample(pool, rng.choice((1, 2, 2, 2, 3)))
+        rows = [[order[q] for q in questions] for order, percent in zip(orders, missing) if not chance(rng, percent)]
+        if chance(rng, 15):
+            rows.append([rng.choice(orders)[question] for question in questions])
+        rng.shuffle(rows)
+        pages.append((questions, rows))
+    return pages
+
+
+def many_sheets(rng: random.Random) -> int:
+    return rng.choice((15, 16, 33, 63, 64, 64, rng.randint(15, 64), rng.randint(15, 64)))
+
+
+def knot_pages(
+    rng: random.Random, ring: list[int], codes: list[int], before: Optional[int], behind: int, links: list[int]
+) -> list[Page]:
+    """A ring of sheets on neighbouring questions, with a row for each code. It may be twisted: the rows for the first two codes
+    then fit in pairs and not all together, and only a combination of the whole ring shows it. Of a ring that hangs on the one
+    before, by the question `before`, one sheet has further rows that fit; they stay as long as that ring keeps its rows for the
+    two codes. By the question `behind` the next ring may hang on this one. Links join sheets and strike nothing."""
+    twisted = before is not None or chance(rng, 50)
+    crossed = rng.sample(range(len(ring)), rng.choice((1, 3)) if twisted else rng.choice((0, 2)))
+    hanging, holding = rng.choice(crossed) if twisted else 0, rng.randrange(len(ring))
+    pages = []
+    for place, question in enumerate(ring):
+        across = [codes[1], codes[0], *codes[2:]] if place in crossed else codes
+        rows = [{question: code, ring[place - 1]: other} for code, other in zip(codes, across)]
+        if place == hanging and before is not None:
+            rows = [{**row, before: codes[2]} for row in rows]
+            rows += [{question: code, ring[place - 1]: code, before: codes[0]} for code in codes[:2]]
+        if place == holding:
+            rows = [{**row, behind: codes[0] if row[question] in codes[:2] else codes[2]} for row in rows]
+        if chance(rng, 60):
+            link = rng.choice(links)
+            rows = [{**row, link: codes[2]} for row in rows]
+        questions = rng.sample(sorted(rows[0]), len(rows[0]))
+        pages.append((questions, [[row[q] for q in questions] for row in rng.sample(rows, len(rows))]))
+    return pages
+
+
+def knotted_network(rng: random.Random, m: int, count: int) -> Network:
+    """15 to 64 sheets: rings of m, many of them hanging on another, and some sheets more. The rings are combinations, among
+    different other ones or among the later half of these."""
+    sheets = many_sheets(rng)
+    rings = min(sheets // m, 12)
+    pool, codes = rng.sample(range(64), 64), rng.sample((0, 1, 16, 17, 34, 257, 65535), rng.choice((3, 4, 4)))
+    chain, links = pool[m * rings :][:rings], pool[(m + 1) * rings :][: max(2, rings // 3)]
+    pages: list[Page] = []
+    for k in range(rings):
+        before = chain[k - 1] if k and chance(rng, 70) else None
+        pages += knot_pages(rng, pool[m * k : m * (k + 1)], codes, before, chain[k], links)
+    while len(pages) < sheets:
+        questions = rng.sample(links, rng.choice((1, 2)))
+        pages.append((questions, [[codes[2]] * len(questions)] * rng.choice((1, 2, 2))))
+    whole = [list(range(m * k, m * (k + 1))) for k in range(rings)]
+    others = [members for members in different_combinations(rng, pages, m, count) if members not in whole][: count - rings]
+    first = others[: count // 2] if chance(rng, 50) else []
+    rest = whole + others[len(first) :]
+    places = rng.sample(range(sheets), sheets)
+    return Network(
+        [pages[places.index(sheet)] for sheet in range(sheets)],
+        m,
+        [sorted(places[sheet] for sheet in members) for members in first + rng.sample(rest, len(rest))],
+    )
+
+
+def crowded_network(rng: random.Random) -> Network:
+    """15 to 64 sheets of few rows, in 7 to 256 different combinations."""
+    m = rng.choice((2, 2, 3, 3, 4, 4))
+    count = rng.choice((7, 8, 12, 16, 24, 32, 48, 64, 96, 128, 200, 256))
+    if m > 2 and count > 16 and chance(rng, 50):
+        return knotted_network(rng, m, count)
+    pages = many_pages(rng, many_sheets(rng), 3)
+    network = Network(pages, m, different_combinations(rng, pages, m, count))
+    return alike(rng, network) if chance(rng, 30) else network
+
+
+def full_network(rng: random.Random) -> Network:
+    """256 different combinations of four: 1,024 pairs."""
+    return knotted_network(rng, 4, 256)
+
+
+def thin_network(rng: random.Random) -> Network:
+    """As crowded, with one row or so on each sheet and few combinations; or with very many of a few sheets."""
+    if chance(rng, 20):
+        pages = many_pages(rng, rng.randint(15, 17), 1)
+        return Network(pages, 4, different_combinations(rng, pages, 4, 256))
+    m = rng.choice((2, 2, 3, 4))
+    pages = many_pages(rng, many_sheets(rng), 1)
+    return Network(pages, m, different_combinations(rng, pages, m, rng.choice((7, 8, 10, 15, 20, 40))))
+
+
 # Lending a network to a call
 
 
@@ -155,8 +315,8 @@ def write_network(network: Network, call: str) -> Request:
 
 
 def lend_marks(rng: random.Random, request: Request) -> None:
-    """All, most or half of the rows living; spare bits and spare words at random."""
-    living_percent = rng.choice((100, 100, 100, 85, 50))
+    """All, most or half of the rows living, of many sheets all or nearly all; spare bits and spare words at random."""
+    living_percent = rng.choice((100, 100, 100, 85, 50) if len(request.sheets) < 15 else (100, 100, 100, 99, 95))
     total = book.row_total(request)
     request.marks = [rng.getrandbits(64) for _ in range(-(-total // 64) + rng.choice((0, 0, 1, 2)))]
     for g in range(total):
@@ -200,16 +360,8 @@ def good_request(rng: random.Random, network: Network, call: str) -> Request:
     return request
 
 
-def small_request(rng: random.Random, call: str) -> Request:
-    return good_request(rng, small_network(rng), call)
-
-
-def wide_request(rng: random.Random, call: str) -> Request:
-    return good_request(rng, wide_network(rng), call)
-
-
-def loose_request(rng: random.Random, call: str) -> Request:
-    return good_request(rng, loose_network(rng), call)
+def request_on(network: Callable[[random.Random], Network]) -> Callable[[random.Random, str], Request]:
+    return lambda rng, call: good_request(rng, network(rng), call)
 
 
 # Faults put into a network: everything after them still fits together
@@ -465,14 +617,19 @@ def edge_request(rng: random.Random, call: str) -> Request:
 
 
 def mixed_request(rng: random.Random, call: str) -> Request:
-    kinds = [small_request] * 12 + [damaged_request] * 6 + [wide_request, edge_request]
+    kinds = [request_on(small_network)] * 12 + [damaged_request] * 6 + [request_on(wide_network), edge_request]
     return rng.choice(kinds)(rng, call)
 
 
 SIZES: dict[str, Callable[[random.Random, str], Request]] = {
-    "small": small_request,
-    "loose": loose_request,
-    "wide": wide_request,
+    "small": request_on(small_network),
+    "loose": request_on(loose_network),
+    "loose-alike": request_on(loose_alike_network),
+    "wide": request_on(wide_network),
+    "alike": request_on(alike_network),
+    "crowded": request_on(crowded_network),
+    "full": request_on(full_network),
+    "thin": request_on(thin_network),
     "damaged": damaged_request,
     "edge": edge_request,
     "mixed": mixed_request,
@@ -509,9 +666,15 @@ def accepted_call(rng: random.Random, shared: Request, call: str) -> Request:
     return request
 
 
-def list_of_calls(rng: random.Random) -> tuple[Request, list[Request]]:
+def usual_network(rng: random.Random) -> Network:
+    return wide_network(rng) if chance(rng, 10) else small_network(rng)
+
+
+LIST_SIZES: dict[str, Callable[[random.Random], Network]] = {"usual": usual_network, "crowded": crowded_network}
+
+
+def list_of_calls(rng: random.Random, network: Network) -> tuple[Request, list[Request]]:
     """The shared lists with the starting marks, and the change calls."""
-    network = wide_network(rng) if chance(rng, 10) else small_network(rng)
     shared = good_request(rng, network, "filter")
     refused_percent = 100 if chance(rng, 5) else 25
     calls = []
@@ -521,9 +684,9 @@ def list_of_calls(rng: random.Random) -> tuple[Request, list[Request]]:
     return shared, calls
 
 
-def lists_of_calls(seed: int, count: int) -> list[tuple[Request, list[Request]]]:
+def lists_of_calls(seed: int, count: int, size: str = "usual") -> list[tuple[Request, list[Request]]]:
     rng = random.Random(seed)
-    return [list_of_calls(rng) for _ in range(count)]
+    return [list_of_calls(rng, LIST_SIZES[size](rng)) for _ in range(count)]
 
 
 # Texts for the listing program
@@ -541,7 +704,7 @@ def write_text(request: Request) -> bytes:
 
 
 def good_text(rng: random.Random) -> bytes:
-    return write_text(write_network(wide_network(rng) if chance(rng, 10) else small_network(rng), "filter"))
+    return write_text(write_network(usual_network(rng), "filter"))
 
 
 def refused_text(rng: random.Random) -> bytes:

@@ -8,6 +8,7 @@ from pathlib import Path
 import book
 import check
 import draw
+import reach
 from book import Reply, Request
 
 SHARED = ["sheets", "questions", "codes", "m", "combinations"]
@@ -15,6 +16,10 @@ SHARED = ["sheets", "questions", "codes", "m", "combinations"]
 
 def print_line(value: dict) -> None:
     print(json.dumps(value, separators=(",", ":")))
+
+
+def print_numbers(numbers: list[int]) -> None:
+    print(" ".join(map(str, numbers)))
 
 
 def with_reply(request: Request, reply: Reply) -> dict:
@@ -42,12 +47,16 @@ def plain(request: Request, reply: Reply) -> list[int]:
 
 
 def print_requests(arguments: argparse.Namespace) -> None:
+    reached: set[str] = set()
     for request in draw.requests(arguments.seed, arguments.count, arguments.calls, arguments.size):
         reply = book.reply(request)
+        reached.update(reach.reached(request, reply))
         if arguments.plain:
-            print(*plain(request, reply))
+            print_numbers(plain(request, reply))
         else:
             print_line(with_reply(request, reply))
+    if arguments.reach and not reach.WANTED[arguments.size] <= reached:
+        sys.exit(f"never drawn: {sorted(reach.WANTED[arguments.size] - reached)}")
 
 
 def plain_list(marks: list[int], lent: list[list[str]], replies: list, expected: book.Expectation) -> list[int]:
@@ -61,13 +70,13 @@ def plain_list(marks: list[int], lent: list[list[str]], replies: list, expected:
 
 
 def print_lists(arguments: argparse.Namespace) -> None:
-    for shared, calls in draw.lists_of_calls(arguments.seed, arguments.count):
+    for shared, calls in draw.lists_of_calls(arguments.seed, arguments.count, arguments.size):
         whole, combinations = book.read_book(shared), book.read_combinations(shared)
         replies = book.in_turn(shared.marks, calls)
         lent = [own_lists(shared, call) for call in calls]
         expected = book.strike_rule(whole, combinations, shared.marks, calls)
         if arguments.plain:
-            print(*plain_list(shared.marks, lent, replies, expected))
+            print_numbers(plain_list(shared.marks, lent, replies, expected))
             continue
         print_line(
             {
@@ -102,6 +111,8 @@ def read_arguments() -> argparse.Namespace:
         command.add_argument("--count", type=int, required=True)
     commands.choices["requests"].add_argument("--calls", type=call_names, default=draw.CALLS)
     commands.choices["requests"].add_argument("--size", choices=sorted(draw.SIZES), default="mixed")
+    commands.choices["requests"].add_argument("--reach", action="store_true", help="fail unless the size does its part")
+    commands.choices["lists"].add_argument("--size", choices=sorted(draw.LIST_SIZES), default="usual")
     for name in ("requests", "lists"):
         commands.choices[name].add_argument("--plain", action="store_true", help="lines of numbers, not JSON")
     commands.choices["texts"].add_argument("--into", type=Path, required=True)

@@ -1,0 +1,74 @@
+/* A request lent to the library on pages of its own: lend.h. */
+#include "lend.h"
+#include "wakhvosi.h"
+#include <stdio.h>
+#include <stdlib.h>
+#include <string.h>
+
+const char *const call_names[CALLS] = {"filter", "withdraw", "choose", "test", "compare"};
+
+list new_list(size_t bytes) { return (list){calloc(bytes + 1, 1), bytes}; }
+
+list copy_of(list l) {
+    list copy = new_list(l.bytes);
+    memcpy(copy.at, l.at, l.bytes);
+    return copy;
+}
+
+bool same(list a, list b) { return a.bytes == b.bytes && !memcmp(a.at, b.at, a.bytes); }
+
+void free_lists(request *q) {
+    for (int i = 0; i < LISTS; i++) free(q->lists[i].at);
+}
+
+void free_outcome(outcome *o) { free(o->marks.at), free(o->supports.at); }
+
+typedef struct {
+    request lent;
+    uint64_t answer;
+} making;
+
+static void make(void *with) {
+    making *call = with;
+    call->answer = answer_of(&call->lent);
+}
+
+/* An accepted change call writes marks and supports, and no call writes anything else. */
+static bool writes(const request *q, uint64_t answer, int which) {
+    return q->call <= CHOOSE && wakhvosi_kind(answer) != WAKHVOSI_REFUSED && (which == MARKS || which == SUPPORTS);
+}
+
+static void take_back(list l, fenced pages) {
+    if (l.bytes) memcpy(l.at, pages.at, l.bytes);
+}
+
+/* Makes the call on one side. */
+static const char *wrong_there(const request *q, const outcome *expected, outcome *left) {
+    making call = {*q, 0};
+    fenced pages[LISTS];
+    for (int i = 0; i < LISTS; i++) {
+        pages[i] = fence(q->lists[i].at, q->lists[i].bytes, q->where);
+        call.lent.lists[i].at = pages[i].at;
+        if (!writes(q, expected->answer, i)) only_read(pages[i]);
+    }
+    bool inside = stays_inside(make, &call);
+    left->answer = call.answer;
+    take_back(left->marks, pages[MARKS]), take_back(left->supports, pages[SUPPORTS]);
+    for (int i = 0; i < LISTS; i++) unfence(pages[i]);
+    if (!inside) return "it touches what it must not";
+    if (left->answer != expected->answer) return "another answer";
+    if (!same(left->marks, expected->marks)) return "other marks";
+    return same(left->supports, expected->supports) ? NULL : "other supports";
+}
+
+const char *wrong(request *q, const outcome *expected, outcome *left) {
+    static char said[100];
+    bool ok = true;
+    *left = (outcome){0, new_list(q->lists[MARKS].bytes), new_list(q->lists[SUPPORTS].bytes)};
+    for (q->where = BEHIND; q->where <= last_side; q->where++) {
+        const char *how = wrong_there(q, expected, left);
+        if (how && ok) snprintf(said, sizeof said, "each list with %s: %s", side_names[q->where], how);
+        ok &= !how;
+    }
+    return ok ? NULL : said;
+}

@@ -1,0 +1,46 @@
+/* A request lent to the library on pages of its own, and what the call answers and leaves. */
+#ifndef LEND_H
+#define LEND_H
+#include "fence.h"
+#include <stdint.h>
+
+enum { FILTER, WITHDRAW, CHOOSE, TEST, COMPARE, CALLS };
+enum { SHEETS, QUESTIONS, CODES, COMBINATIONS, MARKS, SUPPORTS, ROWS, LISTS };
+extern const char *const call_names[CALLS];
+
+/* A list as the bytes that it takes in memory, the lowest byte of a number first. */
+typedef struct {
+    void *at;
+    size_t bytes;
+} list;
+
+list new_list(size_t bytes);
+list copy_of(list l);
+bool same(list a, list b);
+
+/* What a call is lent, and how its lists lie. Choose's question and code, or compare's rows, are x and y. */
+typedef struct {
+    int call;
+    uint16_t m, x, y;
+    list lists[LISTS];
+    side where;
+} request;
+
+void free_lists(request *q);
+
+/* The answer of a call, packed as include/wakhvosi.h says, and what it leaves in the marks and in the supports. */
+typedef struct {
+    uint64_t answer;
+    list marks, supports;
+} outcome;
+
+void free_outcome(outcome *o);
+
+/* Makes the call once for each side that its lists can be laid on; those that it must not write can only be read. NULL, or what is
+ * wrong with the first outcome that is not as expected. The last outcome is put into `left`. */
+const char *wrong(request *q, const outcome *expected, outcome *left);
+
+/* How a driver makes a call, and the last of the sides that it can lay a list on. */
+uint64_t answer_of(const request *q);
+extern const side last_side;
+#endif
