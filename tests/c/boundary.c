@@ -141,15 +141,13 @@ static void good_calls(void) {
 /* A list that is so many bytes short of a whole number of entries. */
 static void odd_counts(void) {
     static const struct {
-        const char *name;
         int unit, first, last;
-    } of[LISTS] = {{"sheets", 4, FILTER, COMPARE}, {"questions", 2, FILTER, COMPARE}, {"codes", 2, FILTER, COMPARE},
-                   {"combinations", 2, FILTER, TEST}, {"marks", 8, FILTER, TEST}, {"supports", 2, FILTER, CHOOSE},
-                   {"rows", 2, WITHDRAW, WITHDRAW}};
+    } of[LISTS] = {{4, FILTER, COMPARE}, {2, FILTER, COMPARE}, {2, FILTER, COMPARE}, {2, FILTER, TEST}, {8, FILTER, TEST},
+                   {2, FILTER, CHOOSE}, {2, WITHDRAW, WITHDRAW}};
     for (int which = 0; which < LISTS; which++)
         for (int less = 1; less < of[which].unit; less++) {
             char what[40];
-            snprintf(what, sizeof what, "%s short of %d bytes", of[which].name, less);
+            snprintf(what, sizeof what, "%s short of %d bytes", list_names[which], less);
             request q = book_a_with(ROWS, NUMBERS(5));
             q.lists[which].bytes -= (size_t)less;
             refused(q, of[which].first, of[which].last, 1, what);

@@ -42,18 +42,22 @@ void unfence(fenced l) { require(!munmap(l.mapped, l.whole), "munmap"); }
 
 static sigjmp_buf back;
 static volatile sig_atomic_t inside;
+static const unsigned char *volatile address;
 
-static void touched(int number) {
+static void on_touch(int number, siginfo_t *info, void *context) {
+    (void)context;
+    address = info->si_addr;
     if (inside) siglongjmp(back, 1);
     signal(number, SIG_DFL);
     raise(number);
 }
 
-bool stays_inside(void (*call)(void *), void *with) {
-    struct sigaction on_touch = {.sa_handler = touched};
-    sigaction(SIGSEGV, &on_touch, NULL), sigaction(SIGBUS, &on_touch, NULL);
+bool stays_inside(void (*call)(void *), void *with, const unsigned char **touched) {
+    struct sigaction action = {.sa_sigaction = on_touch, .sa_flags = SA_SIGINFO};
+    sigaction(SIGSEGV, &action, NULL), sigaction(SIGBUS, &action, NULL);
     if (sigsetjmp(back, 1)) {
         inside = 0;
+        *touched = address;
         return false;
     }
     inside = 1;

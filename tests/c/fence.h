@@ -25,6 +25,6 @@ void only_read(fenced l);
 
 void unfence(fenced l);
 
-/* Makes the call. False where it is broken off because it touches what it must not. */
-bool stays_inside(void (*call)(void *), void *with);
+/* Makes the call. False where it is broken off because it touches what it must not, at this address. */
+bool stays_inside(void (*call)(void *), void *with, const unsigned char **touched);
 #endif

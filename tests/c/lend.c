@@ -6,6 +6,7 @@
 #include <string.h>
 
 const char *const call_names[CALLS] = {"filter", "withdraw", "choose", "test", "compare"};
+const char *const list_names[LISTS] = {"sheets", "questions", "codes", "combinations", "marks", "supports", "rows"};
 
 list new_list(size_t bytes) { return (list){calloc(bytes + 1, 1), bytes}; }
 
@@ -42,6 +43,17 @@ static void take_back(list l, fenced pages) {
     if (l.bytes) memcpy(l.at, pages.at, l.bytes);
 }
 
+/* Whose pages the address is on. */
+static const char *touched_list(const fenced pages[LISTS], const unsigned char *address) {
+    static char said[60];
+    for (int i = 0; i < LISTS; i++)
+        if (pages[i].mapped <= address && address < pages[i].mapped + pages[i].whole) {
+            snprintf(said, sizeof said, "it must not touch byte %td of the %s", address - pages[i].at, list_names[i]);
+            return said;
+        }
+    return "it touches what is no list of its own";
+}
+
 /* Makes the call on one side. */
 static const char *wrong_there(const request *q, const outcome *expected, outcome *left) {
     making call = {*q, 0};
@@ -51,11 +63,12 @@ static const char *wrong_there(const request *q, const outcome *expected, outcom
         call.lent.lists[i].at = pages[i].at;
         if (!writes(q, expected->answer, i)) only_read(pages[i]);
     }
-    bool inside = stays_inside(make, &call);
+    const unsigned char *touched;
+    const char *how = stays_inside(make, &call, &touched) ? NULL : touched_list(pages, touched);
     left->answer = call.answer;
     take_back(left->marks, pages[MARKS]), take_back(left->supports, pages[SUPPORTS]);
     for (int i = 0; i < LISTS; i++) unfence(pages[i]);
-    if (!inside) return "it touches what it must not";
+    if (how) return how;
     if (left->answer != expected->answer) return "another answer";
     if (!same(left->marks, expected->marks)) return "other marks";
     return same(left->supports, expected->supports) ? NULL : "other supports";

@@ -6,7 +6,7 @@
 
 enum { FILTER, WITHDRAW, CHOOSE, TEST, COMPARE, CALLS };
 enum { SHEETS, QUESTIONS, CODES, COMBINATIONS, MARKS, SUPPORTS, ROWS, LISTS };
-extern const char *const call_names[CALLS];
+extern const char *const call_names[CALLS], *const list_names[LISTS];
 
 /* A list as the bytes that it takes in memory, the lowest byte of a number first. */
 typedef struct {
