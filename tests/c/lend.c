@@ -6,6 +6,7 @@
 #include <string.h>
 
 const char *const call_names[CALLS] = {"filter", "withdraw", "choose", "test", "compare"};
+const char *const list_names[LISTS] = {"sheets", "questions", "codes", "combinations", "marks", "supports", "rows"};
 
 list new_list(size_t bytes) { return (list){calloc(bytes + 1, 1), bytes}; }
 
@@ -38,33 +39,54 @@ static bool writes(const request *q, uint64_t answer, int which) {
     return q->call <= CHOOSE && wakhvosi_kind(answer) != WAKHVOSI_REFUSED && (which == MARKS || which == SUPPORTS);
 }
 
+/* The list laid on its pages as the expected outcome asks. */
+static fenced laid(const request *q, const outcome *expected, int which) {
+    list l = q->lists[which];
+    size_t open = which == MARKS ? expected->mark_bytes : which == SUPPORTS ? expected->support_bytes : l.bytes;
+    bool written = writes(q, expected->answer, which);
+    fenced pages = q->where == BEHIND ? fence_part(l.at, l.bytes, open) : fence(l.at, l.bytes, q->where);
+    if (which == SUPPORTS && written && q->where != BEHIND)
+        for (size_t i = 0; i < open; i++) pages.at[i] ^= 0x5a;
+    if (!written) only_read(pages);
+    return pages;
+}
+
 static void take_back(list l, fenced pages) {
+    open_all(pages);
     if (l.bytes) memcpy(l.at, pages.at, l.bytes);
+}
+
+/* Whose pages the address is on. */
+static const char *touched_list(const fenced pages[LISTS], const unsigned char *address) {
+    static char said[60];
+    for (int i = 0; i < LISTS; i++)
+        if (pages[i].mapped <= address && address < pages[i].mapped + pages[i].whole) {
+            snprintf(said, sizeof said, "it must not touch byte %td of the %s", address - pages[i].at, list_names[i]);
+            return said;
+        }
+    return "it touches what is no list of its own";
 }
 
 /* Makes the call on one side. */
 static const char *wrong_there(const request *q, const outcome *expected, outcome *left) {
     making call = {*q, 0};
     fenced pages[LISTS];
-    for (int i = 0; i < LISTS; i++) {
-        pages[i] = fence(q->lists[i].at, q->lists[i].bytes, q->where);
-        call.lent.lists[i].at = pages[i].at;
-        if (!writes(q, expected->answer, i)) only_read(pages[i]);
-    }
-    bool inside = stays_inside(make, &call);
+    for (int i = 0; i < LISTS; i++) pages[i] = laid(q, expected, i), call.lent.lists[i].at = pages[i].at;
+    const unsigned char *touched;
+    const char *how = stays_inside(make, &call, &touched) ? NULL : touched_list(pages, touched);
     left->answer = call.answer;
     take_back(left->marks, pages[MARKS]), take_back(left->supports, pages[SUPPORTS]);
     for (int i = 0; i < LISTS; i++) unfence(pages[i]);
-    if (!inside) return "it touches what it must not";
+    if (how) return how;
     if (left->answer != expected->answer) return "another answer";
     if (!same(left->marks, expected->marks)) return "other marks";
     return same(left->supports, expected->supports) ? NULL : "other supports";
 }
 
 const char *wrong(request *q, const outcome *expected, outcome *left) {
-    static char said[100];
+    static char said[120];
     bool ok = true;
-    *left = (outcome){0, new_list(q->lists[MARKS].bytes), new_list(q->lists[SUPPORTS].bytes)};
+    *left = (outcome){0, new_list(q->lists[MARKS].bytes), new_list(q->lists[SUPPORTS].bytes), 0, 0};
     for (q->where = BEHIND; q->where <= last_side; q->where++) {
         const char *how = wrong_there(q, expected, left);
         if (how && ok) snprintf(said, sizeof said, "each list with %s: %s", side_names[q->where], how);
