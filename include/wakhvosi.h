@@ -174,11 +174,11 @@ uint64_t wakhvosi_compare(const uint8_t *sheets, size_t sheets_bytes,
 /* ---- The same calls on typed arrays
  *
  * For a program that has its book in arrays of numbers. Each call is the one above whose name it begins with: the same answer, the
- * same refusals in the same order, the same writes. What differs:
+ * same refusals in the same order, the same writes, the same rules for empty lists, overlap and other writers. What differs:
  *
- *   - each list is a pointer and then its number of entries, as many as the list has of the numbers (of the records, for sheets)
- *     that its type names; combinations_entries is thus m for each combination;
- *   - there is no refusal number 1: every list is a whole number of entries;
+ *   - each list is a pointer and then its number of entries: of records for the sheets, of numbers for every other list, so that
+ *     the combinations have m entries each;
+ *   - there is no refusal number 1, since every list is a whole number of entries;
  *   - numbers stand in the machine's own byte order, and a list is aligned as its type asks.
  */
 
