@@ -1,5 +1,6 @@
 /* The calls from C at their edges: every refusal number, byte counts that are not whole, no list at all, lists longer than any
- * bound. A line 'failed NAME: how' for each case that is not as expected; at the end 'N put'. */
+ * bound; and how much of the marks and the supports a call touches. A line 'failed NAME: how' for each case that is not as
+ * expected; at the end 'N put'. */
 #include "lend.h"
 #include "wakhvosi.h"
 #include <stdio.h>
@@ -85,24 +86,29 @@ static const rest nothing = {0, {D, D, D, D, D, D, D, D, D, D, D, D, D, D, D, D,
 
 /* ---- Expectations */
 
-/* The calls from first to last are refused with this number, and write nothing. */
-static void refused(request q, int first, int last, unsigned number, const char *what) {
+/* The calls from first to last are refused with this number, write nothing, and touch no support number and at most so many bytes
+ * of the marks. */
+static void refused_within(request q, int first, int last, unsigned number, size_t mark_bytes, const char *what) {
     for (q.call = first; q.call <= last; q.call++) {
         char name[160];
         snprintf(name, sizeof name, "%s refused with %u, %s", call_names[q.call], number, what);
-        check(&q, (outcome){WAKHVOSI_REFUSED + 256u * number, q.lists[MARKS], q.lists[SUPPORTS]}, name);
+        check(&q, (outcome){WAKHVOSI_REFUSED + 256u * number, q.lists[MARKS], q.lists[SUPPORTS], mark_bytes, 0}, name);
     }
     free_lists(&q);
+}
+
+static void refused(request q, int first, int last, unsigned number, const char *what) {
+    refused_within(q, first, last, number, q.lists[MARKS].bytes, what);
 }
 
 static void refused_with(int which, list by, int first, int last, unsigned number, const char *what) {
     refused(book_a_with(which, by), first, last, number, what);
 }
 
-/* The call answers this and leaves every list as it is. */
-static void answers(request q, int call, uint64_t answer, const char *name) {
+/* The call answers this, touches at most so many mark words and no support number, and leaves every list as it is. */
+static void answers(request q, int call, uint64_t answer, size_t words, const char *name) {
     q.call = call;
-    check(&q, (outcome){answer, q.lists[MARKS], q.lists[SUPPORTS]}, name);
+    check(&q, (outcome){answer, q.lists[MARKS], q.lists[SUPPORTS], 8 * words, 0}, name);
     free_lists(&q);
 }
 
@@ -110,10 +116,10 @@ static uint64_t counted(unsigned kind, unsigned sheet, unsigned left, unsigned w
     return kind | sheet << 8 | (uint64_t)left << 16 | (uint64_t)withdrawn << 32 | (uint64_t)deleted << 48;
 }
 
-/* The change call on book A answers this, and leaves the rest and nothing else changed. */
+/* The change call on book A answers this, leaves the rest, and touches nothing else. */
 static void leaves(request q, int call, uint64_t answer, const rest *of_a, const char *name) {
     q.call = call;
-    outcome expected = {answer, copy_of(q.lists[MARKS]), copy_of(q.lists[SUPPORTS])};
+    outcome expected = {answer, copy_of(q.lists[MARKS]), copy_of(q.lists[SUPPORTS]), 8, 2 * NEEDED};
     unsigned char *marks = expected.marks.at;
     marks[0] = (unsigned char)((marks[0] & 128) | of_a->marks);
     for (size_t i = 0; i < NEEDED; i++) put16(expected.supports, i, of_a->supports[i]);
@@ -128,14 +134,14 @@ static void good_calls(void) {
     leaves(book_a_with(ROWS, NUMBERS(5)), WITHDRAW, counted(0, 64, 3, 1, 3), &without_5, "P5");
     leaves(book_a(), CHOOSE, counted(0, 64, 3, 2, 2), &without_5, "P9");
     leaves(book_a_with(MARKS, bytes(8, 0)), FILTER, counted(1, 0, 0, 0, 0), &nothing, "no row living, so emptied at sheet 0");
-    answers(book_a(), TEST, 0, "test of fresh A");
-    answers(book_a_with(MARKS, bytes(8, 123)), TEST, 1, "test of filtered A");
+    answers(book_a(), TEST, 0, 1, "test of fresh A");
+    answers(book_a_with(MARKS, bytes(8, 123)), TEST, 1, 1, "test of filtered A");
     request q = book_a();
     q.x = 0, q.y = 3;
-    answers(q, COMPARE, 1, "rows 0 and 3 agree");
+    answers(q, COMPARE, 1, 0, "rows 0 and 3 agree");
     q = book_a();
     q.x = 2, q.y = 3;
-    answers(q, COMPARE, 0, "rows 2 and 3 do not agree");
+    answers(q, COMPARE, 0, 0, "rows 2 and 3 do not agree");
 }
 
 /* A list that is so many bytes short of a whole number of entries. */
@@ -191,10 +197,10 @@ static void numbers_7_to_14(void) {
 
 /* Lists that are empty; on the last side they are NULL. */
 static void no_list(void) {
-    answers(small_book(1, 1, 1), FILTER, counted(0, 64, 1, 0, 0), "no combinations, no supports");
-    answers(small_book(1, 1, 1), WITHDRAW, counted(0, 64, 1, 0, 0), "no rows listed");
-    answers(small_book(1, 0, 0), FILTER, counted(1, 0, 0, 0, 0), "a sheet without rows needs no codes and no marks");
-    answers(small_book(1, 0, 0), TEST, 1, "nothing living is settled");
+    answers(small_book(1, 1, 1), FILTER, counted(0, 64, 1, 0, 0), 1, "no combinations, no supports");
+    answers(small_book(1, 1, 1), WITHDRAW, counted(0, 64, 1, 0, 0), 1, "no rows listed");
+    answers(small_book(1, 0, 0), FILTER, counted(1, 0, 0, 0, 0), 0, "a sheet without rows needs no codes and no marks");
+    answers(small_book(1, 0, 0), TEST, 1, 0, "nothing living is settled");
     refused(small_book(0, 0, 0), FILTER, COMPARE, 2, "nothing at all");
 }
 
@@ -212,6 +218,76 @@ static void long_lists(void) {
     leaves(q, WITHDRAW, counted(0, 64, 3, 1, 3), &without_5, "what is not needed stays");
 }
 
+/* Book A with row 5 listed, so many words and so many support numbers. */
+static request book_a_of(size_t words, size_t supports) {
+    request q = book_a_with(ROWS, NUMBERS(5));
+    free(q.lists[MARKS].at), free(q.lists[SUPPORTS].at);
+    q.lists[MARKS] = bytes(8 * words, LIVING), q.lists[SUPPORTS] = repeated(supports, 7);
+    return q;
+}
+
+/* More words and support numbers than book A needs. */
+static void more_than_needed(void) {
+    const struct {
+        uint64_t answer;
+        const rest *left;
+    } of[] = {{counted(0, 64, 6, 0, 1), &filtered}, {counted(0, 64, 3, 1, 3), &without_5}, {counted(0, 64, 3, 2, 2), &without_5}};
+    for (int call = FILTER; call <= CHOOSE; call++) {
+        char name[80];
+        snprintf(name, sizeof name, "%s, no word touched but the one needed", call_names[call]);
+        leaves(book_a_of(3, NEEDED), call, of[call].answer, of[call].left, name);
+        snprintf(name, sizeof name, "%s, no support number touched but those needed", call_names[call]);
+        leaves(book_a_of(1, NEEDED + 2), call, of[call].answer, of[call].left, name);
+    }
+    answers(book_a_of(3, 0), TEST, 0, 1, "test, no word touched but the one needed");
+    refused_within(book_a_of(3, NEEDED - 1), FILTER, CHOOSE, 12, 8, "no word touched but the one needed");
+    request q = book_a_of(3, NEEDED);
+    put16(q.lists[ROWS], 0, 7);
+    refused_within(q, WITHDRAW, WITHDRAW, 13, 8, "no word touched but the one needed");
+    q = book_a_of(3, NEEDED);
+    q.x = 64;
+    refused_within(q, CHOOSE, CHOOSE, 14, 8, "no word touched but the one needed");
+}
+
+/* Books that need none, or a whole number of words; a last word is lent that they do not need. */
+static void words_needed(void) {
+    static const struct {
+        unsigned rows, words;
+        const char *name;
+    } of[] = {{0, 0, "no rows, no word"}, {64, 1, "64 rows, one word"}, {65, 2, "65 rows, two words"},
+              {4095, 64, "4,095 rows, 64 words"}, {4096, 64, "4,096 rows, 64 words"}};
+    for (size_t i = 0; i < sizeof of / sizeof *of; i++) {
+        char name[80];
+        snprintf(name, sizeof name, "filter, %s touched", of[i].name);
+        uint64_t answer = of[i].rows ? counted(0, 64, of[i].rows, 0, 0) : counted(1, 0, 0, 0, 0);
+        answers(small_book(1, of[i].rows, of[i].words + 1), FILTER, answer, of[i].words, name);
+        snprintf(name, sizeof name, "test, %s touched", of[i].name);
+        answers(small_book(1, of[i].rows, of[i].words + 1), TEST, 1, of[i].words, name);
+    }
+    request q = small_book(1, 1, 1);
+    free(q.lists[SUPPORTS].at);
+    q.lists[SUPPORTS] = repeated(3, 7);
+    answers(q, FILTER, counted(0, 64, 1, 0, 0), 1, "filter, no combination, no support number touched");
+}
+
+/* All 32,768 support numbers needed, and one more lent: two sheets of 32 equal rows, 256 times in one combination. */
+static void most_supports(void) {
+    enum { ROWS_EACH = 32, TIMES = 256, ALL = TIMES * 2 * ROWS_EACH * 2 };
+    request q = {FILTER, 2, 0, 0,
+                 {NUMBERS(1, ROWS_EACH, 1, ROWS_EACH), NUMBERS(0, 0), repeated(2 * ROWS_EACH, 4), new_list(2 * 2 * TIMES),
+                  bytes(8, LIVING), repeated(ALL + 1, 7), new_list(0)},
+                 BEHIND};
+    for (size_t i = 0; i < TIMES; i++) put16(q.lists[COMBINATIONS], 2 * i + 1, 1);
+    list supports = copy_of(q.lists[SUPPORTS]);
+    for (size_t i = 0; i < ALL; i++) {
+        size_t row = i / 2 % ROWS_EACH, sheet = i / 2 / ROWS_EACH % 2;
+        put16(supports, i, sheet == i % 2 ? (unsigned)row : 0);
+    }
+    outcome expected = {counted(0, 64, 2 * ROWS_EACH, 0, 0), q.lists[MARKS], supports, 8, 2 * ALL};
+    check(&q, expected, "filter, 32,768 support numbers touched");
+    free(supports.at), free_lists(&q);
+}
+
 int main(void) {
     good_calls();
     odd_counts();
@@ -219,6 +295,9 @@ int main(void) {
     numbers_7_to_14();
     no_list();
     long_lists();
+    more_than_needed();
+    words_needed();
+    most_supports();
     printf("%u put\n", put);
     return failed != 0;
 }

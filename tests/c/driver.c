@@ -46,6 +46,7 @@ static void read_request(request *q, outcome *expected, uint64_t call) {
     if (call >= CALLS) exit(2);
     q->call = (int)call;
     q->m = (uint16_t)number(), q->x = (uint16_t)number(), q->y = (uint16_t)number();
+    expected->mark_bytes = 8 * number(), expected->support_bytes = 2 * number();
     for (int i = 0; i < LISTS; i++) q->lists[i] = read_list(units[i]);
     if (call == COMPARE && q->lists[ROWS].bytes != 4) exit(2);
     if (call == COMPARE) memcpy(&q->x, q->lists[ROWS].at, 2), memcpy(&q->y, (char *)q->lists[ROWS].at + 2, 2);

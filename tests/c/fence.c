@@ -19,24 +19,44 @@ static void require(bool ok, const char *what) {
     exit(2);
 }
 
-/* The pages between the first and the last one. */
-static void protect(fenced l, int protection) {
-    size_t room = l.whole - 2 * page();
-    require(!room || !mprotect(l.mapped + page(), room, protection), "mprotect");
+static size_t pages(size_t n) { return (n + page() - 1) / page() * page(); }
+
+/* So many bytes behind the first page. */
+static void protect(fenced l, size_t n, int protection) {
+    require(!n || !mprotect(l.mapped + page(), n, protection), "mprotect");
+}
+
+/* Room for so many bytes of whole pages, all of it open. */
+static fenced mapped(size_t n, size_t room) {
+    fenced l = {NULL, n, NULL, room + 2 * page(), room};
+    l.mapped = mmap(NULL, l.whole, PROT_NONE, MAP_PRIVATE | MAP_ANONYMOUS, -1, 0);
+    require(l.mapped != MAP_FAILED, "mmap");
+    protect(l, room, PROT_READ | PROT_WRITE);
+    return l;
 }
 
 fenced fence(const void *from, size_t n, side where) {
-    size_t gap = where == ODD && n, room = (gap + n + page() - 1) / page() * page();
-    fenced l = {NULL, n, NULL, room + 2 * page()};
-    l.mapped = mmap(NULL, l.whole, PROT_NONE, MAP_PRIVATE | MAP_ANONYMOUS, -1, 0);
-    require(l.mapped != MAP_FAILED, "mmap");
-    protect(l, PROT_READ | PROT_WRITE);
-    if (n || where != ODD) l.at = l.mapped + page() + (where == BEHIND ? room - n : gap);
+    if (where == BEHIND) return fence_part(from, n, n);
+    size_t gap = where == ODD && n;
+    fenced l = mapped(n, pages(gap + n));
+    if (n || where != ODD) l.at = l.mapped + page() + gap;
     if (n) memcpy(l.at, from, n);
     return l;
 }
 
-void only_read(fenced l) { protect(l, PROT_READ); }
+fenced fence_part(const void *from, size_t n, size_t open) {
+    fenced l = mapped(n, pages(open) + pages(n - open));
+    l.at = l.mapped + page() + pages(open) - open;
+    if (n) memcpy(l.at, from, n);
+    protect(l, l.open, PROT_NONE);
+    l.open = pages(open);
+    protect(l, l.open, PROT_READ | PROT_WRITE);
+    return l;
+}
+
+void only_read(fenced l) { protect(l, l.open, PROT_READ); }
+
+void open_all(fenced l) { protect(l, l.whole - 2 * page(), PROT_READ); }
 
 void unfence(fenced l) { require(!munmap(l.mapped, l.whole), "munmap"); }
 

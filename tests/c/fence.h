@@ -9,19 +9,25 @@
 typedef enum { BEHIND, BEFORE, ODD, SIDES } side;
 extern const char *const side_names[SIDES];
 
-/* n bytes from `at` on, and the mapping that they lie in. */
+/* n bytes from `at` on; the mapping that they lie in, and how many of its bytes are open. */
 typedef struct {
     unsigned char *at;
     size_t n;
     unsigned char *mapped;
-    size_t whole;
+    size_t whole, open;
 } fenced;
 
 /* n bytes copied to pages of their own. */
 fenced fence(const void *from, size_t n, side where);
 
-/* From now on the list can only be read. */
+/* .. the first `open` of them with their end at a page that is closed, the others on it and on those behind it. */
+fenced fence_part(const void *from, size_t n, size_t open);
+
+/* From now on the list can only be read, as far as it is open. */
 void only_read(fenced l);
+
+/* From now on all of the list can be read. */
+void open_all(fenced l);
 
 void unfence(fenced l);
 

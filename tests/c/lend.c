@@ -39,7 +39,20 @@ static bool writes(const request *q, uint64_t answer, int which) {
     return q->call <= CHOOSE && wakhvosi_kind(answer) != WAKHVOSI_REFUSED && (which == MARKS || which == SUPPORTS);
 }
 
+/* The list laid on its pages as the expected outcome asks. */
+static fenced laid(const request *q, const outcome *expected, int which) {
+    list l = q->lists[which];
+    size_t open = which == MARKS ? expected->mark_bytes : which == SUPPORTS ? expected->support_bytes : l.bytes;
+    bool written = writes(q, expected->answer, which);
+    fenced pages = q->where == BEHIND ? fence_part(l.at, l.bytes, open) : fence(l.at, l.bytes, q->where);
+    if (which == SUPPORTS && written && q->where != BEHIND)
+        for (size_t i = 0; i < open; i++) pages.at[i] ^= 0x5a;
+    if (!written) only_read(pages);
+    return pages;
+}
+
 static void take_back(list l, fenced pages) {
+    open_all(pages);
     if (l.bytes) memcpy(l.at, pages.at, l.bytes);
 }
 
@@ -58,11 +71,7 @@ static const char *touched_list(const fenced pages[LISTS], const unsigned char *
 static const char *wrong_there(const request *q, const outcome *expected, outcome *left) {
     making call = {*q, 0};
     fenced pages[LISTS];
-    for (int i = 0; i < LISTS; i++) {
-        pages[i] = fence(q->lists[i].at, q->lists[i].bytes, q->where);
-        call.lent.lists[i].at = pages[i].at;
-        if (!writes(q, expected->answer, i)) only_read(pages[i]);
-    }
+    for (int i = 0; i < LISTS; i++) pages[i] = laid(q, expected, i), call.lent.lists[i].at = pages[i].at;
     const unsigned char *touched;
     const char *how = stays_inside(make, &call, &touched) ? NULL : touched_list(pages, touched);
     left->answer = call.answer;
@@ -75,9 +84,9 @@ static const char *wrong_there(const request *q, const outcome *expected, outcom
 }
 
 const char *wrong(request *q, const outcome *expected, outcome *left) {
-    static char said[100];
+    static char said[120];
     bool ok = true;
-    *left = (outcome){0, new_list(q->lists[MARKS].bytes), new_list(q->lists[SUPPORTS].bytes)};
+    *left = (outcome){0, new_list(q->lists[MARKS].bytes), new_list(q->lists[SUPPORTS].bytes), 0, 0};
     for (q->where = BEHIND; q->where <= last_side; q->where++) {
         const char *how = wrong_there(q, expected, left);
         if (how && ok) snprintf(said, sizeof said, "each list with %s: %s", side_names[q->where], how);

@@ -28,16 +28,19 @@ typedef struct {
 
 void free_lists(request *q);
 
-/* The answer of a call, packed as include/wakhvosi.h says, and what it leaves in the marks and in the supports. */
+/* The answer of a call, packed as include/wakhvosi.h says; what it leaves in the marks and in the supports; and how many bytes of
+ * these, from the first on, it may touch. */
 typedef struct {
     uint64_t answer;
     list marks, supports;
+    size_t mark_bytes, support_bytes;
 } outcome;
 
 void free_outcome(outcome *o);
 
-/* Makes the call once for each side that its lists can be laid on; those that it must not write can only be read. NULL, or what is
- * wrong with the first outcome that is not as expected. The last outcome is put into `left`. */
+/* Makes the call once for each side that its lists can be laid on. Lists that it must not write can only be read, and on the first
+ * side what it must not touch is closed. On the other sides the supports that it is to write hold something else before. NULL, or
+ * what is wrong with the first outcome that is not as expected. The last outcome is put into `left`. */
 const char *wrong(request *q, const outcome *expected, outcome *left);
 
 /* How a driver makes a call, and the last of the sides that it can lay a list on. */

@@ -36,11 +36,19 @@ def counted(numbers: list[int]) -> list[int]:
     return [len(numbers), *numbers]
 
 
+def touched(request: Request, reply: Reply) -> list[int]:
+    """How many mark words and support numbers, from the first on, the call may touch."""
+    if reply[0][0] == book.REFUSED or request.call == "compare":
+        return [len(request.marks), 0]
+    needed = book.supports_needed(request) if request.call in draw.CHANGES else 0
+    return [-(-book.row_total(request) // 64), needed]
+
+
 def plain(request: Request, reply: Reply) -> list[int]:
-    """Numbers, each list behind its length: the call, its lists and arguments, then its reply."""
+    """Numbers, each list behind its length: the call, its arguments, what it may touch, its lists, then its reply."""
     records = [number for sheet in request.sheets for number in sheet]
     before = [records, request.questions, request.codes, request.combinations, request.marks, request.supports, request.rows]
-    numbers = [draw.CALLS.index(request.call), request.m, request.question, request.code]
+    numbers = [draw.CALLS.index(request.call), request.m, request.question, request.code, *touched(request, reply)]
     for entries in [*before, *map(list, reply)]:
         numbers += counted(entries)
     return numbers
