@@ -504,6 +504,11 @@ def agree_from_column_one(one: Row, other: Row) -> bool:
     return all(other[question] == code for question, code in list(one.items())[1:] if question in other)
 
 
+def agree_in_remainders(one: Row, other: Row) -> bool:
+    """Takes codes for equal that the library's value index does not tell apart."""
+    return all((other[question] - code) % reach.BUCKETS == 0 for question, code in one.items() if question in other)
+
+
 def filtered_to_first_empty(whole: Book, combinations: list[Combination], living: set[int]) -> set[int]:
     while book.verdict(whole, living)[0] == book.SETTLED:
         kept = {g for g in living if book.supported(whole, combinations, living, g)}
@@ -610,6 +615,8 @@ def checks() -> list[Check]:
     named += [(f"fault {number} alone", functools.partial(fault_alone, number)) for number in book.FAULT_TESTS]
     few = functools.partial(sample, "small", 600)
     named += [(variant.__name__, functools.partial(told_apart, place, variant, few, 3)) for place, variant in VARIANTS]
+    several_words = functools.partial(sample, "alike", 60)
+    named.append(("agree_in_remainders", functools.partial(told_apart, "agree", agree_in_remainders, several_words, 3)))
     return named + later_pairs()
 
 

@@ -210,10 +210,11 @@ def many_sheets(rng: random.Random) -> int:
 def knot_pages(
     rng: random.Random, ring: list[int], codes: list[int], before: Optional[int], behind: int, links: list[int]
 ) -> list[Page]:
-    """A ring of sheets on neighbouring questions, with a row for each code. It may be twisted: the rows for the first two codes
-    then fit in pairs and not all together, and only a combination of the whole ring shows it. Of a ring that hangs on the one
-    before, by the question `before`, one sheet has further rows that fit; they stay as long as that ring keeps its rows for the
-    two codes. By the question `behind` the next ring may hang on this one. Links join sheets and strike nothing."""
+    """A ring of sheets on neighbouring questions, with a row for each code. It may be twisted: the rows for the first two
+    codes then fit in pairs and not all together, and only a combination of the whole ring shows it. Of a ring that hangs
+    on the one before, by the question `before`, one sheet has further rows that fit; they stay as long as that ring keeps
+    its rows for the two codes. By the question `behind` the next ring may hang on this one. Links join sheets and strike
+    nothing."""
     twisted = before is not None or chance(rng, 50)
     crossed = rng.sample(range(len(ring)), rng.choice((1, 3)) if twisted else rng.choice((0, 2)))
     hanging, holding = rng.choice(crossed) if twisted else 0, rng.randrange(len(ring))
@@ -235,8 +236,8 @@ def knot_pages(
 
 
 def knotted_network(rng: random.Random, m: int, count: int) -> Network:
-    """15 to 64 sheets: rings of m, many of them hanging on another, and some sheets more. The rings are combinations, among
-    different other ones or among the later half of these."""
+    """15 to 64 sheets: rings of m, many of them hanging on another, and some sheets more. The rings are combinations,
+    among different other ones or among the later half of these."""
     sheets = many_sheets(rng)
     rings = min(sheets // m, 12)
     pool, codes = rng.sample(range(64), 64), rng.sample((0, 1, 16, 17, 34, 257, 65535), rng.choice((3, 4, 4)))
