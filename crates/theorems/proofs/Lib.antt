@@ -1,2 +1,3 @@
--- The three points of the functions for C.
+-- The three points of the functions for C, and the contracts that they rest on.
 pub mod Bytes
+pub mod Contracts

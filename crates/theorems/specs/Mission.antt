@@ -8,8 +8,8 @@
 --   wakhvosi_test_records, wakhvosi_compare_records   Tested, Compared             test-promise, compare-promise
 --   wakhvosi_test, wakhvosi_compare (bytes)           TestedBytes, ComparedBytes   test-promise-bytes, compare-promise-bytes
 --
--- A contract is that definition by name and nothing more, with the call's request at entry, and what it answers and leaves. No call
--- has a `requires`. The definitions on lists are in the model's specs/Reply.antt, beside `reply`, `testReply` and `compareReply`; those
+-- A contract is that definition by name and nothing more, with the call's request at entry, and what it answers and leaves
+-- (proofs/Contracts.antt takes it from the functions themselves). No call has a `requires`. The definitions on lists are in the model's specs/Reply.antt, beside `reply`, `testReply` and `compareReply`; those
 -- on bytes in encoding's specs/Call.antt. What follows are the records of the model's specs/Promises.antt; on bytes those of
 -- ByteCalls.antt beside this file, proved in proofs/Bytes.antt.
 use mathlib.Core.Path.{_≡_, refl, sym, _∙_, ap, subst}
