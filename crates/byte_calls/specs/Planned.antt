@@ -9,7 +9,7 @@ use Rattle.model.specs.Reply.{Reply, reply, request}
 use Rattle.layout.specs.declared.Shape.{Shape}
 use Rattle.layout.specs.Loan.{Loan, entry}
 use Rattle.layout.specs.Shape.{instanceOf}
-use Rattle.layout.specs.Setting.{Setting, instanceIn}
+use Rattle.layout.specs.Setting.{Setting, setting, instanceIn}
 use Rattle.wire.specs.Entries.{entries16, entries64, bytes}
 use Rattle.request.specs.declared.plan.Plan.{Plan}
 use Rattle.request.specs.Plan.{Planned}
@@ -21,8 +21,7 @@ use Rattle.encoding.specs.Call.{decodedChange, left}
 
 -- the lists, with the starts planned
 abbrev pub settingFor : Plan → List ℕ → List ℕ → ℕ → List ℕ → Setting
-settingFor p variables values m members =
-    record { lists = record { variables = variables; values = values; starts = p .starts }; members = members; m = m }
+settingFor p variables values m members = setting (λ (xs : List ℕ). xs) variables values (p .starts) members m
 
 -- the entries written as the first bytes of a list
 abbrev pub over : ℕ → List ℕ → List ℕ → List ℕ

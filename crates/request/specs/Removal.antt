@@ -34,11 +34,6 @@ pub record IdsOf (r : Ids) (ids : List ℕ) : Type 0 where
   pub held : Holds (r .words) (λ (g : ℕ). elem g ids)
   pub highest : (n : ℕ) → leb (r .bound) n ≡ below n ids
 
--- They are those of some list.
-pub record Gathered (r : Ids) : Type 0 where
-  pub ids : List ℕ
-  pub lists : IdsOf r ids
-
 -- id g is a tuple of the network's that the change removes
 abbrev pub removedBy : Network → Change → ℕ → Bool
 removedBy N change g = ltb g (total N) && removes N change g
