@@ -1,5 +1,5 @@
--- Mission points 1, 2 and 3, proved of `reply` for every request and every list of calls: read this module first. The
--- statements are the records of specs/Promises.antt; no hypothesis is left that "no listed fault" gives.
+-- Mission points 1, 2 and 3, proved of `reply` for every request and every list of calls, and the promises of test and compare.
+-- The statements are the records of specs/Promises.antt; no hypothesis is left that "no listed fault" gives.
 use mathlib.Core.Path.{_≡_, refl, sym, _∙_, ap, ap₂, subst}
 use mathlib.Core.Bool.{Bool, true, false, cond}
 use mathlib.Core.Option.{Option, none, some}
