@@ -25,6 +25,7 @@ use value_index::digit_count;
 use value_index::hash_behind;
 use value_index::hash_of;
 use value_index::row_of;
+use value_index::scope_bits;
 
 // The word whose bit j is 1 where base + j is below the bound.
 fn below(base: usize, bound: usize) -> u64
@@ -117,8 +118,10 @@ pub fn keep_column(
     keep_value(index, words, rows, value, start, end);
 }
 
-// Relation s's ids from start on and below end narrowed by the column whose variable is v, where scope a has it: to a's value there.
+// Relation s's ids from start on and below end narrowed by the column whose variable is v, where scope a has it: to a's value there. A
+// variable whose bit is 0 is passed over.
 fn narrow_column(
+    bits: u64,
     scope_a: &[u16],
     a: &[Value],
     v: u16,
@@ -132,6 +135,9 @@ fn narrow_column(
     requires { ⌜ Long (now words) × ((length (now «scope_a») ≡ length (now a)) × (Rowed (now index) s end × (column < maxWidth))) ⌝ }
     ensures { λ _. ⌜ Long (exit words) × NarrowsColumn (entry «scope_a») (entry a) v column (entry index) s start end (entry words) (exit words) ⌝ }
 {
+    if (bits >> (v % 64)) % 2 == 0 {
+        return;
+    }
     let i = column_of(scope_a, v);
     if scope_a.len() <= i {
         return;
@@ -141,6 +147,7 @@ fn narrow_column(
 
 // Relation s's ids from start on and below end, of tuples with scope b, narrowed by every column whose variable scope a has too.
 fn narrow_columns(
+    bits: u64,
     scope_a: &[u16],
     a: &[Value],
     scope_b: &[u16],
@@ -155,7 +162,18 @@ fn narrow_columns(
 {
     let mut j: u16 = 0;
     while wide(j) < scope_b.len() {
-        narrow_column(scope_a, a, scope_b[wide(j)], index, words, s, start, end, j);
+        narrow_column(
+            bits,
+            scope_a,
+            a,
+            scope_b[wide(j)],
+            index,
+            words,
+            s,
+            start,
+            end,
+            j,
+        );
         j += 1;
     }
 }
@@ -175,6 +193,10 @@ fn narrow(
     requires { ⌜ Long (now words) × (Seeks (lists now variables values starts) (now index) r x × (s < maxRelations)) ⌝ }
     ensures { λ _. ⌜ Long (exit words) × Agreeing (networkIn (lists entry variables values starts)) r x s (entry words) (exit words) ⌝ }
 {
+    let bits = scope_bits(index, r);
+    if bits & scope_bits(index, s) == 0 {
+        return;
+    }
     let p = place_of(starts, r, x);
     let q = place_of(starts, s, 0);
     let scope_a = p.scope;
@@ -186,6 +208,7 @@ fn narrow(
     let start = tuple_start(starts, s);
     let end = tuple_start(starts, s + 1);
     narrow_columns(
+        bits,
         &variables[scope_a..scope_a_end],
         &values[a..a_end],
         &variables[scope_b..scope_b_end],

@@ -28,7 +28,7 @@ module _ (w : tie.Else1) where
   some = w .if1 .left
 
   -- their words have a place in the row
-  inside : start .args .first + ((stop - 1) / 64 + 1) ≤ 9220
+  inside : start .args .first + ((stop - 1) / 64 + 1) ≤ 9284
   inside = omega (arith, some, w .before .wide2 .ensures .0, start .pre .1 .1)
 
   short : (stop - 1) / 64 < 64

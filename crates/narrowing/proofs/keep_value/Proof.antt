@@ -40,7 +40,7 @@ module _ (c : tie.Then1 Inv-loop μ-loop) where
   below : loop .loop .hash < 65536
   below = omega (arith, loop .loop .inv .1 .0, hash-below index (start .args .value) (loop .loop .i))
 
-  within : rowOf index (start .args .rows) (loop .loop .hash) (loop .loop .i) + rowWords index ≤ 9220
+  within : rowOf index (start .args .rows) (loop .loop .hash) (loop .loop .i) + rowWords index ≤ 9284
   within = row-within (start .pre .1 .0) (loop .loop .hash) below (loop .loop .i) reached (start .pre .1 .1 .0)
 
 keep-requires : tie.Need-keep-requires Inv-loop μ-loop
