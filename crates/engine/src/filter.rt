@@ -17,6 +17,7 @@ use model::Value;
 use narrowing::INDEX;
 use narrowing::Index;
 use narrowing::index_all;
+use sweeping::sweeps;
 use worklist::list::PairStarts;
 use worklist::list::fill;
 use worklist::list::pair_starts;
@@ -99,6 +100,7 @@ pub fn filter(
     let begins = prepare(variables, values, starts, members, m, &mut index);
     let count = words_for(tuple_count(starts));
     let mut live = copied(words, count);
+    sweeps(variables, values, starts, members, m, &index, &mut live);
     settle(
         variables,
         values,
