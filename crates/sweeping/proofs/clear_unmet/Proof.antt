@@ -84,7 +84,7 @@ turned c =
     {C = Result (c .if1 .words)}
     (λ w.
     subst Result (sym (w .3 ∙ w .2 .ensures ∙ ap (λ (g : ℕ). cleared g (l .words)) (id turn)))
-    (revises-more (L k) (framed k) (index turn) (c .before .meets .ensures .1 (not-true (c .before .meets .result) (w .0 .taken))) (l .inv .0)))
+    (revises-more (L k) (framed k) {now = l .words} (index turn) (c .before .meets .ensures .1 (not-true (c .before .meets .result) (w .0 .taken))) (l .inv .0)))
     (λ w. subst Result (sym (w .1)) (l .inv .0))
     (c .if1 .came)
 
