@@ -163,7 +163,7 @@ fn sweep_relation(
     Swept { tested, left }
 }
 
-// A sweep over all relations. It stops, and is false, where so far less than a quarter of the tuples tested fell.
+// A sweep over all relations. It stops, and is false, where so far less than a sixteenth of the tuples tested fell.
 fn sweep(
     variables: &[u16],
     values: &[Value],
@@ -183,7 +183,7 @@ fn sweep(
         let swept = sweep_relation(variables, values, starts, index, beside, words, r);
         tested += swept.tested;
         left += swept.left;
-        if tested * 3 < left * 4 {
+        if tested * 15 < left * 16 {
             return false;
         }
         r += 1;
