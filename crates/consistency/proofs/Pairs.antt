@@ -25,7 +25,7 @@ use Rattle.layout.specs.Pairs.{combinationOf, sizeOf}
 use Rattle.layout.proofs.SoundStarts.{tuples-few}
 use Rattle.layout.proofs.Pairs.{combination-length, combination-proper, place-below, member-at}
 use Rattle.layout.proofs.Rows.{Row, row-total, row-index, row-id}
-use Rattle.narrowing.specs.Index.{Long}
+use Rattle.narrowing.specs.Narrows.{Long}
 use Rattle.support.specs.Search.{Search, SoundSearch}
 use Rattle.consistency.specs.Consistent.{lowest, hasSupport, consistentIn, pairConsistent, allConsistent}
 

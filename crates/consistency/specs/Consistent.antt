@@ -12,7 +12,7 @@ use Rattle.model.specs.Support.{candidates, isSupport}
 use Rattle.model.specs.Consistency.{isConsistent}
 use Rattle.layout.specs.Setting.{Setting, network, listed, liveIn, Sound}
 use Rattle.layout.specs.Pairs.{combinationOf}
-use Rattle.narrowing.specs.Index.{Indexed}
+use Rattle.value_index.specs.Index.{Indexed}
 use Rattle.support.specs.Search.{Search, netOf, liveOf, seeker}
 
 -- ---- One tuple

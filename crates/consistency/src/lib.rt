@@ -4,7 +4,7 @@ ghost use Rattle.model.specs.Reply.{verdictNumbers, Tested};
 ghost use Rattle.layout.specs.Loan.{entry};
 ghost use Rattle.layout.specs.Shape.{instanceOf};
 ghost use Rattle.layout.specs.Setting.{setting, Sound};
-ghost use Rattle.narrowing.specs.Index.{Long};
+ghost use Rattle.narrowing.specs.Narrows.{Long};
 ghost use Rattle.support.specs.Search.{searching, Seeking};
 ghost use Rattle.consistency.specs.Consistent.{lowest, hasSupport, PairAt, pairConsistent, allConsistent};
 use layout::Shape;
@@ -19,11 +19,11 @@ use live::words_for;
 use model::MAX_MEMBERS;
 use model::Value;
 use model::Verdict;
-use narrowing::INDEX;
-use narrowing::Index;
-use narrowing::index_all;
 use request::checks::test_checked;
 use support::first_support;
+use value_index::INDEX;
+use value_index::Index;
+use value_index::index_all;
 
 // Whether tuple `own` of the member at `place` has a support in the combination of these members.
 fn has_support(

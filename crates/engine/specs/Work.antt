@@ -14,7 +14,7 @@ use Rattle.model.specs.Combination.{Combination}
 use Rattle.model.specs.Support.{candidates, isSupport, firstSupport}
 use Rattle.model.specs.Consistency.{filtered, supportList, needed}
 use Rattle.model.specs.LiveWords.{isLive, cleared, written}
-use Rattle.narrowing.specs.Index.{Indexed}
+use Rattle.value_index.specs.Index.{Indexed}
 use Rattle.sweeping.specs.Shrunk.{Shrunk}
 use Rattle.worklist.specs.Supports.{SupportsFit, PairsBegin}
 use Rattle.layout.specs.Loan.{Loan, entry, exit}

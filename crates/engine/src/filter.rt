@@ -1,7 +1,7 @@
 // Visits until no pair waits: what lives then is the largest consistent set.
 ghost use Rattle.layout.specs.Loan.{entry, exit};
 ghost use Rattle.layout.specs.Setting.{setting, Sound};
-ghost use Rattle.narrowing.specs.Index.{Full};
+ghost use Rattle.value_index.specs.Index.{Full};
 ghost use Rattle.live.specs.Words.{WordArray};
 ghost use Rattle.engine.specs.Work.{Room, Prepared, SoundShort, Filters};
 use super::blank::blank_all;
@@ -14,10 +14,10 @@ use live::copied;
 use live::put_back;
 use live::words_for;
 use model::Value;
-use narrowing::INDEX;
-use narrowing::Index;
-use narrowing::index_all;
 use sweeping::sweeps;
+use value_index::INDEX;
+use value_index::Index;
+use value_index::index_all;
 use worklist::list::PairStarts;
 use worklist::list::fill;
 use worklist::list::pair_starts;

@@ -1,7 +1,7 @@
 // A visit of one pair of combination and member: each live tuple of the member gets its first support, or is removed.
 ghost use Rattle.layout.specs.Loan.{entry, exit};
 ghost use Rattle.layout.specs.Setting.{setting};
-ghost use Rattle.narrowing.specs.Index.{Long};
+ghost use Rattle.narrowing.specs.Narrows.{Long};
 ghost use Rattle.live.specs.Words.{WordArray};
 ghost use Rattle.engine.specs.Work.{RenewAt, Renewed, VisitAt, Visited};
 use layout::Starts;
@@ -13,8 +13,8 @@ use live::next;
 use model::MAX_MEMBERS;
 use model::NO_SUPPORT;
 use model::Value;
-use narrowing::Index;
 use support::first_support;
+use value_index::Index;
 use worklist::list::PairStarts;
 use worklist::list::all_live;
 use worklist::list::load;

@@ -1,4 +1,3 @@
 -- The laws of the value index, and of the words narrowed by it.
 pub mod Words
-pub mod Indexing
 pub mod Narrowing

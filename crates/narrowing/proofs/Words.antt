@@ -6,16 +6,17 @@ use mathlib.Core.List.{List}
 use Prim.Native.Nat.{ℕ, _+_, _-_, _*_, _/_, _%_, _^_, _≤_, _<_}
 use native.Mathlib.Omega.{arith}
 use native.Mathlib.Decide.{ℕ-discrete, decLt}
-use lib.Dec.{ltb, leb, eqb}
+use lib.Dec.{ltb, leb}
 use lib.ListN.{length, getD, set}
-use lib.Seq.{getD-set-same, getD-set-other}
 use lib.Bits.{bitAnd, bitOr}
 use lib.Pow.{pow-pos}
-use borrow.Author.Tests.{lt-ltb, le-ltb, ltb-true, ltb-false, le-leb, lt-leb, leb-true, leb-false, eqb-true, eqb-false, eq-eqb, ne-eqb}
+use borrow.Author.Tests.{lt-ltb, le-ltb, ltb-true, ltb-false, le-leb, lt-leb, leb-true, leb-false}
 use Rattle.model.specs.LiveWords.{isSet, isLive}
 use Rattle.model.proofs.LiveWords.{isLive-at}
-use Rattle.live.proofs.Bits.{isSet-high, isSet-not, isSet-and, isSet-or, isSet-pow, one-shl}
-use Rattle.narrowing.specs.Index.{buckets, bucketOf, isIndexed, stays, rowBit, Kept}
+use Rattle.live.proofs.Bits.{isSet-high, isSet-not, isSet-and, isSet-or, one-shl}
+use Rattle.live.proofs.Stores.{isLive-set-same, isLive-set-other}
+use Rattle.value_index.specs.Index.{rowBit}
+use Rattle.narrowing.specs.Narrows.{stays, Kept, KeptIds}
 
 -- ---- The ids below a bound
 
@@ -47,36 +48,6 @@ not-ltb a b = go (ltb a b) refl
     go : (x : Bool) → ltb a b ≡ x → not x ≡ leb b a
     go true e = sym (lt-leb b a (ltb-true a b e))
     go false e = sym (le-leb b a (ltb-false a b e))
-
--- ---- One word stored
-
-module _ (ws : List ℕ) (i w g : ℕ) where
-  isLive-set-same : i < length ws → g / 64 ≡ i → isLive (set ws i w) g ≡ isSet w (g % 64)
-  unfolding isLive
-  isLive-set-same h e =
-      ap (λ (k : ℕ). isSet (getD (set ws i w) k 0) (g % 64)) e ∙ ap (λ (x : ℕ). isSet x (g % 64)) (getD-set-same ws i w 0 h)
-
-  isLive-set-other : (g / 64 ≡ i → ⊥) → isLive (set ws i w) g ≡ isLive ws g
-  unfolding isLive
-  isLive-set-other d = ap (λ (x : ℕ). isSet x (g % 64)) (getD-set-other ws i (g / 64) w 0 d)
-
--- the bit at place p is set, and no other changes
-pub entered-one : (ws : List ℕ) (p h : ℕ) → p / 64 < length ws → isLive (set ws (p / 64) (bitOr (getD ws (p / 64) 0) (1 * 2 ^ (p % 64) % 2 ^ 64))) h ≡ (isLive ws h || eqb p h)
-entered-one ws p h inside = rw (one-shl (p % 64) (omega arith)) (go (ℕ-discrete (h / 64) (p / 64)))
-  where
-    same : (x : Bool) → eqb p h ≡ x → h / 64 ≡ p / 64 → eqb (p % 64) (h % 64) ≡ x
-    same true e q = let d = eqb-true p h e in eq-eqb (p % 64) (h % 64) (omega arith)
-    same false e q = let d = eqb-false p h e in ne-eqb (p % 64) (h % 64) (λ f. d (omega arith))
-
-    go : Dec (h / 64 ≡ p / 64) → isLive (set ws (p / 64) (bitOr (getD ws (p / 64) 0) (2 ^ (p % 64)))) h ≡ (isLive ws h || eqb p h)
-    go (yes e) =
-        let q : h ≡ 64 * (p / 64) + h % 64 = omega arith in
-        isLive-set-same ws (p / 64) (bitOr (getD ws (p / 64) 0) (2 ^ (p % 64))) h inside e
-        ∙ isSet-or (getD ws (p / 64) 0) (2 ^ (p % 64)) (h % 64)
-        ∙ ap₂ (λ (x y : Bool). x || y) (sym (isLive-at ws (p / 64) (h % 64) (omega arith)) ∙ ap (isLive ws) (sym q)) (isSet-pow (p % 64) (h % 64) ∙ same (eqb p h) refl e)
-    go (no d) =
-        isLive-set-other ws (p / 64) (bitOr (getD ws (p / 64) 0) (2 ^ (p % 64))) h d
-        ∙ sym (ap (λ (x : Bool). isLive ws h || x) (ne-eqb p h (λ e. d (ap (λ (n : ℕ). n / 64) (sym e)))) ∙ or-false (isLive ws h))
 
 -- ---- Words narrowed
 
@@ -161,6 +132,26 @@ module _ (passes : ℕ → Bool) where
       go false p true q = sym (high g (leb-true (64 * n) g q))
       go false p false q = refl
 
+-- ---- By one test after another
+
+module _ (start end : ℕ) where
+  -- by no test
+  pub kept-ever : (ws : List ℕ) → KeptIds (λ (g : ℕ). true) start end ws ws
+  kept-ever ws g = sym (ap (λ (x : Bool). isLive ws g && x) (ap (λ (x : Bool). ltb g start || x) (or-true (leb end g)) ∙ or-true (ltb g start)) ∙ and-true (isLive ws g))
+
+  pub kept-both : (p q : ℕ → Bool) (a b c : List ℕ) → KeptIds p start end a b → KeptIds q start end b c → KeptIds (λ (g : ℕ). p g && q g) start end a c
+  kept-both p q a b c f h g = h g ∙ ap (λ (x : Bool). x && stays q start end g) (f g) ∙ go (isLive a g) (ltb g start) (leb end g) (p g)
+    where
+      go : (l x y z : Bool) → (l && (x || (y || z)) && (x || (y || q g))) ≡ (l && (x || (y || (z && q g))))
+      go false x y z = refl
+      go true true y z = refl
+      go true false true z = refl
+      go true false false true = refl
+      go true false false false = refl
+
+  pub kept-as : (p q : ℕ → Bool) (a b : List ℕ) → ((g : ℕ) → p g ≡ q g) → KeptIds p start end a b → KeptIds q start end a b
+  kept-as p q a b e f g = f g ∙ ap (λ (x : Bool). isLive a g && (ltb g start || (leb end g || x))) (e g)
+
 -- ---- Words narrowed by the index
 
 module _ (index : List ℕ) (first : ℕ) where
@@ -169,12 +160,6 @@ module _ (index : List ℕ) (first : ℕ) where
   row-at i j h =
       let e : 64 * first + (64 * i + j) ≡ 64 * (first + i) + j = omega arith in
       sym (ap (isLive index) e ∙ isLive-at index (first + i) j h)
-
-  row-indexed : (c b g : ℕ) → first ≡ (c * buckets + b) * 64 → rowBit index first g ≡ isIndexed index c b g
-  unfolding isIndexed
-  row-indexed c b g e =
-      let q : 64 * first + g ≡ (c * buckets + b) * 4096 + g = omega arith in
-      ap (isLive index) q
 
   module _ (start end : ℕ) where
     -- the bits of the word that word i is narrowed by
@@ -196,7 +181,6 @@ module _ (index : List ℕ) (first : ℕ) where
         (λ g l m. sym (ap₂ (λ (x y : Bool). x || (y || rowBit index first g)) (le-ltb g start (omega arith)) (lt-leb end g (omega arith))))
 
     -- words that hold all ids from start on and below end
-    pub kept-stays : (column value i n : ℕ) (a b : List ℕ) → first ≡ (column * buckets + value % buckets) * 64 → 64 * i ≤ start → end ≤ 64 * n → Kept (stays (rowBit index first) start end) i n a b → (g : ℕ) → isLive b g ≡ (isLive a g && stays (isIndexed index column (bucketOf value)) start end g)
-    kept-stays column value i n a b e h k f g =
+    pub kept-stays : (i n : ℕ) (a b : List ℕ) → 64 * i ≤ start → end ≤ 64 * n → Kept (stays (rowBit index first) start end) i n a b → KeptIds (rowBit index first) start end a b
+    kept-stays i n a b h k f g =
         kept-all (stays (rowBit index first) start end) i n a b (λ g l. stays-before (rowBit index first) start end g (omega arith)) (λ g l. stays-behind (rowBit index first) start end g (omega arith)) f g
-        ∙ ap (λ (x : Bool). isLive a g && (ltb g start || (leb end g || x))) (row-indexed column (bucketOf value) g e)

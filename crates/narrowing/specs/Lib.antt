@@ -1,3 +1,3 @@
 -- The definitions that the contracts cite.
-pub mod Index
+pub mod Narrows
 pub mod Columns

@@ -19,7 +19,7 @@ use Rattle.model.proofs.Network.{index-bounds, ids-below}
 use Rattle.model.proofs.LiveWords.{living-length, living-has}
 use Rattle.model.proofs.Search.{completion-bare}
 use Rattle.model.proofs.Narrowing.{Narrower, narrow-all, completion-narrow, supportFrom-narrow}
-use Rattle.narrowing.specs.Index.{Later, Others, Narrowed, Bare}
+use Rattle.narrowing.specs.Narrows.{Later, Others, Narrowed, Bare}
 use Rattle.support.specs.Search.{Search, netOf, liveOf, seeker, SoundSearch, chosenIds, Prefix, sought}
 use Rattle.support.proofs.Walk.{members-apart, few-tuples, member-below}
 use Rattle.support.proofs.Ends.{sought-first}

@@ -17,7 +17,7 @@ use Rattle.model.specs.LiveWords.{living}
 use Rattle.model.specs.Fault.{properMembers}
 use Rattle.layout.specs.Starts.{tupleStart}
 use Rattle.layout.specs.Setting.{Lists, lists, networkIn, SoundLists}
-use Rattle.narrowing.specs.Index.{Indexed}
+use Rattle.value_index.specs.Index.{Indexed}
 use Rattle.support.specs.declared.Found.{Found}
 use Rattle.support.specs.declared.Span.{Span}
 use Rattle.support.specs.declared.Stage.{Stage}

@@ -6,7 +6,7 @@ ghost use Rattle.model.specs.Limits.{maxRelations, maxMembers};
 ghost use Rattle.layout.specs.Loan.{entry};
 ghost use Rattle.layout.specs.Starts.{tupleStart};
 ghost use Rattle.layout.specs.Setting.{lists, networkIn};
-ghost use Rattle.narrowing.specs.Index.{Long};
+ghost use Rattle.narrowing.specs.Narrows.{Long};
 ghost use Rattle.support.specs.Search.{searching, Seeking, SearchAt, pastOwn, spanAt, fits, Trial, Finds, FindsFirst};
 use layout::Starts;
 use layout::tuple_start;
@@ -15,9 +15,9 @@ use live::is_live;
 use live::next;
 use model::MAX_MEMBERS;
 use model::Value;
-use narrowing::Index;
 use narrowing::narrow_members;
 use network::agreement::tuples_agree;
+use value_index::Index;
 
 // One tuple of each member, by its index.
 pub type Indices = [u16; MAX_MEMBERS];

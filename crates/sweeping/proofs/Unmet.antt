@@ -23,7 +23,7 @@ use Rattle.live.proofs.Copies.{between-live}
 use Rattle.layout.specs.Starts.{SoundStarts}
 use Rattle.layout.specs.Setting.{Lists, networkIn}
 use Rattle.layout.proofs.SoundStarts.{tuples-few}
-use Rattle.narrowing.specs.Index.{Agreeing, Dead}
+use Rattle.narrowing.specs.Narrows.{Agreeing, Dead}
 use Rattle.sweeping.specs.Sweep.{bitOf, Unmet, combining, Revises, Sweeps}
 use Rattle.sweeping.proofs.Shrunk.{shrunk-refl, shrunk-trans, shrunk-removed}
 

@@ -12,7 +12,8 @@ use Rattle.model.specs.Combination.{Combination, combinations}
 use Rattle.model.specs.LiveWords.{isLive}
 use Rattle.live.specs.Words.{WordArray}
 use Rattle.layout.specs.Setting.{Lists, Setting, networkIn, SoundLists}
-use Rattle.narrowing.specs.Index.{Indexed, Long}
+use Rattle.value_index.specs.Index.{Indexed}
+use Rattle.narrowing.specs.Narrows.{Long}
 use Rattle.sweeping.specs.declared.Swept.{Swept}
 use Rattle.sweeping.specs.Shrunk.{Shrunk}
 

@@ -6,7 +6,8 @@ ghost use Rattle.model.specs.Combination.{combinations};
 ghost use Rattle.live.specs.Words.{WordArray};
 ghost use Rattle.layout.specs.Loan.{entry, exit};
 ghost use Rattle.layout.specs.Setting.{lists, setting, network, SoundLists, Whole, Sound};
-ghost use Rattle.narrowing.specs.Index.{Long, Seeks, Indexed};
+ghost use Rattle.value_index.specs.Index.{Indexed};
+ghost use Rattle.narrowing.specs.Narrows.{Long, Seeks};
 ghost use Rattle.sweeping.specs.Shrunk.{Shrunk};
 ghost use Rattle.sweeping.specs.Sweep.{Besides, Few, PutAsks, Put, Meets, Searchable, Revises, Sweeps, AtMost};
 use layout::Starts;
@@ -23,8 +24,8 @@ use live::count;
 use live::next;
 use live::set;
 use model::Value;
-use narrowing::Index;
 use narrowing::narrow_member;
+use value_index::Index;
 
 // How many tuples were tested, and how many of them are left.
 pub struct Swept {

@@ -13,7 +13,7 @@ use Rattle.layout.specs.Setting.{Setting, setting}
 use Rattle.layout.proofs.Pairs.{base-within, member-below}
 use Rattle.consistency.specs.Consistent.{hasSupport, PairAt}
 use Rattle.consistency.proofs.Pairs.{WalkAt, words-enough, searched, searched-sound, walk-starts, walk-goes, walk-fails, walk-ends}
-use Rattle.narrowing.specs.Index.{Long}
+use Rattle.narrowing.specs.Narrows.{Long}
 use Rattle.layout.proofs.Rows.{Row, row-of, row-asks, next-ahead}
 use Rattle.consistency.proofs.pair_supported.Statement.{statement}
 use Rattle.consistency.proofs.pair_supported.Tie as tie

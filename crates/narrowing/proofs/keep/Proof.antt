@@ -7,42 +7,47 @@ use Prim.Native.Nat.{ℕ, _+_, _-_, _*_, _/_, _≤_, _<_}
 use native.Mathlib.Omega.{arith}
 use borrow.Author.Needs.{needs}
 use Rattle.model.specs.LiveWords.{isLive}
-use Rattle.narrowing.specs.Index.{buckets, bucketOf, isIndexed, stays, rowBit, Kept}
+use Rattle.value_index.specs.Index.{rowBit}
+use Rattle.narrowing.specs.Narrows.{stays, Kept, KeptIds}
 use Rattle.narrowing.proofs.Words.{kept-on, kept-inner, kept-stays, stays-none}
 use Rattle.narrowing.proofs.keep.Statement.{statement}
 use Rattle.narrowing.proofs.keep.Tie as tie
 
-module _ (w : tie.After-bucket-of) where
+module _ (w : tie.Else1) where
   abbrev start : tie.Start
-  start = w .before .before .before .before .before
+  start = w .before .before .before
 
   abbrev begin : ℕ
-  begin = w .before .before .before .before .wide .result
+  begin = w .before .before .wide .result
 
   abbrev stop : ℕ
-  stop = w .before .before .before .wide2 .result
-
-  abbrev first : ℕ
-  first = (w .before .wide3 .result * buckets + w .bucket-of .result) * 64
+  stop = w .before .wide2 .result
 
   -- there are ids to narrow
   some : begin < stop
-  some = w .before .before .if1 .left
+  some = w .if1 .left
+
+  -- their words have a place in the row
+  inside : start .args .first + ((stop - 1) / 64 + 1) ≤ 9220
+  inside = omega (arith, some, w .before .wide2 .ensures .0, start .pre .1 .1)
+
+  short : (stop - 1) / 64 < 64
+  short = omega (arith, some, w .before .wide2 .ensures .0, start .pre .1 .0)
 
   -- the words narrowed hold them all
-  done : (n : ℕ) (after : List ℕ) → stop ≤ 64 * n → Kept (stays (rowBit (start .args .index .now) first) begin stop) (begin / 64) n (start .args .words .now) after → (g : ℕ) → isLive after g ≡ (isLive (start .args .words .now) g && stays (isIndexed (start .args .index .now) (start .args .column) (bucketOf (start .args .value))) (start .args .start) (start .args .end) g)
+  done : (n : ℕ) (after : List ℕ) → stop ≤ 64 * n → Kept (stays (rowBit (start .args .index .now) (start .args .first)) begin stop) (begin / 64) n (start .args .words .now) after → KeptIds (rowBit (start .args .index .now) (start .args .first)) (start .args .start) (start .args .end) (start .args .words .now) after
   done n after h f g =
       let a = start .args in
       let l : 64 * (begin / 64) ≤ begin = omega arith in
-      kept-stays (a .index .now) first begin stop (a .column) (a .value) (begin / 64) n (a .words .now) after (ap₂ (λ (x y : ℕ). (x * buckets + y) * 64) (w .before .wide3 .ensures .0) (w .bucket-of .ensures)) l h f g
-      ∙ ap₂ (λ (x y : ℕ). isLive (a .words .now) g && stays (isIndexed (a .index .now) (a .column) (bucketOf (a .value))) x y g) (w .before .before .before .before .wide .ensures .0) (w .before .before .before .wide2 .ensures .0)
+      kept-stays (a .index .now) (a .first) begin stop (begin / 64) n (a .words .now) after l h f g
+      ∙ ap₂ (λ (x y : ℕ). isLive (a .words .now) g && stays (rowBit (a .index .now) (a .first)) x y g) (w .before .before .wide .ensures .0) (w .before .wide2 .ensures .0)
 
 returns : tie.Need-returns
 returns c =
     let s = c .before .before .before in
     let a = s .args in
     let h : a .end ≤ a .start = omega (arith, c .if1 .taken, c .before .wide2 .ensures .0, c .before .before .wide .ensures .0) in
-    (s .pre .0, λ g. stays-none (isIndexed (a .index .now) (a .column) (bucketOf (a .value))) (a .start) (a .end) g h (isLive (a .words .now) g))
+    (s .pre .0, λ g. stays-none (rowBit (a .index .now) (a .first)) (a .start) (a .end) g h (isLive (a .words .now) g))
 
 returns-2 : tie.Need-returns-2
 returns-2 c =
@@ -61,8 +66,8 @@ returns-2 c =
     let low : begin w ≤ 64 * (i + 1) = omega arith in
     let high : 64 * last ≤ stop w = omega arith in
     let end : stop w ≤ 64 * (last + 1) = omega arith in
-    let test = stays (rowBit (a .index .now) (first w)) (begin w) (stop w) in
-    let inner = kept-inner (a .index .now) (first w) (begin w) (stop w) (i + 1) last words₁ words₂ low high (between .keep-words .ensures .1) in
+    let test = stays (rowBit (a .index .now) (a .first)) (begin w) (stop w) in
+    let inner = kept-inner (a .index .now) (a .first) (begin w) (stop w) (i + 1) last words₁ words₂ low high (between .keep-words .ensures .1) in
     let l1 : i ≤ i + 1 = omega arith in
     let l2 : i + 1 ≤ last = omega arith in
     let l3 : i ≤ last = omega arith in
@@ -88,8 +93,10 @@ keep-spec =
     (tie.spec
     (λ c κs. search needs) (λ c κs. search needs)
     returns
-    (λ c κs. search needs) (λ c. search needs) (λ c κs. search needs) (λ c. search needs)
-    (λ c. search needs) (λ c. search needs) (λ c κs. search needs) (λ c. search needs)
-    (λ c κs. search needs) (λ c κs. search needs)
+    (λ c. search needs)
+    (λ c κs. let w = c .before in let l = some w in let n = inside w in (start w .pre .0, (omega arith, omega (arith, short w))))
+    (λ c. search needs)
+    (λ c κs. let w = c .before .before .before .before in let l = some w in let n = inside w in (c .before .before .keep-word .ensures .0, (omega arith, (omega (arith, c .before .if2 .taken), omega (arith, short w)))))
+    (λ c κs. let w = c .before .before .before .before .before .before in let n = inside w in (c .before .keep-words .ensures .0, (omega arith, short w)))
     returns-2
     returns-3)

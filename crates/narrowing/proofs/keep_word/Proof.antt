@@ -5,7 +5,8 @@ use Prim.Native.Nat.{_<_}
 use native.Mathlib.Omega.{arith}
 use lib.ListN.{length, length-set}
 use borrow.Author.Needs.{needs}
-use Rattle.narrowing.specs.Index.{stays, rowBit}
+use Rattle.value_index.specs.Index.{rowBit}
+use Rattle.narrowing.specs.Narrows.{stays}
 use Rattle.narrowing.proofs.Words.{kept-word, stays-at}
 use Rattle.narrowing.proofs.keep_word.Statement.{statement}
 use Rattle.narrowing.proofs.keep_word.Tie as tie

@@ -5,7 +5,8 @@ use Prim.Native.Nat.{ℕ, _+_, _-_, _≤_, _<_}
 use native.Mathlib.Omega.{arith}
 use lib.ListN.{length, length-set}
 use borrow.Author.Needs.{needs}
-use Rattle.narrowing.specs.Index.{rowBit, Kept}
+use Rattle.value_index.specs.Index.{rowBit}
+use Rattle.narrowing.specs.Narrows.{Kept}
 use Rattle.narrowing.proofs.Words.{kept-none, kept-word, kept-on, row-at}
 use Rattle.narrowing.proofs.keep_words.Statement.{statement}
 use Rattle.narrowing.proofs.keep_words.Tie as tie

@@ -8,7 +8,7 @@ use borrow.Author.Needs.{needs}
 use Rattle.model.specs.Agreement.{cells}
 use Rattle.model.proofs.Agreement.{cellsOf-at}
 use Rattle.layout.specs.Setting.{Lists, networkIn}
-use Rattle.layout.proofs.SoundStarts.{tuple-start, tuple-end, ids-few}
+use Rattle.layout.proofs.SoundStarts.{tuple-start, tuple-end, ids-within, ids-few}
 use Rattle.layout.proofs.Places.{Within, below-limit, place-within, place-lengths, place-cells, place-rises, place-inside, place-scope, place-few}
 use Rattle.narrowing.proofs.Narrowing.{narrows-agreeing}
 use Rattle.narrowing.proofs.narrow.Statement.{statement}
@@ -38,7 +38,13 @@ narrow-columns-requires c κs =
       (
         place-lengths (s .pre .1 .0 .laid) (s .args .r) (s .args .x) (s .pre .1 .0 .own) (places .before .place-of .result) (places .before .place-of .ensures),
         (
-          omega (arith, c .before .before .before .before .tuple-start2 .ensures, ids-few (s .pre .1 .0 .laid .framed) (s .args .s) (s .pre .1 .1)),
+          record {
+            plan = s .pre .1 .0 .indexed .plan;
+            relation = s .pre .1 .1;
+            within =
+                let f = s .pre .1 .0 .laid .framed in
+                (omega (arith, c .before .before .before .before .tuple-start2 .ensures, ids-within f (s .args .s) (s .pre .1 .1), s .pre .1 .0 .indexed .bits), omega (arith, c .before .before .before .before .tuple-start2 .ensures, ids-few f (s .args .s) (s .pre .1 .1)));
+          },
           place-few (s .pre .1 .0 .laid) (s .args .s) (s .pre .1 .1) (places .place-of2 .result) 0 (places .place-of2 .ensures),
         ),
       ),

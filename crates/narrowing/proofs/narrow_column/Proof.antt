@@ -1,5 +1,5 @@
 -- `narrow_column` narrows where scope a has the variable, and changes nothing where it does not.
--- From what `column_of` and `keep` ensure, and that tuples which agree have fitting values under a shared variable.
+-- From what `column_of` and `keep_column` ensure, and that tuples which agree have fitting values under a shared variable.
 use mathlib.Core.Path.{_≡_, _∙_, sym, subst}
 use mathlib.Core.List.{List}
 use Prim.Native.Nat.{ℕ, _<_}
@@ -15,7 +15,7 @@ returns : tie.Need-returns
 returns c =
     let a = c .before .before .before .before .args in (
       c .before .before .before .before .pre .0,
-      λ scope h e. narrows-none (λ (b : List ℕ). agreeing (cells (a .scope-a .now) (a .a .now)) (cells scope b)) (length scope) (a .index .now) (a .start) (a .end) (a .words .now),
+      λ scope h e. narrows-none (λ (b : List ℕ). agreeing (cells (a .scope-a .now) (a .a .now)) (cells scope b)) (length scope) (a .index .now) (a .s) (a .start) (a .end) (a .words .now),
     )
 
 returns-2 : tie.Need-returns-2
@@ -24,11 +24,11 @@ returns-2 c =
     let s = found .before .before .before .before in
     let a = s .args in
     let i = found .before .column-of .result in (
-      c .keep .ensures .0,
+      c .keep-column .ensures .0,
       λ scope h e.
-          narrows-keep (λ (b : List ℕ). agreeing (cells (a .scope-a .now) (a .a .now)) (cells scope b)) (length scope) (a .index .now) (a .start) (a .end) (a .column) (getD (a .a .now) i 0) (a .words .now) (c .keep .last .1 .0) h
+          narrows-keep (λ (b : List ℕ). agreeing (cells (a .scope-a .now) (a .a .now)) (cells scope b)) (length scope) (a .index .now) (a .s) (a .start) (a .end) (a .column) (getD (a .a .now) i 0) (a .words .now) (c .keep-column .last .1 .0) h
           (values-fit (a .scope-a .now) (a .a .now) scope i (a .column) (s .pre .1 .0) (found .if1 .left) h (subst (λ (k : ℕ). getD (a .scope-a .now) k 0 ≡ a .v) (sym (found .before .column-of .ensures)) (column-found (a .v) (a .scope-a .now) (subst (λ (k : ℕ). k < length (a .scope-a .now)) (found .before .column-of .ensures) (found .if1 .left))) ∙ sym e))
-          (c .keep .ensures .1),
+          (c .keep-column .ensures .1),
     )
 
 pub narrow-column-spec : {M : Type 1} → statement M

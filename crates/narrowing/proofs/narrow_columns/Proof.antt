@@ -8,7 +8,7 @@ use native.Mathlib.Omega.{arith}
 use lib.ListN.{length, getD}
 use borrow.Author.Needs.{needs}
 use Rattle.model.specs.Agreement.{cells, agreeing}
-use Rattle.narrowing.specs.Index.{Narrows}
+use Rattle.narrowing.specs.Narrows.{Narrows}
 use Rattle.narrowing.proofs.Narrowing.{narrows-none, narrows-on}
 use Rattle.narrowing.proofs.narrow_columns.Statement.{statement}
 use Rattle.narrowing.proofs.narrow_columns.Tie as tie
@@ -18,12 +18,12 @@ abbrev agrees : List ℕ → List ℕ → List ℕ → List ℕ → Bool
 agrees scope-a a scope-b b = agreeing (cells scope-a a) (cells scope-b b)
 
 abbrev Inv-loop : tie.InvT-loop
-Inv-loop scope-a a scope-b index words₀ start end j₀ words j =
+Inv-loop scope-a a scope-b index words₀ s start end j₀ words j =
     (j ≤ length scope-b)
-    × ((length words ≡ 64) × Narrows (agrees scope-a a scope-b) (length scope-b) index start end words₀ words)
+    × ((length words ≡ 64) × Narrows (agrees scope-a a scope-b) (length scope-b) index s start end words₀ words)
 
 abbrev μ-loop : tie.MeasureT-loop
-μ-loop scope-a a scope-b index words₀ start end j₀ words j = length scope-b - j
+μ-loop scope-a a scope-b index words₀ s start end j₀ words j = length scope-b - j
 
 -- the column reached is one
 below : (c : tie.Then1 Inv-loop μ-loop) → c .before .before .loop .j < length (c .before .before .before .before .before .before .args .scope-b .now)
@@ -36,7 +36,7 @@ loop-holds c =
       omega arith,
       (
         s .pre .0,
-        narrows-none (agrees (a .scope-a .now) (a .a .now) (a .scope-b .now)) (length (a .scope-b .now)) (a .index .now) (a .start) (a .end) (a .words .now),
+        narrows-none (agrees (a .scope-a .now) (a .a .now) (a .scope-b .now)) (length (a .scope-b .now)) (a .index .now) (a .s) (a .start) (a .end) (a .words .now),
       ),
     )
 
@@ -64,7 +64,7 @@ loop-again c =
       omega arith,
       (
         c .narrow-column .ensures .0,
-        narrows-on (agrees (a .scope-a .now) (a .a .now) (a .scope-b .now)) (length (a .scope-b .now)) (a .index .now) (a .start) (a .end) (a .words .now) (l .words) _ (l .inv .1 .1)
+        narrows-on (agrees (a .scope-a .now) (a .a .now) (a .scope-b .now)) (length (a .scope-b .now)) (a .index .now) (a .s) (a .start) (a .end) (a .words .now) (l .words) _ (l .inv .1 .1)
             (c .narrow-column .ensures .1 (a .scope-b .now) b (ap (λ (x : ℕ). getD (a .scope-b .now) x 0) (sym (c .before .before .before .wide2 .ensures .0)))),
       ),
     )

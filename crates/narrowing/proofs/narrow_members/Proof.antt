@@ -11,7 +11,7 @@ use borrow.Author.Tests.{not-true}
 use Rattle.model.specs.Network.{Network, firstId}
 use Rattle.model.proofs.Bools.{not-both}
 use Rattle.layout.specs.Setting.{networkIn}
-use Rattle.narrowing.specs.Index.{Narrowed, Later}
+use Rattle.narrowing.specs.Narrows.{Narrowed, Later}
 use Rattle.narrowing.proofs.Narrowing.{narrowed-none, narrowed-on, narrowed-one}
 use Rattle.narrowing.proofs.narrow_members.Statement.{statement}
 use Rattle.narrowing.proofs.narrow_members.Tie as tie

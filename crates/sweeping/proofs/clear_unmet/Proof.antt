@@ -14,7 +14,7 @@ use Rattle.layout.specs.Starts.{SoundStarts}
 use Rattle.layout.specs.Setting.{Lists, networkIn}
 use Rattle.layout.proofs.SoundStarts.{tuple-start, tuple-end, ids-few}
 use Rattle.layout.proofs.Rows.{next-ahead}
-use Rattle.narrowing.specs.Index.{Long}
+use Rattle.narrowing.specs.Narrows.{Long}
 use Rattle.sweeping.specs.Sweep.{Revises}
 use Rattle.sweeping.proofs.Unmet.{revises-none, revises-more}
 use Rattle.sweeping.proofs.clear_unmet.Statement.{statement}

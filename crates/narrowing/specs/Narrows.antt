@@ -1,58 +1,19 @@
--- The value index: for each column and bucket of values, the tuples that have such a value in the column; and the live words narrowed
--- by it.
+-- The live words narrowed by the value index, to the tuples that may agree with one.
 use mathlib.Core.Path.{_≡_}
 use mathlib.Core.Bool.{Bool, true, false, _&&_, _||_}
 use mathlib.Core.List.{List}
 use mathlib.Core.Logic.{_⊎_}
-use Prim.Native.Nat.{ℕ, _+_, _-_, _*_, _%_, _≤_, _<_}
-use lib.Dec.{ltb, leb}
+use Prim.Native.Nat.{ℕ, _+_, _*_, _≤_, _<_}
+use lib.Dec.{ltb, leb, eqb}
 use lib.ListN.{length, getD}
 use Rattle.model.specs.Limits.{maxRelations, maxTuples, wordBits}
-use Rattle.model.specs.Network.{Network, width, size, firstId, valuesAt}
+use Rattle.model.specs.Network.{Network, size, firstId}
 use Rattle.model.specs.Agreement.{agree}
 use Rattle.model.specs.LiveWords.{isLive}
 use Rattle.model.specs.Edges.{maxWords}
 use Rattle.layout.specs.Setting.{Lists, networkIn, SoundLists}
-
--- how many buckets of values there are: a prime, so that codes that are multiples of ten or of a power of two spread over all
-abbrev pub buckets : ℕ
-buckets = 17
-
--- the words of the index: 64 for each of 8 columns and each bucket; and its bits
-abbrev pub indexWords : ℕ
-indexWords = 8704
-
-abbrev pub indexBits : ℕ
-indexBits = 557056
-
--- the bucket of a value
-abbrev pub bucketOf : ℕ → ℕ
-bucketOf v = v % buckets
-
--- where the entry of column c, bucket b and id g stands among the bits of the index
-abbrev pub entryPlace : ℕ → ℕ → ℕ → ℕ
-entryPlace c b g = (c * buckets + b) * maxTuples + g
-
--- the tuple with id g is indexed under column c and bucket b
-unfoldable pub isIndexed : List ℕ → ℕ → ℕ → ℕ → Bool
-isIndexed index c b g = isLive index (entryPlace c b g)
-
--- Every tuple is indexed under each of its columns and the bucket of its value there.
-pub record Indexed (N : Network) (index : List ℕ) : Type 0 where
-  pub at : (r x c : ℕ) → x < size N r → c < width N r → isIndexed index c (bucketOf (getD (valuesAt N r x) c 0)) (firstId N r + x) ≡ true
-
--- no entry is lost
-abbrev pub Grows : List ℕ → List ℕ → Type 0
-Grows before after = (p : ℕ) → isLive before p ≡ true → isLive after p ≡ true
-
--- the tuple with id g, whose values begin at `at`, is indexed under each of its columns
-abbrev pub IndexesTuple : List ℕ → ℕ → ℕ → ℕ → List ℕ → Type 0
-IndexesTuple values at columns g index = (c : ℕ) → c < columns → isIndexed index c (bucketOf (getD values (at + c) 0)) g ≡ true
-
--- .. and so are the tuples from id start on and below id end, which stand one after the other
-abbrev pub IndexesTuples : List ℕ → ℕ → ℕ → ℕ → ℕ → List ℕ → Type 0
-IndexesTuples values at columns start end index =
-    (g : ℕ) → start ≤ g → g < end → IndexesTuple values (at + (g - start) * columns) columns g index
+use Rattle.value_index.specs.Plan.{columnStart, rowWords, SoundPlan}
+use Rattle.value_index.specs.Index.{isIndexed, Indexed}
 
 -- ---- Narrowing
 
@@ -68,15 +29,15 @@ KeptIds passes start end before after = (g : ℕ) → isLive after g ≡ (isLive
 abbrev pub Kept : (ℕ → Bool) → ℕ → ℕ → List ℕ → List ℕ → Type 0
 Kept passes i n before after = KeptIds passes (wordBits * i) (wordBits * n) before after
 
--- bit g of the 64 words of the index that begin at word `first`: those of one column and bucket
-abbrev pub rowBit : List ℕ → ℕ → ℕ → Bool
-rowBit index first g = isLive index (wordBits * first + g)
+-- a tuple g of relation s may have value v in column c: it is indexed so, or the column has no rows
+unfoldable pub mayHave : List ℕ → ℕ → ℕ → ℕ → ℕ → Bool
+mayHave index s c v g = eqb (columnStart index s c) 0 || isIndexed index (columnStart index s c) v g
 
--- No id is raised, the ids outside stay, and so does an id that is indexed under each of its columns by accepted values.
-pub record Narrows (accepts : List ℕ → Bool) (columns : ℕ) (index : List ℕ) (start end : ℕ) (before after : List ℕ) : Type 0 where
+-- No id is raised, the ids outside stay, and so does one that may have accepted values in the columns of relation s.
+pub record Narrows (accepts : List ℕ → Bool) (columns : ℕ) (index : List ℕ) (s start end : ℕ) (before after : List ℕ) : Type 0 where
   pub inside : (g : ℕ) → isLive after g ≡ true → isLive before g ≡ true
   pub outside : (g : ℕ) → (g < start) ⊎ (end ≤ g) → isLive after g ≡ isLive before g
-  pub keeps : (g : ℕ) (b : List ℕ) → columns ≡ length b → ((c : ℕ) → c < columns → isIndexed index c (bucketOf (getD b c 0)) g ≡ true) → accepts b ≡ true → isLive before g ≡ true → isLive after g ≡ true
+  pub keeps : (g : ℕ) (b : List ℕ) → columns ≡ length b → ((c : ℕ) → c < columns → mayHave index s c (getD b c 0) g ≡ true) → accepts b ≡ true → isLive before g ≡ true → isLive after g ≡ true
 
 -- No id is raised, the ids outside relation s stay, and so does a tuple of it that agrees with tuple x of relation r.
 pub record Agreeing (N : Network) (r x s : ℕ) (before after : List ℕ) : Type 0 where
@@ -119,9 +80,15 @@ pub record Bare (N : Network) (members : List ℕ) (place k : ℕ) (words : List
 abbrev pub Long : List ℕ → Type 0
 Long words = length words ≡ maxWords
 
--- an array of the index's words
-abbrev pub Full : List ℕ → Type 0
-Full index = length index ≡ indexWords
+-- the ids below end have their bits in the rows of the index
+abbrev pub HasBits : List ℕ → ℕ → Type 0
+HasBits index end = (end ≤ wordBits * rowWords index) × (end ≤ maxTuples)
+
+-- The ids below end, of relation s, have their bits in the rows of the index.
+pub record Rowed (index : List ℕ) (s end : ℕ) : Type 0 where
+  pub plan : SoundPlan index
+  pub relation : s < maxRelations
+  pub within : HasBits index end
 
 -- Tuple x of relation r, which the words are narrowed for, in sound lists with their index.
 pub record Seeks (L : Lists) (index : List ℕ) (r x : ℕ) : Type 0 where

@@ -1,0 +1,108 @@
+-- Laws of the rows of a value: a digit has one of its rows, and every row lies behind the plan and within the index.
+-- From the laws of pieces end to end, and of quotients and remainders.
+use mathlib.Core.Path.{_≡_, refl, sym, _∙_, ap, ap₂, subst}
+use mathlib.Core.List.{List}
+use mathlib.Core.Logic.{_⊎_, inl, inr}
+use Prim.Native.Nat.{ℕ, zero, suc, _+_, _*_, _/_, _%_, _≤_, _<_}
+use native.Mathlib.Nat.{mul-le-mul, mul-le-mul-right}
+use native.Mathlib.Omega.{arith}
+use lib.ListN.{length, getD}
+use Rattle.value_index.specs.Plan.{planWords, indexWords, columnStart, rowWords, digitCount, digitRows, factor, columnWords, hashAt, rowAt, ColumnRows, SoundPlan, SamePlan}
+use Rattle.value_index.proofs.Products.{piece-within}
+
+module _ (index : List ℕ) (v : ℕ) where
+  pub hash-below : (i : ℕ) → hashAt index v i < 65536
+  unfolding hashAt
+  hash-below zero = omega arith
+  hash-below (suc i) = omega arith
+
+  pub hash-first : hashAt index v 0 ≡ v * factor index % 65536
+  unfolding hashAt
+  hash-first = refl
+
+  pub hash-next : (i : ℕ) → hashAt index v (i + 1) ≡ hashAt index v i * digitRows index % 65536
+  unfolding hashAt
+  hash-next i = let e : i + 1 ≡ suc i = omega arith in ap (hashAt index v) e
+
+module _ {index : List ℕ} (sound : SoundPlan index) (v : ℕ) where
+  pub digit-below : (i : ℕ) → hashAt index v i * digitRows index / 65536 < digitRows index
+  digit-below i =
+      let h : hashAt index v i ≤ 65535 = omega (arith, hash-below index v i) in
+      let p = mul-le-mul-right (digitRows index) h in
+      omega (arith, p, sound .some)
+
+  -- the rows before it, of this digit and those before it
+  pub row-before : (i : ℕ) → i < digitCount index → i * digitRows index + hashAt index v i * digitRows index / 65536 < digitCount index * digitRows index
+  row-before i h = omega (arith, digit-below i, piece-within i (digitCount index) (digitRows index) h)
+
+  module _ {start : ℕ} (rows : ColumnRows index start) (i : ℕ) (h : i < digitCount index) where
+    pub row-within : rowAt index start v i + rowWords index ≤ indexWords
+    unfolding rowAt
+    row-within =
+        let p = piece-within (i * digitRows index + hashAt index v i * digitRows index / 65536) (digitCount index * digitRows index) (rowWords index) (row-before i h) in
+        omega (arith, p, rows .within)
+
+    pub row-behind : planWords ≤ rowAt index start v i
+    unfolding rowAt
+    row-behind = omega (arith, rows .behind)
+
+    -- .. as it is computed from what is left of the hash
+    module _ (hash : ℕ) (e : hash ≡ hashAt index v i) where
+      pub row-is : start + (i * digitRows index + hash * digitRows index / 65536) * rowWords index ≡ rowAt index start v i
+      unfolding rowAt
+      row-is = rw e refl
+
+      pub row-fits : start + (i * digitRows index + hash * digitRows index / 65536) * rowWords index ≤ indexWords
+      row-fits = omega (arith, row-is, row-within)
+
+      pub rows-fit : i * digitRows index + hash * digitRows index / 65536 < 34817
+      rows-fit = rw e (let p = mul-le-mul (sound .few) (sound .short) in omega (arith, p, row-before i h))
+
+      pub hash-fits : hash * digitRows index ≤ 570425344
+      hash-fits =
+          let k : hash ≤ 65536 = omega (arith, e, hash-below index v i) in
+          mul-le-mul k (sound .short)
+
+-- a column that has rows
+pub rows-begin : {index : List ℕ} → SoundPlan index → (r c n : ℕ) → r < 64 → c < 8 → n ≡ columnStart index r c → (n ≡ 0 → ⊥) → ColumnRows index n
+rows-begin {index} sound r c n h k e d = go (sound .columns r c h k)
+  where
+    go : (columnStart index r c ≡ 0) ⊎ ColumnRows index (columnStart index r c) → ColumnRows index n
+    go (inl z) = absurd (d (e ∙ z))
+    go (inr f) = subst (ColumnRows index) (sym e) f
+
+-- ---- The same plan
+
+module _ (before after : List ℕ) (same : SamePlan before after) where
+  pub digits-same : digitCount after ≡ digitCount before
+  digits-same = same 513 (omega arith)
+
+  hash-same : (v i : ℕ) → hashAt after v i ≡ hashAt before v i
+  unfolding hashAt
+  hash-same v zero = ap (λ (f : ℕ). v * f % 65536) (same 515 (omega arith))
+  hash-same v (suc i) = ap₂ (λ (h r : ℕ). h * r % 65536) (hash-same v i) (same 514 (omega arith))
+
+  pub row-same : (start v i : ℕ) → rowAt after start v i ≡ rowAt before start v i
+  unfolding rowAt
+  row-same start v i = rw (hash-same v i, same 514 (omega arith), same 512 (omega arith)) refl
+
+  pub columns-same : (r c : ℕ) → r < 64 → c < 8 → columnStart after r c ≡ columnStart before r c
+  columns-same r c h k = same (r * 8 + c) (omega arith)
+
+  words-same : columnWords after ≡ columnWords before
+  words-same = rw (same 513 (omega arith), same 514 (omega arith), same 512 (omega arith)) refl
+
+  rows-same : (n k : ℕ) → n ≡ k → (k ≡ 0) ⊎ ColumnRows before k → (n ≡ 0) ⊎ ColumnRows after n
+  rows-same n k e (inl z) = inl (e ∙ z)
+  rows-same n k e (inr c) = inr (record { behind = omega (arith, e, c .behind); within = omega (arith, e, c .within, words-same) })
+
+  pub sound-same : SoundPlan before → SoundPlan after
+  sound-same s =
+      record {
+        few = let e = same 513 (omega arith) in omega (arith, e, s .few);
+        some = let e = same 514 (omega arith) in omega (arith, e, s .some);
+        short = let e = same 514 (omega arith) in omega (arith, e, s .short);
+        narrow = let e = same 512 (omega arith) in omega (arith, e, s .narrow);
+        small = let e = same 515 (omega arith) in omega (arith, e, s .small);
+        columns = λ r c h k. rows-same (columnStart after r c) (columnStart before r c) (columns-same r c h k) (s .columns r c h k);
+      }

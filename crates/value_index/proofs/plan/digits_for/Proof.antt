@@ -1,0 +1,78 @@
+-- `digits_for` divides the rows among the digits. The loop's invariant: there are one to four, and the classes are not too many.
+-- From the laws of quotients.
+use Prim.Native.Nat.{_+_, _-_, _/_, _≤_, _<_}
+use native.Mathlib.Omega.{arith}
+use native.Mathlib.Nat.{div-le-self}
+use Rattle.value_index.proofs.Products.{quotient-some}
+use borrow.Author.Needs.{needs}
+use Rattle.value_index.proofs.plan.digits_for.Statement.{statement}
+use Rattle.value_index.proofs.plan.digits_for.Tie as tie
+
+abbrev Inv-loop : tie.InvT-loop
+Inv-loop rows bound factor classes count₀ count =
+    (0 < count) × ((count ≤ 5) × ((factor ≤ 65536) × (classes ≤ 65536)))
+
+abbrev μ-loop : tie.MeasureT-loop
+μ-loop rows bound factor classes count₀ count = 5 - count
+
+-- the factor, and how many classes of hashes it leaves
+module _ (s : tie.Start Inv-loop μ-loop) where
+  factor-some : 0 < 65536 / s .args .bound
+  factor-some = quotient-some 65536 (s .args .bound) (s .pre .2) (s .pre .3)
+
+  factor-small : 65536 / s .args .bound ≤ 65536
+  factor-small = div-le-self 65536 (s .args .bound)
+
+  classes-few : 65535 / (65536 / s .args .bound) + 1 ≤ 65536
+  classes-few = let d = div-le-self 65535 (65536 / s .args .bound) in omega (arith, d)
+
+div-classes : tie.Need-div-classes Inv-loop μ-loop
+div-classes c = factor-some c
+
+add-classes : tie.Need-add-classes Inv-loop μ-loop
+add-classes c = let k = classes-few c in omega (arith, k)
+
+loop-holds : tie.Need-loop-holds Inv-loop μ-loop
+loop-holds c = (omega arith, (omega arith, (factor-small c, classes-few c)))
+
+div-each : tie.Need-div-each Inv-loop μ-loop
+div-each c = c .before .loop .inv .0
+
+tells-requires : tie.Need-tells-requires Inv-loop μ-loop
+tells-requires c κs = let d = div-le-self (c .before .before .args .rows) (c .before .loop .count) in (omega (arith, d, c .before .before .pre .1), classes-few (c .before .before))
+
+returns : tie.Need-returns Inv-loop μ-loop
+returns c =
+    let l = c .before .before .before .loop in
+    let s = c .before .before .before .before in
+    let d = div-le-self (s .args .rows) (l .count) in
+    let k : l .count ≤ 4 = omega (arith, c .before .before .loop-test .taken) in
+    record {
+      few = k;
+      some = quotient-some (s .args .rows) (l .count) (l .inv .0) (omega (arith, k, s .pre .0));
+      short = omega (arith, d, s .pre .1);
+      small = factor-small s;
+    }
+
+returns-2 : tie.Need-returns-2 Inv-loop μ-loop
+returns-2 c =
+    let s = c .before .before in
+    let rows : 4 ≤ s .args .rows = s .pre .0 in
+    let most : s .args .rows ≤ 1024 = s .pre .1 in
+    record { few = omega arith; some = omega arith; short = omega arith; small = omega arith }
+
+pub digits-for-spec : {M : Type 1} → statement M
+digits-for-spec =
+    tie.close
+    (tie.spec
+    Inv-loop
+    μ-loop
+    (λ c. search needs) (λ c. search needs)
+    div-classes
+    add-classes
+    loop-holds
+    div-each
+    tells-requires
+    returns
+    (λ c. search needs) (λ c. search needs) (λ c. search needs) (λ c. search needs)
+    returns-2)

@@ -1,0 +1,81 @@
+-- How the value index tells values apart. Its first words say where each column's rows begin, how many words a row has, and which rows are
+-- a value's: one for each digit of its hash. Only this file knows where in the index these words stand.
+use mathlib.Core.Path.{_≡_}
+use mathlib.Core.Logic.{_⊎_}
+use mathlib.Core.List.{List}
+use Prim.Native.Nat.{ℕ, zero, suc, _+_, _*_, _/_, _%_, _≤_, _<_}
+use lib.ListN.{length, getD}
+use Rattle.model.specs.Limits.{maxRelations, maxWidth}
+
+-- the words of all rows
+abbrev pub rowsWords : ℕ
+rowsWords = 8704
+
+-- the words of the plan, and of plan and rows
+abbrev pub planWords : ℕ
+planWords = 516
+
+abbrev pub indexWords : ℕ
+indexWords = 9220
+
+-- the most digits of a value
+abbrev pub maxDigits : ℕ
+maxDigits = 4
+
+-- the most rows of a column
+abbrev pub mostRows : ℕ
+mostRows = 1024
+
+-- hashes lie below
+abbrev pub hashes : ℕ
+hashes = 65536
+
+-- where the rows of column c of relation r begin; 0 where it has none
+abbrev pub columnStart : List ℕ → ℕ → ℕ → ℕ
+columnStart index r c = getD index (r * maxWidth + c) 0
+
+-- how many words a row has
+abbrev pub rowWords : List ℕ → ℕ
+rowWords index = getD index 512 0
+
+-- how many digits a value has, and how many rows there are for a digit
+abbrev pub digitCount : List ℕ → ℕ
+digitCount index = getD index 513 0
+
+abbrev pub digitRows : List ℕ → ℕ
+digitRows index = getD index 514 0
+
+-- what a value is multiplied by
+abbrev pub factor : List ℕ → ℕ
+factor index = getD index 515 0
+
+-- the words of one column's rows
+abbrev pub columnWords : List ℕ → ℕ
+columnWords index = digitCount index * digitRows index * rowWords index
+
+-- what is left of a value's hash at digit i
+unfoldable pub hashAt : List ℕ → ℕ → ℕ → ℕ
+hashAt index v zero = v * factor index % hashes
+hashAt index v (suc i) = hashAt index v i * digitRows index % hashes
+
+-- the word at which the row of digit i begins, among the rows that begin at `start`
+unfoldable pub rowAt : List ℕ → ℕ → ℕ → ℕ → ℕ
+rowAt index start v i = start + (i * digitRows index + hashAt index v i * digitRows index / hashes) * rowWords index
+
+-- A column's rows begin here, behind the plan, and end within the index.
+pub record ColumnRows (index : List ℕ) (start : ℕ) : Type 0 where
+  pub behind : planWords ≤ start
+  pub within : start + columnWords index ≤ indexWords
+
+-- A plan whose rows lie behind it, within the index.
+pub record SoundPlan (index : List ℕ) : Type 0 where
+  pub few : digitCount index ≤ maxDigits
+  pub some : 0 < digitRows index
+  pub short : digitRows index ≤ rowsWords
+  pub narrow : rowWords index ≤ rowsWords
+  pub small : factor index ≤ hashes
+  pub columns : (r c : ℕ) → r < maxRelations → c < maxWidth → (columnStart index r c ≡ 0) ⊎ ColumnRows index (columnStart index r c)
+
+-- the plan is the same
+abbrev pub SamePlan : List ℕ → List ℕ → Type 0
+SamePlan before after = (k : ℕ) → k < planWords → getD after k 0 ≡ getD before k 0

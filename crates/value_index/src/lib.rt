@@ -1,0 +1,175 @@
+// The value index: rows of bits by tuple, for each column whose variable another relation has too. A value has a few digits, each of which
+// names a row; a tuple is in the rows of its values. So the tuples that have a value in a column are in all of its rows, and where the
+// digits tell all values apart, no other tuple is.
+ghost use mathlib.Core.Path.{_≡_};
+ghost use mathlib.Core.Bool.{true};
+ghost use Prim.Native.Nat.{ℕ, _+_, _-_, _*_, _≤_, _<_};
+ghost use lib.ListN.{length};
+ghost use Rattle.model.specs.Limits.{maxRelations, maxWidth, wordBits};
+ghost use Rattle.layout.specs.Loan.{entry, exit};
+ghost use Rattle.layout.specs.Setting.{lists, networkIn, SoundLists};
+ghost use Rattle.value_index.specs.Plan.{planWords, indexWords, columnStart, ColumnRows, SoundPlan, SamePlan};
+ghost use Rattle.value_index.specs.Index.{Full, RowsOf, Laid, Raises, Grows, isIndexed, IndexedAt, Indexed, IndexesTuple, IndexesTuples};
+use layout::Starts;
+use layout::relation_count;
+use layout::tuple_start;
+use layout::value_start;
+use layout::variable_start;
+use layout::wide;
+use model::MAX_WIDTH;
+use model::Value;
+use plan::lay_out;
+
+pub mod plan; // how values are told apart
+
+// The plan's words: where each column's rows begin, how many words a row has, how many digits a value has, how many rows a digit has,
+// and what a value is multiplied by.
+pub const ROW_WORDS: usize = 512;
+
+pub const DIGITS: usize = 513;
+
+pub const DIGIT_ROWS: usize = 514;
+
+pub const FACTOR: usize = 515;
+
+pub const PLAN: usize = 516;
+
+// The words of all rows.
+pub const ROWS: usize = 8704;
+
+pub const INDEX: usize = PLAN + ROWS;
+
+pub type Index = [u64; INDEX];
+
+pub const MAX_DIGITS: usize = 4;
+
+// Hashes lie below.
+pub const HASHES: u64 = 65536;
+
+// The words at which the rows of a value begin, one for each of its digits.
+pub struct Rows {
+    pub count: usize,
+    pub at: [usize; MAX_DIGITS],
+}
+
+// Where the rows of column c of relation r begin; 0 if it has none.
+pub fn column_start(index: &Index, r: u16, c: u16) -> usize
+    requires { ⌜ (r < maxRelations) × (c < maxWidth) ⌝ }
+    ensures { λ n. ⌜ n ≡ columnStart (entry index) r c ⌝ }
+{
+    index[wide(r) * MAX_WIDTH + wide(c)] as usize
+}
+
+// The rows of a value, among those that begin at `start`.
+pub fn rows_of(index: &Index, start: usize, value: Value) -> Rows
+    requires { ⌜ SoundPlan (now index) × ColumnRows (now index) start ⌝ }
+    ensures { λ r. ⌜ RowsOf (entry index) start value r ⌝ }
+{
+    let words = index[ROW_WORDS];
+    let digits = index[DIGITS];
+    let rows = index[DIGIT_ROWS];
+    let mut at = [0usize; MAX_DIGITS];
+    let mut hash = value as u64 * index[FACTOR] % HASHES;
+    let mut i: u64 = 0;
+    while i < digits {
+        let scaled = hash * rows;
+        at[i as usize] = start + ((i * rows + scaled / HASHES) * words) as usize;
+        hash = scaled % HASHES;
+        i += 1;
+    }
+    Rows {
+        count: digits as usize,
+        at,
+    }
+}
+
+// The bit at place p of the index is 1, and every other bit stays.
+fn enter(index: &mut Index, p: usize)
+    requires { ⌜ Full (now index) × ((wordBits * planWords ≤ p) × (p < wordBits * indexWords)) ⌝ }
+    ensures { λ _. ⌜ Full (exit index) × (SamePlan (entry index) (exit index) × Raises (entry index) (exit index) p) ⌝ }
+{
+    index[p / 64] = index[p / 64] | (1u64 << (p % 64));
+}
+
+// The tuple with id g is in every row of the value, among the rows that begin at `start`; no bit is lost.
+fn enter_value(index: &mut Index, start: usize, value: Value, g: u16)
+    requires { ⌜ Laid (now index) (g + 1) × ColumnRows (now index) start ⌝ }
+    ensures { λ _. ⌜ Full (exit index) × (Grows (entry index) (exit index) × (isIndexed (exit index) start value g ≡ true)) ⌝ }
+{
+    let rows = rows_of(index, start, value);
+    let at = rows.at;
+    let mut i = 0;
+    while i < rows.count {
+        enter(index, at[i] * 64 + wide(g));
+        i += 1;
+    }
+}
+
+// The tuple with id g of relation r is indexed by its value in column c, if the column has rows; no bit is lost.
+fn enter_column(index: &mut Index, r: u16, c: u16, value: Value, g: u16)
+    requires { ⌜ Laid (now index) (g + 1) × ((r < maxRelations) × (c < maxWidth)) ⌝ }
+    ensures { λ _. ⌜ Full (exit index) × (Grows (entry index) (exit index) × IndexedAt (exit index) r c value g) ⌝ }
+{
+    let start = column_start(index, r, c);
+    if start != 0 {
+        enter_value(index, start, value, g);
+    }
+}
+
+// The tuple with id g of relation r, whose values begin at `at`, is indexed by each of them; no bit is lost.
+fn index_tuple(values: &[Value], at: usize, r: u16, width: u16, g: u16, index: &mut Index)
+    requires { ⌜ Laid (now index) (g + 1) × ((r < maxRelations) × ((width ≤ maxWidth) × (at + width ≤ length (now values)))) ⌝ }
+    ensures { λ _. ⌜ Full (exit index) × (Grows (entry index) (exit index) × IndexesTuple (entry values) at r width g (exit index)) ⌝ }
+{
+    let mut c: u16 = 0;
+    while c < width {
+        enter_column(index, r, c, values[at + wide(c)], g);
+        c += 1;
+    }
+}
+
+// The tuples of relation r from id start on and below id end, whose values begin at `at`, are indexed; no bit is lost.
+fn index_tuples(
+    values: &[Value],
+    at: usize,
+    r: u16,
+    width: u16,
+    start: u16,
+    end: u16,
+    index: &mut Index,
+)
+    requires { ⌜ Laid (now index) end × ((r < maxRelations) × (width ≤ maxWidth)) ⌝ }
+    requires { ⌜ (start ≤ end) × (at + (end - start) * width ≤ length (now values)) ⌝ }
+    ensures { λ _. ⌜ Full (exit index) × (Grows (entry index) (exit index) × IndexesTuples (entry values) at r width start end (exit index)) ⌝ }
+{
+    let mut g = start;
+    let mut p = at;
+    while g < end {
+        index_tuple(values, p, r, width, g, index);
+        g += 1;
+        p += wide(width);
+    }
+}
+
+// Every tuple is indexed. A caller lends noughts: a bit that is there already stays.
+pub fn index_all(variables: &[u16], values: &[Value], starts: &Starts, index: &mut Index)
+    requires { ⌜ Full (now index) × SoundLists (lists now variables values starts) ⌝ }
+    ensures { λ _. ⌜ Full (exit index) × Indexed (networkIn (lists entry variables values starts)) (exit index) ⌝ }
+{
+    lay_out(variables, values, starts, index);
+    let relations = relation_count(starts);
+    let mut r: u16 = 0;
+    while r < relations {
+        let width = (variable_start(starts, r + 1) - variable_start(starts, r)) as u16;
+        index_tuples(
+            values,
+            value_start(starts, r),
+            r,
+            width,
+            tuple_start(starts, r),
+            tuple_start(starts, r + 1),
+            index,
+        );
+        r += 1;
+    }
+}

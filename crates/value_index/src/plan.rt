@@ -1,0 +1,260 @@
+// How values are told apart: which columns have rows, how many, and by which digits. Whatever these functions choose, a tuple is in all rows
+// of its values; the better they choose, the fewer others are.
+ghost use Prim.Native.Nat.{ℕ, _*_, _≤_, _<_};
+ghost use lib.ListN.{length};
+ghost use Rattle.model.specs.Limits.{maxRelations, maxWidth, maxTuples, wordBits};
+ghost use Rattle.model.specs.Network.{total};
+ghost use Rattle.layout.specs.Loan.{entry, exit};
+ghost use Rattle.layout.specs.Starts.{tupleStart};
+ghost use Rattle.layout.specs.Setting.{lists, networkIn, SoundLists};
+ghost use Rattle.value_index.specs.Plan.{indexWords, maxDigits, hashes, mostRows, planWords};
+ghost use Rattle.value_index.specs.Index.{Full, Laid};
+ghost use Rattle.value_index.specs.Planning.{ScopesWithin, Digital, Begins, LaysRelation, LaysRelations};
+use super::DIGIT_ROWS;
+use super::DIGITS;
+use super::FACTOR;
+use super::HASHES;
+use super::INDEX;
+use super::Index;
+use super::MAX_DIGITS;
+use super::PLAN;
+use super::ROW_WORDS;
+use super::ROWS;
+use layout::Starts;
+use layout::relation_count;
+use layout::tuple_count;
+use layout::variable_start;
+use layout::wide;
+use live::words_for;
+use model::MAX_RELATIONS;
+use model::MAX_WIDTH;
+use model::Value;
+
+// No column has more rows than this; more would tell no more values apart.
+const MOST_ROWS: u64 = 1024;
+
+// A factor that spreads values whose digits cannot all be told apart.
+const SPREAD: u64 = 40503;
+
+// How many digits a value has, how many rows each, and what a value is multiplied by.
+struct Digits {
+    count: u64,
+    rows: u64,
+    factor: u64,
+}
+
+// The variables that stand more than once in the list, a bit for each: those that two relations have.
+fn shared_variables(variables: &[u16]) -> u64 {
+    let mut once: u64 = 0;
+    let mut shared: u64 = 0;
+    let mut i = 0;
+    while i < variables.len() {
+        let bit = 1u64 << (variables[i] % 64);
+        shared = shared | (once & bit);
+        once = once | bit;
+        i += 1;
+    }
+    shared
+}
+
+// 1 if the variable is one of these, and otherwise 0.
+fn is_shared(shared: u64, variable: u16) -> u64
+    ensures { λ n. ⌜ n ≤ 1 ⌝ }
+{
+    (shared >> (variable % 64)) % 2
+}
+
+// The larger of two numbers.
+fn larger(a: u64, b: u64) -> u64
+    ensures { λ n. ⌜ (a ≤ n) × ((m : ℕ) → a ≤ m → b ≤ m → n ≤ m) ⌝ }
+{
+    if a < b {
+        return b;
+    }
+    a
+}
+
+// How many variables of the scope are shared.
+fn shared_columns(scope: &[u16], shared: u64) -> u64
+    ensures { λ n. ⌜ n ≤ length (entry scope) ⌝ }
+{
+    let mut n = 0;
+    let mut c = 0;
+    while c < scope.len() {
+        n += is_shared(shared, scope[c]);
+        c += 1;
+    }
+    n
+}
+
+// The most shared variables of any relation, and at least 1.
+fn most_columns(variables: &[u16], starts: &Starts, shared: u64) -> u64
+    requires { ⌜ ScopesWithin (now starts) (now variables) ⌝ }
+    ensures { λ n. ⌜ 0 < n ⌝ }
+{
+    let mut most: u64 = 1;
+    let mut r: u16 = 0;
+    while wide(r) < MAX_RELATIONS {
+        let scope = variable_start(starts, r);
+        let scope_end = variable_start(starts, r + 1);
+        most = larger(most, shared_columns(&variables[scope..scope_end], shared));
+        r += 1;
+    }
+    most
+}
+
+// One more than the largest value, and at least 1.
+fn value_bound(values: &[Value]) -> u64
+    ensures { λ n. ⌜ (0 < n) × (n ≤ hashes) ⌝ }
+{
+    let mut most: u64 = 0;
+    let mut i = 0;
+    while i < values.len() {
+        most = larger(most, wide(values[i]) as u64);
+        i += 1;
+    }
+    most + 1
+}
+
+// Whether so many digits, of so many rows each, make at least `classes` classes of hashes.
+fn tells(rows: u64, digits: u64, classes: u64) -> bool
+    requires { ⌜ (rows ≤ mostRows) × (classes ≤ hashes) ⌝ }
+{
+    let mut reached: u64 = 1;
+    let mut i = 0;
+    while i < digits {
+        reached = reached * rows;
+        if classes <= reached {
+            return true;
+        }
+        i += 1;
+    }
+    false
+}
+
+// As few digits as tell all values below the bound apart, with so many rows; where four do not, those of a product that spreads the values.
+fn digits_for(rows: u64, bound: u64) -> Digits
+    requires { ⌜ (maxDigits ≤ rows) × (rows ≤ mostRows) × (0 < bound) × (bound ≤ hashes) ⌝ }
+    ensures { λ d. ⌜ Digital d ⌝ }
+{
+    let factor = HASHES / bound;
+    let classes = (HASHES - 1) / factor + 1;
+    let mut count: u64 = 1;
+    while count <= MAX_DIGITS as u64 {
+        let each = rows / count;
+        if tells(each, count, classes) {
+            return Digits {
+                count,
+                rows: each,
+                factor,
+            };
+        }
+        count += 1;
+    }
+    Digits {
+        count: MAX_DIGITS as u64,
+        rows: rows / MAX_DIGITS as u64,
+        factor: SPREAD,
+    }
+}
+
+// How many rows each of so many columns may have, of so many words each.
+fn rows_for(columns: u64, words: u64) -> u64
+    requires { ⌜ (0 < columns) × (0 < words) ⌝ }
+    ensures { λ n. ⌜ (maxDigits ≤ n) × (n ≤ mostRows) ⌝ }
+{
+    let rows = ROWS as u64 / columns / words;
+    if rows < MAX_DIGITS as u64 {
+        return MAX_DIGITS as u64;
+    }
+    if MOST_ROWS < rows {
+        return MOST_ROWS;
+    }
+    rows
+}
+
+// Where the rows of column c of a scope begin: at `start` if its variable is shared and so many words have room there, and otherwise
+// nowhere, which is 0.
+fn column_at(scope: &[u16], c: usize, shared: u64, start: usize, size: usize) -> usize
+    requires { ⌜ (planWords ≤ start) × (start ≤ indexWords) ⌝ }
+    ensures { λ n. ⌜ Begins start size n ⌝ }
+{
+    if c < scope.len() {
+        if size <= INDEX - start {
+            if is_shared(shared, scope[c]) == 1 {
+                return start;
+            }
+        }
+    }
+    0
+}
+
+// Where the next column's rows may begin.
+fn behind(start: usize, size: usize, begin: usize) -> usize
+    requires { ⌜ (planWords ≤ start) × (start ≤ indexWords) × Begins start size begin ⌝ }
+    ensures { λ n. ⌜ (planWords ≤ n) × (n ≤ indexWords) ⌝ }
+{
+    if begin == 0 {
+        return start;
+    }
+    start + size
+}
+
+// Says in the index where the rows of relation r's columns begin, one column's behind the other's, of so many words each.
+fn lay_relation(scope: &[u16], shared: u64, r: u16, size: usize, index: &mut Index)
+    requires { ⌜ Full (now index) × (r < maxRelations) ⌝ }
+    ensures { λ _. ⌜ Full (exit index) × LaysRelation size r maxWidth (entry index) (exit index) ⌝ }
+{
+    let own = wide(r) * MAX_WIDTH;
+    let mut start = PLAN;
+    let mut c = 0;
+    while c < MAX_WIDTH {
+        let begin = column_at(scope, c, shared, start, size);
+        index[own + c] = begin as u64;
+        start = behind(start, size, begin);
+        c += 1;
+    }
+}
+
+// The same of all relations.
+fn lay_relations(variables: &[u16], starts: &Starts, shared: u64, size: usize, index: &mut Index)
+    requires { ⌜ Full (now index) × ScopesWithin (now starts) (now variables) ⌝ }
+    ensures { λ _. ⌜ Full (exit index) × LaysRelations size maxRelations (entry index) (exit index) ⌝ }
+{
+    let mut r: u16 = 0;
+    while wide(r) < MAX_RELATIONS {
+        let scope = variable_start(starts, r);
+        let scope_end = variable_start(starts, r + 1);
+        lay_relation(&variables[scope..scope_end], shared, r, size, index);
+        r += 1;
+    }
+}
+
+// How many words a row has: a bit for each tuple, and at least one word.
+fn words_of_row(starts: &Starts) -> usize
+    requires { ⌜ tupleStart (now starts) maxRelations ≤ maxTuples ⌝ }
+    ensures { λ n. ⌜ (0 < n) × (n ≤ 64) × (tupleStart (entry starts) maxRelations ≤ wordBits * n) ⌝ }
+{
+    let words = words_for(tuple_count(starts));
+    if words == 0 {
+        return 1;
+    }
+    words
+}
+
+// The index gets its plan.
+pub fn lay_out(variables: &[u16], values: &[Value], starts: &Starts, index: &mut Index)
+    requires { ⌜ Full (now index) × SoundLists (lists now variables values starts) ⌝ }
+    ensures { λ _. ⌜ Laid (exit index) (total (networkIn (lists entry variables values starts))) ⌝ }
+{
+    let words = words_of_row(starts);
+    let shared = shared_variables(variables);
+    let rows = rows_for(most_columns(variables, starts, shared), words as u64);
+    let digits = digits_for(rows, value_bound(values));
+    index[ROW_WORDS] = words as u64;
+    index[DIGITS] = digits.count;
+    index[DIGIT_ROWS] = digits.rows;
+    index[FACTOR] = digits.factor;
+    let size = (digits.count * digits.rows) as usize * words;
+    lay_relations(variables, starts, shared, size, index);
+}
