@@ -21,7 +21,10 @@ use live::next;
 use model::Value;
 use value_index::Index;
 use value_index::column_start;
-use value_index::rows_of;
+use value_index::digit_count;
+use value_index::hash_behind;
+use value_index::hash_of;
+use value_index::row_of;
 
 // The word whose bit j is 1 where base + j is below the bound.
 fn below(base: usize, bound: usize) -> u64
@@ -85,11 +88,11 @@ fn keep_value(index: &Index, words: &mut Words, rows: usize, value: Value, start
     requires { ⌜ Long (now words) × (SoundPlan (now index) × (ColumnRows (now index) rows × HasBits (now index) end)) ⌝ }
     ensures { λ _. ⌜ Long (exit words) × KeptIds (isIndexed (entry index) rows value) start end (entry words) (exit words) ⌝ }
 {
-    let found = rows_of(index, rows, value);
-    let at = found.at;
-    let mut i = 0;
-    while i < found.count {
-        keep(index, words, at[i], start, end);
+    let mut hash = hash_of(index, value);
+    let mut i: u64 = 0;
+    while i < digit_count(index) {
+        keep(index, words, row_of(index, rows, hash, i), start, end);
+        hash = hash_behind(index, hash);
         i += 1;
     }
 }

@@ -7,7 +7,7 @@ use Prim.Native.Nat.{ℕ, zero, suc, _+_, _*_, _/_, _%_, _≤_, _<_}
 use native.Mathlib.Nat.{mul-le-mul, mul-le-mul-right}
 use native.Mathlib.Omega.{arith}
 use lib.ListN.{length, getD}
-use Rattle.value_index.specs.Plan.{planWords, indexWords, columnStart, rowWords, digitCount, digitRows, factor, columnWords, hashAt, rowAt, ColumnRows, SoundPlan, SamePlan}
+use Rattle.value_index.specs.Plan.{planWords, indexWords, columnStart, rowWords, digitCount, digitRows, factor, columnWords, hashBehind, hashAt, rowOf, rowAt, ColumnRows, SoundPlan, SamePlan}
 use Rattle.value_index.proofs.Products.{piece-within}
 
 module _ (index : List ℕ) (v : ℕ) where
@@ -20,48 +20,44 @@ module _ (index : List ℕ) (v : ℕ) where
   unfolding hashAt
   hash-first = refl
 
-  pub hash-next : (i : ℕ) → hashAt index v (i + 1) ≡ hashAt index v i * digitRows index % 65536
+  pub hash-next : (i : ℕ) → hashAt index v (i + 1) ≡ hashBehind index (hashAt index v i)
   unfolding hashAt
   hash-next i = let e : i + 1 ≡ suc i = omega arith in ap (hashAt index v) e
 
-module _ {index : List ℕ} (sound : SoundPlan index) (v : ℕ) where
-  pub digit-below : (i : ℕ) → hashAt index v i * digitRows index / 65536 < digitRows index
-  digit-below i =
-      let h : hashAt index v i ≤ 65535 = omega (arith, hash-below index v i) in
+-- of any hash
+module _ {index : List ℕ} (sound : SoundPlan index) (hash : ℕ) (below : hash < 65536) where
+  digit-below : hash * digitRows index / 65536 < digitRows index
+  digit-below =
+      let h : hash ≤ 65535 = omega (arith, below) in
       let p = mul-le-mul-right (digitRows index) h in
       omega (arith, p, sound .some)
 
-  -- the rows before it, of this digit and those before it
-  pub row-before : (i : ℕ) → i < digitCount index → i * digitRows index + hashAt index v i * digitRows index / 65536 < digitCount index * digitRows index
-  row-before i h = omega (arith, digit-below i, piece-within i (digitCount index) (digitRows index) h)
+  pub hash-fits : hash * digitRows index ≤ 570425344
+  hash-fits =
+      let h : hash ≤ 65536 = omega (arith, below) in
+      mul-le-mul h (sound .short)
 
-  module _ {start : ℕ} (rows : ColumnRows index start) (i : ℕ) (h : i < digitCount index) where
-    pub row-within : rowAt index start v i + rowWords index ≤ indexWords
-    unfolding rowAt
-    row-within =
-        let p = piece-within (i * digitRows index + hashAt index v i * digitRows index / 65536) (digitCount index * digitRows index) (rowWords index) (row-before i h) in
-        omega (arith, p, rows .within)
+  module _ (i : ℕ) (h : i < digitCount index) where
+    -- the rows before it, of this digit and those before it
+    rows-before : i * digitRows index + hash * digitRows index / 65536 < digitCount index * digitRows index
+    rows-before = omega (arith, digit-below, piece-within i (digitCount index) (digitRows index) h)
 
-    pub row-behind : planWords ≤ rowAt index start v i
-    unfolding rowAt
-    row-behind = omega (arith, rows .behind)
+    pub rows-few : i * digitRows index + hash * digitRows index / 65536 < 34817
+    rows-few = let p = mul-le-mul (sound .few) (sound .short) in omega (arith, p, rows-before)
 
-    -- .. as it is computed from what is left of the hash
-    module _ (hash : ℕ) (e : hash ≡ hashAt index v i) where
-      pub row-is : start + (i * digitRows index + hash * digitRows index / 65536) * rowWords index ≡ rowAt index start v i
-      unfolding rowAt
-      row-is = rw e refl
+    module _ {start : ℕ} (rows : ColumnRows index start) where
+      pub row-within : rowOf index start hash i + rowWords index ≤ indexWords
+      row-within =
+          let p = piece-within (i * digitRows index + hash * digitRows index / 65536) (digitCount index * digitRows index) (rowWords index) rows-before in
+          omega (arith, p, rows .within)
 
-      pub row-fits : start + (i * digitRows index + hash * digitRows index / 65536) * rowWords index ≤ indexWords
-      row-fits = omega (arith, row-is, row-within)
+      pub row-behind : planWords ≤ rowOf index start hash i
+      row-behind = omega (arith, rows .behind)
 
-      pub rows-fit : i * digitRows index + hash * digitRows index / 65536 < 34817
-      rows-fit = rw e (let p = mul-le-mul (sound .few) (sound .short) in omega (arith, p, row-before i h))
-
-      pub hash-fits : hash * digitRows index ≤ 570425344
-      hash-fits =
-          let k : hash ≤ 65536 = omega (arith, e, hash-below index v i) in
-          mul-le-mul k (sound .short)
+-- .. that is left of a value's
+pub row-is : (index : List ℕ) (start v i hash : ℕ) → hash ≡ hashAt index v i → rowOf index start hash i ≡ rowAt index start v i
+unfolding rowAt
+row-is index start v i hash e = ap (λ (h : ℕ). rowOf index start h i) e
 
 -- a column that has rows
 pub rows-begin : {index : List ℕ} → SoundPlan index → (r c n : ℕ) → r < 64 → c < 8 → n ≡ columnStart index r c → (n ≡ 0 → ⊥) → ColumnRows index n
@@ -77,7 +73,7 @@ module _ (before after : List ℕ) (same : SamePlan before after) where
   pub digits-same : digitCount after ≡ digitCount before
   digits-same = same 513 (omega arith)
 
-  hash-same : (v i : ℕ) → hashAt after v i ≡ hashAt before v i
+  pub hash-same : (v i : ℕ) → hashAt after v i ≡ hashAt before v i
   unfolding hashAt
   hash-same v zero = ap (λ (f : ℕ). v * f % 65536) (same 515 (omega arith))
   hash-same v (suc i) = ap₂ (λ (h r : ℕ). h * r % 65536) (hash-same v i) (same 514 (omega arith))
@@ -92,9 +88,12 @@ module _ (before after : List ℕ) (same : SamePlan before after) where
   words-same : columnWords after ≡ columnWords before
   words-same = rw (same 513 (omega arith), same 514 (omega arith), same 512 (omega arith)) refl
 
+  pub column-same : (n : ℕ) → ColumnRows before n → ColumnRows after n
+  column-same n c = record { behind = c .behind; within = omega (arith, c .within, words-same) }
+
   rows-same : (n k : ℕ) → n ≡ k → (k ≡ 0) ⊎ ColumnRows before k → (n ≡ 0) ⊎ ColumnRows after n
   rows-same n k e (inl z) = inl (e ∙ z)
-  rows-same n k e (inr c) = inr (record { behind = omega (arith, e, c .behind); within = omega (arith, e, c .within, words-same) })
+  rows-same n k e (inr c) = inr (column-same n (subst (ColumnRows before) (sym e) c))
 
   pub sound-same : SoundPlan before → SoundPlan after
   sound-same s =

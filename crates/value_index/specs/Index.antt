@@ -10,7 +10,6 @@ use Rattle.model.specs.Lists.{from, all}
 use Rattle.model.specs.Network.{Network, width, size, total, firstId, valuesAt}
 use Rattle.model.specs.LiveWords.{isLive}
 use Rattle.value_index.specs.Plan.{columnStart, rowWords, digitCount, rowAt, indexWords, SoundPlan, SamePlan}
-use Rattle.value_index.specs.declared.Rows.{Rows}
 
 -- bit g of the row that begins at word `first`
 abbrev pub rowBit : List ℕ → ℕ → ℕ → Bool
@@ -53,10 +52,6 @@ IndexesTuples values at r columns start end index =
 -- an array of the index's words
 abbrev pub Full : List ℕ → Type 0
 Full index = length index ≡ indexWords
-
--- the words at which the rows of a value begin
-abbrev pub RowsOf : List ℕ → ℕ → ℕ → Rows → Type 0
-RowsOf index start v rows = (rows .count ≡ digitCount index) × ((i : ℕ) → i < digitCount index → getD (rows .at) i 0 ≡ rowAt index start v i)
 
 -- The index with its plan, before or after some tuples are entered; ids below n have their bit in a row.
 pub record Laid (index : List ℕ) (n : ℕ) : Type 0 where

@@ -53,14 +53,22 @@ factor index = getD index 515 0
 abbrev pub columnWords : List ℕ → ℕ
 columnWords index = digitCount index * digitRows index * rowWords index
 
--- what is left of a value's hash at digit i
+-- what is left of a hash behind a digit that is made of it
+abbrev pub hashBehind : List ℕ → ℕ → ℕ
+hashBehind index hash = hash * digitRows index % hashes
+
+-- .. of a value's hash at digit i
 unfoldable pub hashAt : List ℕ → ℕ → ℕ → ℕ
 hashAt index v zero = v * factor index % hashes
-hashAt index v (suc i) = hashAt index v i * digitRows index % hashes
+hashAt index v (suc i) = hashBehind index (hashAt index v i)
 
--- the word at which the row of digit i begins, among the rows that begin at `start`
+-- the word at which the row of digit i begins, which is made of a hash, among the rows that begin at `start`
+abbrev pub rowOf : List ℕ → ℕ → ℕ → ℕ → ℕ
+rowOf index start hash i = start + (i * digitRows index + hash * digitRows index / hashes) * rowWords index
+
+-- .. of a value
 unfoldable pub rowAt : List ℕ → ℕ → ℕ → ℕ → ℕ
-rowAt index start v i = start + (i * digitRows index + hashAt index v i * digitRows index / hashes) * rowWords index
+rowAt index start v i = rowOf index start (hashAt index v i) i
 
 -- A column's rows begin here, behind the plan, and end within the index.
 pub record ColumnRows (index : List ℕ) (start : ℕ) : Type 0 where

@@ -8,8 +8,8 @@ ghost use lib.ListN.{length};
 ghost use Rattle.model.specs.Limits.{maxRelations, maxWidth, wordBits};
 ghost use Rattle.layout.specs.Loan.{entry, exit};
 ghost use Rattle.layout.specs.Setting.{lists, networkIn, SoundLists};
-ghost use Rattle.value_index.specs.Plan.{planWords, indexWords, columnStart, ColumnRows, SoundPlan, SamePlan};
-ghost use Rattle.value_index.specs.Index.{Full, RowsOf, Laid, Raises, Grows, isIndexed, IndexedAt, Indexed, IndexesTuple, IndexesTuples};
+ghost use Rattle.value_index.specs.Plan.{planWords, indexWords, hashes, columnStart, digitCount, hashAt, hashBehind, rowOf, ColumnRows, SoundPlan, SamePlan};
+ghost use Rattle.value_index.specs.Index.{Full, Laid, Raises, Grows, isIndexed, IndexedAt, Indexed, IndexesTuple, IndexesTuples};
 use layout::Starts;
 use layout::relation_count;
 use layout::tuple_start;
@@ -46,12 +46,6 @@ pub const MAX_DIGITS: usize = 4;
 // Hashes lie below.
 pub const HASHES: u64 = 65536;
 
-// The words at which the rows of a value begin, one for each of its digits.
-pub struct Rows {
-    pub count: usize,
-    pub at: [usize; MAX_DIGITS],
-}
-
 // Where the rows of column c of relation r begin; 0 if it has none.
 pub fn column_start(index: &Index, r: u16, c: u16) -> usize
     requires { ⌜ (r < maxRelations) × (c < maxWidth) ⌝ }
@@ -60,27 +54,36 @@ pub fn column_start(index: &Index, r: u16, c: u16) -> usize
     index[wide(r) * MAX_WIDTH + wide(c)] as usize
 }
 
-// The rows of a value, among those that begin at `start`.
-pub fn rows_of(index: &Index, start: usize, value: Value) -> Rows
-    requires { ⌜ SoundPlan (now index) × ColumnRows (now index) start ⌝ }
-    ensures { λ r. ⌜ RowsOf (entry index) start value r ⌝ }
+// How many digits a value has.
+pub fn digit_count(index: &Index) -> u64
+    ensures { λ n. ⌜ n ≡ digitCount (entry index) ⌝ }
 {
-    let words = index[ROW_WORDS];
-    let digits = index[DIGITS];
+    index[DIGITS]
+}
+
+// The hash of a value, of which its first digit is made.
+pub fn hash_of(index: &Index, value: Value) -> u64
+    requires { ⌜ SoundPlan (now index) ⌝ }
+    ensures { λ h. ⌜ h ≡ hashAt (entry index) value 0 ⌝ }
+{
+    value as u64 * index[FACTOR] % HASHES
+}
+
+// What is left of a hash for the digits behind one that is made of it.
+pub fn hash_behind(index: &Index, hash: u64) -> u64
+    requires { ⌜ SoundPlan (now index) × (hash < hashes) ⌝ }
+    ensures { λ h. ⌜ h ≡ hashBehind (entry index) hash ⌝ }
+{
+    hash * index[DIGIT_ROWS] % HASHES
+}
+
+// The word at which the row of digit i begins, which is made of what is left of a hash, among the rows that begin at `start`.
+pub fn row_of(index: &Index, start: usize, hash: u64, i: u64) -> usize
+    requires { ⌜ SoundPlan (now index) × (ColumnRows (now index) start × ((hash < hashes) × (i < digitCount (now index)))) ⌝ }
+    ensures { λ n. ⌜ n ≡ rowOf (entry index) start hash i ⌝ }
+{
     let rows = index[DIGIT_ROWS];
-    let mut at = [0usize; MAX_DIGITS];
-    let mut hash = value as u64 * index[FACTOR] % HASHES;
-    let mut i: u64 = 0;
-    while i < digits {
-        let scaled = hash * rows;
-        at[i as usize] = start + ((i * rows + scaled / HASHES) * words) as usize;
-        hash = scaled % HASHES;
-        i += 1;
-    }
-    Rows {
-        count: digits as usize,
-        at,
-    }
+    start + ((i * rows + hash * rows / HASHES) * index[ROW_WORDS]) as usize
 }
 
 // The bit at place p of the index is 1, and every other bit stays.
@@ -96,11 +99,11 @@ fn enter_value(index: &mut Index, start: usize, value: Value, g: u16)
     requires { ⌜ Laid (now index) (g + 1) × ColumnRows (now index) start ⌝ }
     ensures { λ _. ⌜ Full (exit index) × (Grows (entry index) (exit index) × (isIndexed (exit index) start value g ≡ true)) ⌝ }
 {
-    let rows = rows_of(index, start, value);
-    let at = rows.at;
-    let mut i = 0;
-    while i < rows.count {
-        enter(index, at[i] * 64 + wide(g));
+    let mut hash = hash_of(index, value);
+    let mut i: u64 = 0;
+    while i < digit_count(index) {
+        enter(index, row_of(index, start, hash, i) * 64 + wide(g));
+        hash = hash_behind(index, hash);
         i += 1;
     }
 }
