@@ -221,7 +221,7 @@ fn narrow(
 }
 
 // Relation s's ids narrowed for tuple x of relation r. False where none of them is live any more.
-fn narrow_member(
+pub fn narrow_member(
     variables: &[u16],
     values: &[Value],
     starts: &Starts,
