@@ -180,7 +180,7 @@ fn narrow_columns(
 
 // Relation s's ids narrowed for tuple x of relation r: under each variable that both scopes have, to those that may have its
 // value.
-fn narrow(
+pub fn narrow(
     variables: &[u16],
     values: &[Value],
     starts: &Starts,
