@@ -13,7 +13,8 @@ use Rattle.model.specs.Combination.{Combination}
 use Rattle.model.specs.Support.{candidates}
 use Rattle.model.specs.LiveWords.{isLive}
 use Rattle.model.specs.Fault.{properMembers}
-use Rattle.narrowing.specs.Narrows.{Long, Dead}
+use Rattle.layout.specs.Setting.{Lists, networkIn}
+use Rattle.narrowing.specs.Narrows.{Long, Dead, Searchable}
 
 -- ---- Two relations
 
@@ -47,6 +48,14 @@ Spreads N r s before after found = Long after × (Spread N r s before after × (
 pub record Members (N : Network) (members : Combination) : Type 0 where
   pub proper : properMembers N members ≡ true
   pub few : length members ≤ maxMembers
+
+-- not too many numbers of relations
+abbrev pub Numbers : List ℕ → Type 0
+Numbers members = (length members ≤ maxMembers) × ((j : ℕ) → j < length members → getD members j 0 < maxRelations)
+
+-- .. of sound lists with their index
+abbrev pub Spreadable : Lists → List ℕ → Combination → Type 0
+Spreadable L index members = Searchable L index × Members (networkIn L) members
 
 -- all tuples are live
 abbrev pub AllLive : List ℕ → List ℕ → Type 0

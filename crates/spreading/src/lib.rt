@@ -5,7 +5,7 @@ ghost use Rattle.model.specs.Limits.{maxRelations, maxTuples};
 ghost use Rattle.layout.specs.Loan.{entry, exit};
 ghost use Rattle.layout.specs.Setting.{lists, networkIn};
 ghost use Rattle.narrowing.specs.Narrows.{Long, Searchable, Seeks};
-ghost use Rattle.spreading.specs.Spread.{Joins, Gathers, Two, Spreads};
+ghost use Rattle.spreading.specs.Spread.{Joins, Gathers, Two, Spreads, Spreadable, SpreadsMembers};
 use layout::Starts;
 use layout::tuple_start;
 use live::WORDS;
@@ -18,6 +18,8 @@ use model::Value;
 use narrowing::keep;
 use narrowing::narrow;
 use value_index::Index;
+
+pub mod steps; // which members are narrowed through which
 
 // Of the ids from start on and below end, those of the one array are live in the other too.
 fn join_between(from: &Words, to: &mut Words, start: u16, end: u16)
@@ -98,4 +100,77 @@ pub fn spread(
     let to = tuple_start(starts, s + 1);
     keep(&sum, words, 0, from, to);
     next(words, from, to) < to
+}
+
+// Member j narrowed through member i, if these are two places. False where it has no live tuple left.
+fn spread_step(
+    variables: &[u16],
+    values: &[Value],
+    starts: &Starts,
+    index: &Index,
+    words: &mut Words,
+    members: &[u16],
+    i: usize,
+    j: usize,
+    limit: u16,
+) -> bool
+    requires { ⌜ Long (now words) × Spreadable (lists now variables values starts) (now index) (now members) ⌝ }
+    ensures { λ b. ⌜ SpreadsMembers (networkIn (lists entry variables values starts)) (entry members) (entry words) (exit words) b ⌝ }
+{
+    if members.len() <= i {
+        return true;
+    }
+    if members.len() <= j {
+        return true;
+    }
+    if i == j {
+        return true;
+    }
+    spread(
+        variables,
+        values,
+        starts,
+        index,
+        words,
+        members[i],
+        members[j],
+        limit,
+    )
+}
+
+// Members narrowed through others, step by step. Four bits of `steps` are one: the place between, and four times the place that is narrowed.
+// False where a member has no live tuple left.
+pub fn spread_members(
+    variables: &[u16],
+    values: &[Value],
+    starts: &Starts,
+    index: &Index,
+    words: &mut Words,
+    members: &[u16],
+    steps: u64,
+    limit: u16,
+) -> bool
+    requires { ⌜ Long (now words) × Spreadable (lists now variables values starts) (now index) (now members) ⌝ }
+    ensures { λ b. ⌜ SpreadsMembers (networkIn (lists entry variables values starts)) (entry members) (entry words) (exit words) b ⌝ }
+{
+    let mut left = steps;
+    while left != 0 {
+        let i = (left % 4) as usize;
+        let j = (left / 4 % 4) as usize;
+        if !spread_step(
+            variables,
+            values,
+            starts,
+            index,
+            words,
+            members,
+            i,
+            j,
+            limit,
+        ) {
+            return false;
+        }
+        left = left / 16;
+    }
+    true
 }
