@@ -1,4 +1,5 @@
--- Laws of narrowing: of the live tuples, those that agree with a tuple y are enough to find the supports that hold y.
+-- Laws of narrowing: of the live tuples, those that agree with a tuple y are enough to find the supports that hold y, and those of all live
+-- candidates that agree are enough to find every support.
 -- From the parts of a support, and the laws of lists and of agreement.
 use mathlib.Core.Path.{_≡_, ap, subst}
 use mathlib.Core.Bool.{true, not}
@@ -57,3 +58,20 @@ module _ (N : Network) (y : ℕ) (S T : TupleSet) (W : Narrower N y S T) where
   pub supportFrom-narrow : (c : Combination) (low : List ℕ) → supportFrom N T c y low ≡ supportFrom N S c y low
   unfolding supportFrom
   supportFrom-narrow c low = firstAmong-narrow y low (candidates N c) (λ t m e. isSupport-self N S y t e)
+
+-- ---- Whatever the seeking tuple is
+
+-- T lies in S and has all candidates of a combination that are live and agree.
+pub record Enough (N : Network) (c : Combination) (S T : TupleSet) : Type 0 where
+  pub inside : Inside T S
+  pub keeps : (t : List ℕ) → List·Memᴰ t (candidates N c) → pairwise (agree N) t ≡ true → all (has S) t ≡ true → all (has T) t ≡ true
+
+pub supportFrom-enough : (N : Network) (c : Combination) (S T : TupleSet) → Enough N c S T → (g : ℕ) (low : List ℕ) → supportFrom N T c g low ≡ supportFrom N S c g low
+unfolding supportFrom firstAmong
+supportFrom-enough N c S T W g low =
+    ap (λ (us : List (List ℕ)). head? (select (λ (is : List ℕ). not (earlier is low)) (map (map (indexOf N)) us)))
+    (select-cong (isSupport N T g) (isSupport N S g) (candidates N c)
+    (λ t m.
+    iff-eq (isSupport N T g t) (isSupport N S g t)
+    (isSupport-mono N T S (W .inside) g t)
+    (λ e. let a = isSupport-agree N S g t e in isSupport-intro N T g t (isSupport-self N S g t e) (W .keeps t m a (isSupport-live N S g t e)) a)))

@@ -1,6 +1,6 @@
 -- Laws of the members of a combination narrowed through each other: no step, one, and one after the other.
 -- From the parts of a candidate, and the law that tuples of a candidate have one relation each.
-use mathlib.Core.Path.{_≡_, sym, _∙_, ap, ap₂, subst}
+use mathlib.Core.Path.{_≡_, refl, sym, _∙_, ap, ap₂, subst}
 use mathlib.Core.Bool.{Bool, true, _&&_}
 use mathlib.Core.List.{List, map, List·Memᴰ}
 use Prim.Native.Nat.{ℕ, _+_, _-_, _≤_, _<_}
@@ -32,13 +32,30 @@ member-below {L} laid {c} M j h =
     omega (arith, below, relations-few (laid .framed))
 
 module _ (N : Network) (c : Combination) where
-  pub keeps-none : (words : List ℕ) → KeepsSupports N c words words
-  keeps-none words = record { inside = λ g l. l; keeps = λ t m a l. l }
+  module _ (place : ℕ) where
+    pub keeps-none : (words : List ℕ) → KeepsSupports N c place words words
+    keeps-none words = record { inside = λ g l. l; own = λ x h. refl; keeps = λ t m a l. l }
 
-  pub keeps-on : (a b d : List ℕ) → KeepsSupports N c a b → KeepsSupports N c b d → KeepsSupports N c a d
-  keeps-on a b d f s = record { inside = λ g l. f .inside g (s .inside g l); keeps = λ t m p l. s .keeps t m p (f .keeps t m p l) }
+    pub keeps-on : (a b d : List ℕ) → KeepsSupports N c place a b → KeepsSupports N c place b d → KeepsSupports N c place a d
+    keeps-on a b d f s =
+        record {
+          inside = λ g l. f .inside g (s .inside g l);
+          own = λ x h. s .own x h ∙ f .own x h;
+          keeps = λ t m p l. s .keeps t m p (f .keeps t m p l);
+        }
 
   module _ (M : Members N c) (i j : ℕ) (hi : i < length c) (hj : j < length c) (apart : i ≡ j → ⊥) (before after : List ℕ) (S : Spread N (getD c i 0) (getD c j 0) before after) where
+    rises : pairwise ltb c ≡ true
+    rises = and-right (all (λ (r : ℕ). ltb r (length (N .relations))) c) (pairwise ltb c) (M .proper)
+
+    -- one place to a relation
+    differ : (p q : ℕ) → p < length c → q < length c → (p ≡ q → ⊥) → getD c p 0 ≡ getD c q 0 → ⊥
+    differ p q hp hq d e = go (decLt p q)
+      where
+        go : Dec (p < q) → ⊥
+        go (yes l) = let b = ltb-true (getD c p 0) (getD c q 0) (pairwise-getD ltb c p q 0 rises l hq) in omega arith
+        go (no l) = let b = ltb-true (getD c q 0) (getD c p 0) (pairwise-getD ltb c q p 0 rises (omega arith) hp) in omega arith
+
     module _ (t : List ℕ) (m : List·Memᴰ t (candidates N c)) (agrees : pairwise (agree N) t ≡ true) (live : AllLive before t) where
       -- the two tuples agree
       both : agree N (getD t i 0) (getD t j 0) ≡ true
@@ -66,7 +83,7 @@ module _ (N : Network) (c : Combination) where
       stays : (g : ℕ) → List·Memᴰ g t → Dec (getD c j 0 ≡ relationOf N g) → isLive after g ≡ true
       stays g k (yes e) =
           let at = candidates-at N c m j hj in
-          let same = picks-same N c (and-right (all (λ (r : ℕ). ltb r (length (N .relations))) c) (pairwise ltb c) (M .proper)) (candidates-picks N c m) (at .0) k (relationOf-ids N (getD c j 0) (at .1) ∙ e) in
+          let same = picks-same N c rises (candidates-picks N c m) (at .0) k (relationOf-ids N (getD c j 0) (at .1) ∙ e) in
           subst (λ (h : ℕ). isLive after h ≡ true) same own
       stays g k (no d) =
           let b = below g k in
@@ -79,5 +96,6 @@ module _ (N : Network) (c : Combination) where
               let q = mem-getD t 0 l in
               subst (λ (x : ℕ). x < total N) (q .2) (ids-below N (getD c (q .0) 0) (candidates-at N c m (q .0) (omega (arith, q .1, candidates-length N c m)) .1))
 
-    pub keeps-step : KeepsSupports N c before after
-    keeps-step = record { inside = S .inside; keeps = λ t m a l g k. stays t m a l g k (ℕ-discrete (getD c j 0) (relationOf N g)) }
+    -- another member than that at `place` is narrowed
+    pub keeps-step : (place : ℕ) → place < length c → (j ≡ place → ⊥) → KeepsSupports N c place before after
+    keeps-step place h d = record { inside = S .inside; own = λ x k. S .outside (firstId N (getD c place 0) + x) (ids-apart N (getD c place 0) x (getD c j 0) k (differ j place hj h d)); keeps = λ t m a l g k. stays t m a l g k (ℕ-discrete (getD c j 0) (relationOf N g)) }

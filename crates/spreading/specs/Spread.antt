@@ -14,7 +14,7 @@ use Rattle.model.specs.Support.{candidates}
 use Rattle.model.specs.LiveWords.{isLive}
 use Rattle.model.specs.Fault.{properMembers}
 use Rattle.layout.specs.Setting.{Lists, networkIn}
-use Rattle.narrowing.specs.Narrows.{Long, Dead, Searchable}
+use Rattle.narrowing.specs.Narrows.{Long, Dead, Bare, Searchable}
 
 -- ---- Two relations
 
@@ -54,24 +54,20 @@ abbrev pub Numbers : List ℕ → Type 0
 Numbers members = (length members ≤ maxMembers) × ((j : ℕ) → j < length members → getD members j 0 < maxRelations)
 
 -- .. of sound lists with their index
-abbrev pub Spreadable : Lists → List ℕ → Combination → Type 0
-Spreadable L index members = Searchable L index × Members (networkIn L) members
+abbrev pub Spreadable : Lists → List ℕ → Combination → ℕ → Type 0
+Spreadable L index members place = (Searchable L index × Members (networkIn L) members) × (place < length members)
 
 -- all tuples are live
 abbrev pub AllLive : List ℕ → List ℕ → Type 0
 AllLive words t = (g : ℕ) → List·Memᴰ g t → isLive words g ≡ true
 
--- No id is raised, and live tuples of all members stay of which every two agree.
-pub record KeepsSupports (N : Network) (members : Combination) (before after : List ℕ) : Type 0 where
+-- No id is raised, those of the member at `place` stay, and so do live tuples of all members of which every two agree.
+pub record KeepsSupports (N : Network) (members : Combination) (place : ℕ) (before after : List ℕ) : Type 0 where
   pub inside : (g : ℕ) → isLive after g ≡ true → isLive before g ≡ true
+  pub own : (x : ℕ) → x < size N (getD members place 0) → isLive after (firstId N (getD members place 0) + x) ≡ isLive before (firstId N (getD members place 0) + x)
   pub keeps : (t : List ℕ) → List·Memᴰ t (candidates N members) → pairwise (agree N) t ≡ true → AllLive before t → AllLive after t
 
--- One of the members has no live tuple left.
-pub record NoneLeft (N : Network) (members : Combination) (words : List ℕ) : Type 0 where
-  pub j : ℕ
-  pub within : j < length members
-  pub dead : Dead N (getD members j 0) words
-
-abbrev pub SpreadsMembers : Network → Combination → List ℕ → List ℕ → Bool → Type 0
-SpreadsMembers N members before after found =
-    Long after × (KeepsSupports N members before after × (found ≡ false → NoneLeft N members after))
+-- .. false only where another member has no live tuple left
+abbrev pub SpreadsMembers : Network → Combination → ℕ → List ℕ → List ℕ → Bool → Type 0
+SpreadsMembers N members place before after found =
+    Long after × (KeepsSupports N members place before after × (found ≡ false → Bare N members place 0 after))

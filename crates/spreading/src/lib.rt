@@ -102,7 +102,7 @@ pub fn spread(
     next(words, from, to) < to
 }
 
-// Member j narrowed through member i, if these are two places. False where it has no live tuple left.
+// Member j narrowed through member i, if these are two places and j is not the seeking tuple's. False where it has no live tuple left.
 fn spread_step(
     variables: &[u16],
     values: &[Value],
@@ -110,12 +110,13 @@ fn spread_step(
     index: &Index,
     words: &mut Words,
     members: &[u16],
+    place: usize,
     i: usize,
     j: usize,
     limit: u16,
 ) -> bool
-    requires { ⌜ Long (now words) × Spreadable (lists now variables values starts) (now index) (now members) ⌝ }
-    ensures { λ b. ⌜ SpreadsMembers (networkIn (lists entry variables values starts)) (entry members) (entry words) (exit words) b ⌝ }
+    requires { ⌜ Long (now words) × Spreadable (lists now variables values starts) (now index) (now members) place ⌝ }
+    ensures { λ b. ⌜ SpreadsMembers (networkIn (lists entry variables values starts)) (entry members) place (entry words) (exit words) b ⌝ }
 {
     if members.len() <= i {
         return true;
@@ -124,6 +125,9 @@ fn spread_step(
         return true;
     }
     if i == j {
+        return true;
+    }
+    if j == place {
         return true;
     }
     spread(
@@ -147,11 +151,12 @@ pub fn spread_members(
     index: &Index,
     words: &mut Words,
     members: &[u16],
+    place: usize,
     steps: u64,
     limit: u16,
 ) -> bool
-    requires { ⌜ Long (now words) × Spreadable (lists now variables values starts) (now index) (now members) ⌝ }
-    ensures { λ b. ⌜ SpreadsMembers (networkIn (lists entry variables values starts)) (entry members) (entry words) (exit words) b ⌝ }
+    requires { ⌜ Long (now words) × Spreadable (lists now variables values starts) (now index) (now members) place ⌝ }
+    ensures { λ b. ⌜ SpreadsMembers (networkIn (lists entry variables values starts)) (entry members) place (entry words) (exit words) b ⌝ }
 {
     let mut left = steps;
     while left != 0 {
@@ -164,6 +169,7 @@ pub fn spread_members(
             index,
             words,
             members,
+            place,
             i,
             j,
             limit,

@@ -1,4 +1,4 @@
--- Laws of a search whose words are narrowed for a tuple y: what is known stays known, and what there is to find stays.
+-- Laws of a search whose words are narrowed, for a tuple y or member through member: what is known stays known, and what there is to find stays.
 -- From what a narrowing keeps, and the laws of narrowed sets, of ids and of live words.
 use mathlib.Core.Path.{_≡_, sym, _∙_, ap, subst}
 use mathlib.Core.Bool.{Bool, true, false}
@@ -13,13 +13,15 @@ use Rattle.model.specs.Agreement.{agree}
 use Rattle.model.specs.TupleSet.{has}
 use Rattle.model.specs.LiveWords.{living, isLive}
 use Rattle.model.specs.Support.{supportFrom}
-use Rattle.model.proofs.Lists.{from-mem, getD-map-in}
+use Rattle.model.proofs.Lists.{all-at, all-intro, from-mem, getD-map-in}
 use Rattle.model.proofs.TupleSet.{has-below}
 use Rattle.model.proofs.Network.{index-bounds, ids-below}
 use Rattle.model.proofs.LiveWords.{living-length, living-has}
 use Rattle.model.proofs.Search.{completion-bare}
-use Rattle.model.proofs.Narrowing.{Narrower, narrow-all, completion-narrow, supportFrom-narrow}
+use Rattle.model.proofs.Narrowing.{Narrower, narrow-all, completion-narrow, supportFrom-narrow, Enough, supportFrom-enough}
+use Rattle.layout.proofs.SoundStarts.{tuples-few}
 use Rattle.narrowing.specs.Narrows.{Later, Others, Narrowed, Bare}
+use Rattle.spreading.specs.Spread.{KeepsSupports}
 use Rattle.support.specs.Search.{Search, netOf, liveOf, seeker, SoundSearch, chosenIds, Prefix, sought}
 use Rattle.support.proofs.Walk.{members-apart, few-tuples, member-below}
 use Rattle.support.proofs.Ends.{sought-first}
@@ -74,6 +76,27 @@ module _ (Q : Search) (R : SoundSearch Q) (y : ℕ) (after : List ℕ) (W : Narr
             };
       }
 
+-- where a member has no live tuple left, there is nothing to find
+pub sought-none : (Q : Search) (words : List ℕ) (k : ℕ) (chosen : List ℕ) → Bare (netOf Q) (Q .members) (Q .place) k words → sought (onWords Q words) k chosen ≡ none
+sought-none Q words k chosen E =
+    let N = netOf Q in
+    let c = Q .members in
+    let s = getD c (E .j) 0 in
+    let later = map (idsOf N) (drop k c) in
+    let long : length later ≡ length c - k = length-map (drop k c) (idsOf N) ∙ length-drop k c in
+    let is-at : k + (E .j - k) ≡ E .j = omega (arith, E .later .from-k) in
+    let is-s : getD later (E .j - k) [] ≡ idsOf N s =
+    getD-map-in (idsOf N) (drop k c) (E .j - k) 0 [] (omega (arith, length-drop k c, E .later .from-k, E .later .inside))
+    ∙ ap (idsOf N) (getD-drop k c (E .j - k) 0 ∙ ap (λ (i : ℕ). getD c i 0) is-at)
+    in
+    completion-bare N (liveOf (onWords Q words)) (seeker Q) (Q .low) (chosenIds N c chosen k) later (E .j - k) (omega (arith, long, E .later .from-k, E .later .inside))
+    (λ x m.
+    let i : List·Memᴰ x (idsOf N s) = subst (List·Memᴰ x) is-s m in
+    let b = from-mem (firstId N s) (size N s) x i in
+    let is-x : firstId N s + (x - firstId N s) ≡ x = omega (arith, b .0) in
+    living-has (total N) words x (ids-below N s i)
+    ∙ subst (λ (h : ℕ). isLive words h ≡ false) is-x (E .dead (x - firstId N s) (omega (arith, b .0, b .1))))
+
 -- ---- The search over fewer words
 
 module _ {Q : Search} {y : ℕ} {words : List ℕ} (F : Fewer Q y words) where
@@ -94,26 +117,8 @@ module _ {Q : Search} {y : ℕ} {words : List ℕ} (F : Fewer Q y words) where
         low-within = R .low-within;
       }
 
-  -- where a member has no live tuple left, there is nothing to find
   pub sought-bare : (k : ℕ) (chosen : List ℕ) → Bare (netOf Q) (Q .members) (Q .place) k words → sought narrowed k chosen ≡ none
-  sought-bare k chosen E =
-      let N = netOf Q in
-      let c = Q .members in
-      let s = getD c (E .j) 0 in
-      let later = map (idsOf N) (drop k c) in
-      let long : length later ≡ length c - k = length-map (drop k c) (idsOf N) ∙ length-drop k c in
-      let is-at : k + (E .j - k) ≡ E .j = omega (arith, E .later .from-k) in
-      let is-s : getD later (E .j - k) [] ≡ idsOf N s =
-      getD-map-in (idsOf N) (drop k c) (E .j - k) 0 [] (omega (arith, length-drop k c, E .later .from-k, E .later .inside))
-      ∙ ap (idsOf N) (getD-drop k c (E .j - k) 0 ∙ ap (λ (i : ℕ). getD c i 0) is-at)
-      in
-      completion-bare N (liveOf narrowed) (seeker Q) (Q .low) (chosenIds N c chosen k) later (E .j - k) (omega (arith, long, E .later .from-k, E .later .inside))
-      (λ x m.
-      let i : List·Memᴰ x (idsOf N s) = subst (List·Memᴰ x) is-s m in
-      let b = from-mem (firstId N s) (size N s) x i in
-      let is-x : firstId N s + (x - firstId N s) ≡ x = omega (arith, b .0) in
-      living-has (total N) words x (ids-below N s i)
-      ∙ subst (λ (h : ℕ). isLive words h ≡ false) is-x (E .dead (x - firstId N s) (omega (arith, b .0, b .1))))
+  sought-bare = sought-none Q words
 
   -- ---- Narrowed for a tuple chosen
 
@@ -135,14 +140,65 @@ module _ {Q : Search} {y : ℕ} {words : List ℕ} (F : Fewer Q y words) where
     sought-narrowed =
         completion-narrow (netOf Q) y (liveOf Q) (liveOf narrowed) (F .narrower) (seeker Q) (Q .low) (chosenIds (netOf Q) (Q .members) chosen k) (map (idsOf (netOf Q)) (drop k (Q .members))) m
 
-  -- ---- Narrowed for the seeking tuple
+-- ---- Where the search begins
 
-  module _ (is-seeker : y ≡ seeker Q) (chosen : List ℕ) where
-    pub sought-all : sought narrowed 0 chosen ≡ supportFrom (netOf Q) (liveOf Q) (Q .members) (seeker Q) (Q .low)
-    sought-all =
-        sought-first narrowed chosen
-        ∙ subst (λ (g : ℕ). supportFrom (netOf Q) (liveOf narrowed) (Q .members) g (Q .low) ≡ supportFrom (netOf Q) (liveOf Q) (Q .members) g (Q .low)) is-seeker
-        (supportFrom-narrow (netOf Q) y (liveOf Q) (liveOf narrowed) (F .narrower) (Q .members) (Q .low))
+-- The search may begin over these words: the same is found there, and the seeking tuple lives.
+pub record Root (Q : Search) (words : List ℕ) : Type 0 where
+  pub sound : SoundSearch (onWords Q words)
+  pub sized : length words ≡ 64
+  pub same : supportFrom (netOf Q) (liveOf (onWords Q words)) (Q .members) (seeker Q) (Q .low) ≡ supportFrom (netOf Q) (liveOf Q) (Q .members) (seeker Q) (Q .low)
+  pub lives : has (liveOf (onWords Q words)) (seeker Q) ≡ true
 
-    pub seeker-narrowed : has (liveOf Q) (seeker Q) ≡ true → has (liveOf narrowed) (seeker Q) ≡ true
-    seeker-narrowed = subst (λ (g : ℕ). has (liveOf Q) g ≡ true → has (liveOf narrowed) g ≡ true) is-seeker (F .narrower .itself)
+pub root-narrowed : (Q : Search) (words : List ℕ) → Fewer Q (seeker Q) words → has (liveOf Q) (seeker Q) ≡ true → Root Q words
+root-narrowed Q words F l =
+    record {
+      sound = ready-narrowed F;
+      sized = F .sized;
+      same = supportFrom-narrow (netOf Q) (seeker Q) (liveOf Q) (liveOf (onWords Q words)) (F .narrower) (Q .members) (Q .low);
+      lives = F .narrower .itself l;
+    }
+
+-- members narrowed through others
+module _ (Q : Search) (words after : List ℕ) (R : Root Q words) (long : length after ≡ 64) (K : KeepsSupports (netOf Q) (Q .members) (Q .place) words after) where
+  abbrev n : ℕ
+  n = total (netOf Q)
+
+  live-below : (ws : List ℕ) (g : ℕ) → has (living n ws) g ≡ true → g < n
+  live-below ws g e = subst (λ (k : ℕ). g < k) (living-length n ws) (has-below (living n ws) g e)
+
+  spread-enough : Enough (netOf Q) (Q .members) (living n words) (living n after)
+  spread-enough =
+      record {
+        inside = λ g e. let b = live-below after g e in living-has n words g b ∙ K .inside g (sym (living-has n after g b) ∙ e);
+        keeps = λ t m a l.
+            all-intro (has (living n after)) t
+            (λ g k.
+            let e = all-at (has (living n words)) t l k in
+            let b = live-below words g e in
+            living-has n after g b ∙ K .keeps t m a (λ h i. let f = all-at (has (living n words)) t l i in sym (living-has n words h (live-below words h f)) ∙ f) g k);
+      }
+
+  pub root-spread : Root Q after
+  root-spread =
+      let S = R .sound in
+      let b = live-below words (seeker Q) (R .lives) in
+      record {
+        sound =
+            record {
+              laid = S .laid;
+              words = rw long (tuples-few (S .laid .framed));
+              members = S .members;
+              few = S .few;
+              place = S .place;
+              own = S .own;
+              low-own = S .low-own;
+              low-within = S .low-within;
+            };
+        sized = long;
+        same = supportFrom-enough (netOf Q) (Q .members) (living n words) (living n after) spread-enough (seeker Q) (Q .low) ∙ R .same;
+        lives = living-has n after (seeker Q) b ∙ K .own (Q .own) (S .own) ∙ sym (living-has n words (seeker Q) b) ∙ R .lives;
+      }
+
+-- what there is to find with nothing chosen yet is the first support
+pub root-all : (Q : Search) (words : List ℕ) → Root Q words → (chosen : List ℕ) → sought (onWords Q words) 0 chosen ≡ supportFrom (netOf Q) (liveOf Q) (Q .members) (seeker Q) (Q .low)
+root-all Q words R chosen = sought-first (onWords Q words) chosen ∙ R .same

@@ -17,7 +17,11 @@ use model::MAX_MEMBERS;
 use model::Value;
 use narrowing::narrow_members;
 use network::agreement::tuples_agree;
+use spreading::spread_members;
 use value_index::Index;
+
+// A member is narrowed through another only where that one has at most so many candidates.
+const FEW: u16 = 8;
 
 // One tuple of each member, by its index.
 pub type Indices = [u16; MAX_MEMBERS];
@@ -181,7 +185,8 @@ fn search(
     }
 }
 
-// The first support at or after `low` of tuple `own` of the member at `place`.
+// The first support at or after `low` of tuple `own` of the member at `place`. Before the search, members are narrowed through others by these
+// steps (spreading::steps).
 pub fn first_support(
     variables: &[u16],
     values: &[Value],
@@ -192,6 +197,7 @@ pub fn first_support(
     place: usize,
     own: u16,
     low: Indices,
+    steps: u64,
 ) -> Found
     requires { ⌜ Long (now words) × Seeking (searching now variables values starts words members place own low) (now index) ⌝ }
     ensures { λ f. ⌜ FindsFirst (searching entry variables values starts words members place own low) f ⌝ }
@@ -215,6 +221,22 @@ pub fn first_support(
         0,
         r,
         own,
+    ) {
+        return Found {
+            ok: false,
+            tuples: low,
+        };
+    }
+    if !spread_members(
+        variables,
+        values,
+        starts,
+        index,
+        &mut candidates,
+        members,
+        place,
+        steps,
+        FEW,
     ) {
         return Found {
             ok: false,

@@ -1,4 +1,5 @@
--- `first_support` narrows the live words for the seeking tuple, if it is live, and begins the search with nothing else chosen yet.
+-- `first_support` narrows the live words for the seeking tuple, if it is live, and members through others, and begins the search with nothing
+-- else chosen yet.
 -- From the laws of members, of narrowed words, and of the search's two ends.
 use mathlib.Core.Path.{_≡_, refl, sym, _∙_, ap}
 use mathlib.Core.Bool.{true}
@@ -16,7 +17,7 @@ use Rattle.model.specs.Support.{supportFrom}
 use Rattle.model.proofs.LiveWords.{living-has}
 use Rattle.support.specs.Search.{Search, netOf, liveOf, seeker, SoundSearch, sought}
 use Rattle.support.proofs.Walk.{few-tuples, member-below, member-start}
-use Rattle.support.proofs.Narrow.{others, onWords, Fewer, fewer-words, ready-narrowed, sought-bare, sought-all, seeker-narrowed}
+use Rattle.support.proofs.Narrow.{others, onWords, Fewer, fewer-words, sought-none, Root, root-narrowed, root-spread, root-all}
 use Rattle.support.proofs.Ends.{prefix-none, turn-done, seeker-below, sought-dead}
 use Rattle.support.proofs.Own.{NextStage, next-stage}
 use Rattle.support.proofs.first_support.Statement.{statement}
@@ -61,35 +62,48 @@ start n = n .before .before .before .before .before .before .before .before .bef
 abbrev fewer : tie.After-narrow-members → List ℕ
 fewer n = n .narrow-members .last .1 .1 .1 .1 .0
 
--- the search goes over them
-abbrev narrowed : tie.After-narrow-members → Search
-narrowed n = onWords (searchOf (start n)) (fewer n)
-
 over : (n : tie.After-narrow-members) → Fewer (searchOf (start n)) (seeker (searchOf (start n))) (fewer n)
 over n =
     let a = start n in
     fewer-words (searchOf a) (a .pre .1 .sound) (seeker (searchOf a)) (fewer n) (n .narrow-members .ensures .1 .0) (n .narrow-members .ensures .0)
 
-ready : (n : tie.After-narrow-members) → SoundSearch (narrowed n)
-ready n = ready-narrowed (over n)
+-- the search may begin over them
+root : (n : tie.After-narrow-members) → Root (searchOf (start n)) (fewer n)
+root n = root-narrowed (searchOf (start n)) (fewer n) (over n) (own-lives (n .before .before .before .before) ∙ not-false _ (n .before .before .before .if1 .left))
 
-lives-on : (n : tie.After-narrow-members) → has (liveOf (narrowed n)) (seeker (narrowed n)) ≡ true
-lives-on n = seeker-narrowed (over n) refl (start n .args .low) (own-lives (n .before .before .before .before) ∙ not-false _ (n .before .before .before .if1 .left))
+-- ---- .. and members through others
 
--- what there is to find among them is the first support
-all-there : (n : tie.After-narrow-members) → let Q = searchOf (start n) in sought (narrowed n) 0 (start n .args .low) ≡ supportFrom (netOf Q) (liveOf Q) (Q .members) (seeker Q) (Q .low)
-all-there n = sought-all (over n) refl (start n .args .low)
+module _ (c : tie.After-spread-members) where
+  abbrev before : tie.After-narrow-members
+  before = c .before .before .before
+
+  abbrev given : Search
+  given = searchOf (start before)
+
+  abbrev fewest : List ℕ
+  fewest = c .spread-members .last .1 .1 .1 .1 .0
+
+  -- the search goes over these
+  abbrev narrowed : Search
+  narrowed = onWords given fewest
+
+  begins : Root given fewest
+  begins = root-spread given (fewer before) fewest (root before) (c .spread-members .ensures .0) (c .spread-members .ensures .1 .0)
+
+  -- what there is to find among them is the first support
+  all-there : sought narrowed 0 (start before .args .low) ≡ supportFrom (netOf given) (liveOf given) (given .members) (seeker given) (given .low)
+  all-there = root-all given fewest begins (start before .args .low)
 
 -- ---- The first stage
 
-abbrev narrowing : tie.After-past-own → tie.After-narrow-members
-narrowing c = c .before .before
+abbrev spreading : tie.After-past-own → tie.After-spread-members
+spreading c = c .before .before
 
-stage : (c : tie.After-past-own) → let n = narrowing c in NextStage (narrowed n) true 0 (start n .args .low) (c .past-own .result)
+stage : (c : tie.After-past-own) → let n = spreading c in NextStage (narrowed n) true 0 (start (before n) .args .low) (c .past-own .result)
 stage c =
-    let n = narrowing c in
-    let a = start n in
-    next-stage (narrowed n) (ready n) true 0 (a .args .low) (low-length a) (low-length a) (lives-on n) (prefix-none (narrowed n) (a .args .low)) (c .past-own .result) (c .past-own .ensures)
+    let n = spreading c in
+    let a = start (before n) in
+    next-stage (narrowed n) (begins n .sound) true 0 (a .args .low) (low-length a) (low-length a) (begins n .lives) (prefix-none (narrowed n) (a .args .low)) (c .past-own .result) (c .past-own .ensures)
 
 -- ---- The needs
 
@@ -102,29 +116,42 @@ narrow-members-requires c κs =
 returns-2 : tie.Need-returns-2
 returns-2 c =
     let n = c .before in
-    sym (sym (all-there n) ∙ sought-bare (over n) 0 (start n .args .low) (n .narrow-members .ensures .1 .1 (not-true _ (c .if2 .taken))))
+    let Q = searchOf (start n) in
+    sym (sym (root-all Q (fewer n) (root n) (start n .args .low)) ∙ sought-none Q (fewer n) 0 (start n .args .low) (n .narrow-members .ensures .1 .1 (not-true _ (c .if2 .taken))))
+
+spread-members-requires : tie.Need-spread-members-requires
+spread-members-requires c κs =
+    let n = c .before .before in
+    let a = start n in
+    let R = a .pre .1 .sound in
+    (n .narrow-members .ensures .0, ((record { laid = R .laid; indexed = a .pre .1 .indexed }, record { proper = R .members; few = R .few }), R .place))
 
 returns-3 : tie.Need-returns-3
 returns-3 c =
+    let n = c .before in
+    sym (sym (all-there n) ∙ sought-none (given n) (fewest n) 0 (start (before n) .args .low) (n .spread-members .ensures .1 .1 (not-true _ (c .if3 .taken))))
+
+returns-4 : tie.Need-returns-4
+returns-4 c =
     let b = c .before .before in
-    let n = narrowing b in
+    let n = spreading b in
     let S = stage b in
     sym
     (sym (all-there n)
     ∙ sym (S .same)
-    ∙ turn-done (narrowed n) (ready n) true (b .past-own .result .chosen) (S .sized) (b .past-own .result .k) (c .if3 .taken) (S .prefix))
+    ∙ turn-done (narrowed n) (begins n .sound) true (b .past-own .result .chosen) (S .sized) (b .past-own .result .k) (c .if4 .taken) (S .prefix))
 
 search-requires : tie.Need-search-requires
 search-requires c κs =
     let b = c .before .before .before in
-    let n = narrowing b in
+    let n = spreading b in
     let S = stage b in (
-      n .narrow-members .ensures .0,
+      n .spread-members .ensures .0,
       record {
-        seeking = record { sound = ready n; indexed = start n .pre .1 .indexed };
+        seeking = record { sound = begins n .sound; indexed = start (before n) .pre .1 .indexed };
         prefix = S .prefix;
-        lives = lives-on n;
-        inside = omega (arith, S .prefix .depth, c .before .if3 .left);
+        lives = begins n .lives;
+        inside = omega (arith, S .prefix .depth, c .before .if4 .left);
         other = S .other;
       },
     )
@@ -141,7 +168,9 @@ first-support-spec =
     (λ c. sym (sought-dead (searchOf (c .before .before .before .before .before .before .before .before)) (own-lives (c .before) ∙ not-true _ (c .if1 .taken))))
     narrow-members-requires
     returns-2
-    (λ c κs. let R = start (c .before) .pre .1 .sound in omega (arith, R .place, R .few))
+    spread-members-requires
     returns-3
+    (λ c κs. let R = start (before (c .before)) .pre .1 .sound in omega (arith, R .place, R .few))
+    returns-4
     search-requires
-    (λ c. c .search .ensures ∙ stage (c .before .before .before .before) .same ∙ all-there (narrowing (c .before .before .before .before))))
+    (λ c. c .search .ensures ∙ stage (c .before .before .before .before) .same ∙ all-there (spreading (c .before .before .before .before))))
