@@ -20,6 +20,7 @@ use model::MAX_MEMBERS;
 use model::Value;
 use model::Verdict;
 use request::checks::test_checked;
+use spreading::steps::steps_of_pair;
 use support::first_support;
 use value_index::INDEX;
 use value_index::Index;
@@ -35,6 +36,7 @@ fn has_support(
     members: &[u16],
     place: usize,
     own: u16,
+    steps: u64,
 ) -> bool
     requires { ⌜ Long (now words) × Seeking (searching now variables values starts words members place own (lowest place own)) (now index) ⌝ }
     ensures { λ b. ⌜ b ≡ hasSupport (searching entry variables values starts words members place own (lowest place own)) ⌝ }
@@ -51,6 +53,7 @@ fn has_support(
         place,
         own,
         low,
+        steps,
     );
     found.ok
 }
@@ -69,6 +72,7 @@ fn pair_supported(
     requires { ⌜ Long (now words) × PairAt (setting now variables values starts members m) (now index) p ⌝ }
     ensures { λ b. ⌜ b ≡ pairConsistent (setting entry variables values starts members m) (entry words) p ⌝ }
 {
+    let steps = steps_of_pair(index, members, m, p);
     let base = p / m * m;
     let stop = base + m;
     let r = members[p];
@@ -85,6 +89,7 @@ fn pair_supported(
             &members[base..stop],
             p % m,
             g - first,
+            steps,
         ) {
             return false;
         }

@@ -2,3 +2,4 @@
 pub mod Joined
 pub mod Relations
 pub mod Kept
+pub mod Numbers

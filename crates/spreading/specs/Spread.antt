@@ -3,7 +3,7 @@ use mathlib.Core.Path.{_≡_}
 use mathlib.Core.Bool.{Bool, true, false}
 use mathlib.Core.List.{List, List·Memᴰ}
 use mathlib.Core.Logic.{_⊎_}
-use Prim.Native.Nat.{ℕ, _+_, _≤_, _<_}
+use Prim.Native.Nat.{ℕ, _+_, _*_, _/_, _≤_, _<_}
 use lib.ListN.{length, getD}
 use Rattle.model.specs.Limits.{maxRelations, maxMembers}
 use Rattle.model.specs.Lists.{pairwise}
@@ -52,6 +52,13 @@ pub record Members (N : Network) (members : Combination) : Type 0 where
 -- not too many numbers of relations
 abbrev pub Numbers : List ℕ → Type 0
 Numbers members = (length members ≤ maxMembers) × ((j : ℕ) → j < length members → getD members j 0 < maxRelations)
+
+-- .. in the combination of pair p, one of m members
+pub record PairNumbers (members : List ℕ) (m p : ℕ) : Type 0 where
+  pub positive : 0 < m
+  pub few : m ≤ maxMembers
+  pub within : p / m * m + m ≤ length members
+  pub numbers : (j : ℕ) → j < length members → getD members j 0 < maxRelations
 
 -- .. of sound lists with their index
 abbrev pub Spreadable : Lists → List ℕ → Combination → ℕ → Type 0

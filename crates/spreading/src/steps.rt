@@ -2,7 +2,7 @@
 // first. Whatever the steps are, no support is lost.
 ghost use Prim.Native.Nat.{_<_};
 ghost use lib.ListN.{length};
-ghost use Rattle.spreading.specs.Spread.{Numbers};
+ghost use Rattle.spreading.specs.Spread.{Numbers, PairNumbers};
 use value_index::Index;
 use value_index::scope_bits;
 
@@ -79,4 +79,13 @@ pub fn steps_for(index: &Index, members: &[u16], place: usize) -> u64
     let far = middle | places_with(index, members, variables_at(index, members, middle));
     let last = add_steps(index, members, middle & !own, far & !middle, 0);
     add_steps(index, members, near & !own, middle & !near, last)
+}
+
+// The steps for a search by a tuple of pair p's member.
+pub fn steps_of_pair(index: &Index, members: &[u16], m: usize, p: usize) -> u64
+    requires { ⌜ PairNumbers (now members) m p ⌝ }
+{
+    let base = p / m * m;
+    let end = base + m;
+    steps_for(index, &members[base..end], p % m)
 }

@@ -8,6 +8,7 @@ use native.Mathlib.Omega.{arith}
 use denote.Ref.{now}
 use lib.ListN.{length, getD}
 use borrow.Author.Needs.{needs}
+use Rattle.spreading.proofs.Numbers.{pair-numbers}
 use borrow.Author.Tests.{not-true, not-false}
 use Rattle.layout.specs.Setting.{Setting, setting}
 use Rattle.layout.proofs.Pairs.{base-within, member-below}
@@ -19,11 +20,11 @@ use Rattle.consistency.proofs.pair_supported.Statement.{statement}
 use Rattle.consistency.proofs.pair_supported.Tie as tie
 
 abbrev Inv-loop : tie.InvT-loop
-Inv-loop variables values starts index words members m p base stop r first end g₀ g =
+Inv-loop variables values starts index words members m p steps base stop r first end g₀ g =
     WalkAt (setting (λ xs. xs) variables values starts members m) words p first end g
 
 abbrev μ-loop : tie.MeasureT-loop
-μ-loop variables values starts index words members m p base stop r first end g₀ g = end - g
+μ-loop variables values starts index words members m p steps base stop r first end g₀ g = end - g
 
 -- ---- What it is called on
 
@@ -46,7 +47,7 @@ module _ (a : tie.Start Inv-loop μ-loop) where
 -- ---- The pair's row
 
 abbrev entry : tie.After-tuple-start2 Inv-loop μ-loop → tie.Start Inv-loop μ-loop
-entry c = c .before .before .before .before .before .before
+entry c = c .before .before .before .before .before .before .before
 
 abbrev first : tie.After-tuple-start2 Inv-loop μ-loop → ℕ
 first c = c .before .tuple-start .result
@@ -109,13 +110,14 @@ pair-supported-spec =
     (tie.spec
     Inv-loop
     μ-loop
-    (λ c. omega (arith, asked (c .before .before .before) .sound .paired .list .positive))
-    (λ c. omega (arith, within (c .before .before .before)))
-    (λ c. omega (arith, within (c .before .before .before)))
+    (λ c κs. let a = c .before .before .before in pair-numbers (asked a .sound .laid .framed) (asked a .sound .paired) (a .args .p) (asked a .pair))
+    (λ c. omega (arith, asked (c .before .before .before .before) .sound .paired .list .positive))
+    (λ c. omega (arith, within (c .before .before .before .before)))
+    (λ c. omega (arith, within (c .before .before .before .before)))
     (λ c. search needs) (λ c. search needs)
-    (λ c κs. omega (arith, few (c .before .before .before .before)))
-    (λ c. omega (arith, few (c .before .before .before .before .before)))
     (λ c κs. omega (arith, few (c .before .before .before .before .before)))
+    (λ c. omega (arith, few (c .before .before .before .before .before .before)))
+    (λ c κs. omega (arith, few (c .before .before .before .before .before .before)))
     (λ c κs. asks (c .before) (first (c .before)) (omega (arith, row (c .before) .is-end)))
     (λ c. let b = c .before .before in let a = entry b in subst (WalkAt (G a) (a .args .words .now) (a .args .p) (first b) (b .tuple-start2 .result)) (sym (c .next .ensures)) (walk-starts (words-of b) (long b) (row b)))
     (λ c. omega (arith, within (entry (begun c))))
