@@ -1,11 +1,11 @@
 // Sweeps before the visits: a tuple falls where no live tuple of a relation beside its own, another member of a combination, agrees with
 // it.
-ghost use Prim.Native.Nat.{_<_};
-ghost use Rattle.model.specs.Limits.{maxRelations};
+ghost use Prim.Native.Nat.{_*_, _≤_, _<_};
+ghost use Rattle.model.specs.Limits.{maxRelations, maxTuples};
 ghost use Rattle.model.specs.Combination.{combinations};
 ghost use Rattle.live.specs.Words.{WordArray};
 ghost use Rattle.layout.specs.Loan.{entry, exit};
-ghost use Rattle.layout.specs.Setting.{lists, setting, network, SoundLists, Whole, Sound};
+ghost use Rattle.layout.specs.Setting.{lists, networkIn, setting, SoundLists, Whole, Sound};
 ghost use Rattle.value_index.specs.Index.{Indexed};
 ghost use Rattle.narrowing.specs.Narrows.{Long, Seeks};
 ghost use Rattle.sweeping.specs.Shrunk.{Shrunk};
@@ -164,7 +164,18 @@ fn sweep_relation(
     Swept { tested, left }
 }
 
-// A sweep over all relations. It stops, and is false, where so far less than a sixteenth of the tuples tested fell.
+// Whether so few of the tuples tested fell that it does not pay to go on: less than a quarter in combinations of two, whose visits
+// cost no more than the tests, and less than a sixteenth in larger ones.
+fn few_fell(tested: u32, left: u32, m: u16) -> bool
+    requires { ⌜ (tested ≤ 4096 * maxTuples) × (left ≤ 4096 * maxTuples) ⌝ }
+{
+    if m == 2 {
+        return tested * 3 < left * 4;
+    }
+    tested * 15 < left * 16
+}
+
+// A sweep over all relations. It stops, and is false, where too few fell so far.
 fn sweep(
     variables: &[u16],
     values: &[Value],
@@ -172,6 +183,7 @@ fn sweep(
     index: &Index,
     beside: &Words,
     words: &mut Words,
+    m: u16,
 ) -> bool
     requires { ⌜ WordArray (now words) × (Long (now beside) × Searchable (lists now variables values starts) (now index)) ⌝ }
     ensures { λ _. ⌜ Sweeps (lists entry variables values starts) (entry beside) (entry words) (exit words) ⌝ }
@@ -184,7 +196,7 @@ fn sweep(
         let swept = sweep_relation(variables, values, starts, index, beside, words, r);
         tested += swept.tested;
         left += swept.left;
-        if tested * 15 < left * 16 {
+        if few_fell(tested, left, m) {
             return false;
         }
         r += 1;
@@ -233,11 +245,12 @@ pub fn sweeps(
     index: &Index,
     words: &mut Words,
 )
-    requires { ⌜ WordArray (now words) × (Sound (setting now variables values starts members m) × Indexed (network (setting now variables values starts members m)) (now index)) ⌝ }
+    requires { ⌜ WordArray (now words) × Sound (setting now variables values starts members m) ⌝ }
+    requires { ⌜ Indexed (networkIn (lists now variables values starts)) (now index) ⌝ }
     ensures { λ _. ⌜ Shrunk (setting entry variables values starts members m) (entry words) (exit words) ⌝ }
 {
     let beside = all_beside(members, m);
-    if sweep(variables, values, starts, index, &beside, words) {
-        sweep(variables, values, starts, index, &beside, words);
+    if sweep(variables, values, starts, index, &beside, words, m) {
+        sweep(variables, values, starts, index, &beside, words, m);
     }
 }
