@@ -1,5 +1,4 @@
-// Sweeps before the visits: a tuple falls where no live tuple of a relation beside its own, another member of a combination, agrees with
-// it.
+// Sweeps before the visits: tuples fall that no live tuple of a relation beside theirs, another member of a combination, agrees with.
 ghost use Prim.Native.Nat.{_*_, _≤_, _<_};
 ghost use Rattle.model.specs.Limits.{maxRelations, maxTuples};
 ghost use Rattle.model.specs.Combination.{combinations};
@@ -76,7 +75,7 @@ fn share(variables: &[u16], values: &[Value], starts: &Starts, r: u16, s: u16) -
     overlap(&variables[a..a_end], &variables[b..b_end])
 }
 
-// The live tuples of relation r fall that no live tuple of relation s agrees with.
+// Live tuples of relation r fall, and only such ones as no live tuple of relation s agrees with.
 fn clear_unmet(
     variables: &[u16],
     values: &[Value],
@@ -111,7 +110,7 @@ fn clear_unmet(
     }
 }
 
-// The same where the two relations share a variable; where they do not, every tuple of the one agrees with all of the other.
+// The same where the two relations share a variable; tuples of relations that share none agree, and are not tested.
 fn revise(
     variables: &[u16],
     values: &[Value],
@@ -137,7 +136,7 @@ fn revise(
     }
 }
 
-// The live tuples of relation r fall that no live tuple of some relation beside it agrees with.
+// The same for relation r and each relation beside it.
 fn sweep_relation(
     variables: &[u16],
     values: &[Value],
@@ -148,7 +147,7 @@ fn sweep_relation(
     r: u16,
 ) -> Swept
     requires { ⌜ WordArray (now words) × (Long (now beside) × (Searchable (lists now variables values starts) (now index) × (r < maxRelations))) ⌝ }
-    ensures { λ n. ⌜ AtMost 64 n × Sweeps (lists entry variables values starts) (entry beside) (entry words) (exit words) ⌝ }
+    ensures { λ n. ⌜ AtMost maxRelations n × Sweeps (lists entry variables values starts) (entry beside) (entry words) (exit words) ⌝ }
 {
     let base = r * 64;
     let end = base + 64;
@@ -167,7 +166,7 @@ fn sweep_relation(
 // Whether so few of the tuples tested fell that it does not pay to go on: less than a quarter in combinations of two, whose visits
 // cost no more than the tests, and less than a sixteenth in larger ones.
 fn few_fell(tested: u32, left: u32, m: u16) -> bool
-    requires { ⌜ (tested ≤ 4096 * maxTuples) × (left ≤ 4096 * maxTuples) ⌝ }
+    requires { ⌜ (tested ≤ maxRelations * maxRelations * maxTuples) × (left ≤ maxRelations * maxRelations * maxTuples) ⌝ }
 {
     if m == 2 {
         return tested * 3 < left * 4;
