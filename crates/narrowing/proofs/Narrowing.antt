@@ -91,6 +91,9 @@ module _ (scopeA a scopeB : List ℕ) (i j : ℕ) (widths : length scopeA ≡ le
       go true q = q
       go false q = absurd (not-both e (agreeing-clash scopeA a scopeB b i j widths l hi hj (clash-unfit (cellAt scopeA a i) (cellAt scopeB b j) same q)))
 
+pub agreeing-none : (N : Network) (r x s : ℕ) (ws : List ℕ) → Agreeing N r x s ws ws
+agreeing-none N r x s ws = record { inside = λ g e. e; outside = λ g o. refl; keeps = λ z h a e. e }
+
 -- relation s, by its scope and the values of its tuples
 pub narrows-agreeing : {L : Lists} → SoundLists L → (let N = networkIn L in (index : List ℕ) → Indexed N index → (r x s start end : ℕ) → start ≡ firstId N s → end ≡ firstId N s + size N s → (xs : List Cell) → xs ≡ cellsOf N (firstId N r + x) → (scope : List ℕ) → scope ≡ scopeOf N s → (before after : List ℕ) → Narrows (λ (b : List ℕ). agreeing xs (cells scope b)) (length scope) index s start end before after → Agreeing N r x s before after)
 unfolding agree

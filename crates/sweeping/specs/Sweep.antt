@@ -11,8 +11,7 @@ use Rattle.model.specs.Agreement.{agree}
 use Rattle.model.specs.Combination.{Combination, combinations}
 use Rattle.model.specs.LiveWords.{isLive}
 use Rattle.live.specs.Words.{WordArray}
-use Rattle.layout.specs.Setting.{Lists, Setting, networkIn, SoundLists}
-use Rattle.value_index.specs.Index.{Indexed}
+use Rattle.layout.specs.Setting.{Lists, Setting, networkIn}
 use Rattle.narrowing.specs.Narrows.{Long}
 use Rattle.sweeping.specs.declared.Swept.{Swept}
 use Rattle.sweeping.specs.Shrunk.{Shrunk}
@@ -73,11 +72,6 @@ abbrev pub Meets : Lists → List ℕ → ℕ → ℕ → ℕ → List ℕ → B
 Meets L words r x s scratch met = Long scratch × (met ≡ false → Unmet (networkIn L) words r x s)
 
 -- ---- Sweeps
-
--- Sound lists with their index.
-pub record Searchable (L : Lists) (index : List ℕ) : Type 0 where
-  pub laid : SoundLists L
-  pub indexed : Indexed (networkIn L) index
 
 -- the lists with these combinations
 abbrev pub combining : Lists → ℕ → List ℕ → Setting

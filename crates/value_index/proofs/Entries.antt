@@ -61,7 +61,7 @@ pub grows-on : (a b c : List ℕ) → Grows a b → Grows b c → Grows a c
 grows-on a b c f g = record { keeps = λ p e. g .keeps p (f .keeps p e); same = λ k h. g .same k h ∙ f .same k h }
 
 -- the index stays laid out
-pub laid-on : (a b : List ℕ) (n : ℕ) → Grows a b → length b ≡ 9220 → Laid a n → Laid b n
+pub laid-on : (a b : List ℕ) (n : ℕ) → Grows a b → length b ≡ 9284 → Laid a n → Laid b n
 laid-on a b n f l d =
     record { full = l; plan = sound-same a b (f .same) (d .plan); bits = let e = f .same 512 (omega arith) in omega (arith, e, d .bits) }
 

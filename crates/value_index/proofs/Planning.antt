@@ -63,7 +63,7 @@ module _ (size : ℕ) where
 
 -- ---- The whole plan
 
-module _ (index : List ℕ) (full : length index ≡ 9220) (words : ℕ) (d : Digits) where
+module _ (index : List ℕ) (full : length index ≡ 9284) (words : ℕ) (d : Digits) where
   -- the index once its numbers are written
   abbrev pub numbered : List ℕ
   numbered = set (set (set (set index 512 words) 513 (d .count)) 514 (d .rows)) 515 (d .factor)
@@ -77,16 +77,16 @@ module _ (index : List ℕ) (full : length index ≡ 9220) (words : ℕ) (d : Di
   abbrev three : List ℕ
   three = set two 514 (d .rows)
 
-  one-full : length one ≡ 9220
+  one-full : length one ≡ 9284
   one-full = length-set index 512 words ∙ full
 
-  two-full : length two ≡ 9220
+  two-full : length two ≡ 9284
   two-full = length-set one 513 (d .count) ∙ one-full
 
-  three-full : length three ≡ 9220
+  three-full : length three ≡ 9284
   three-full = length-set two 514 (d .rows) ∙ two-full
 
-  pub numbered-full : length numbered ≡ 9220
+  pub numbered-full : length numbered ≡ 9284
   numbered-full = length-set three 515 (d .factor) ∙ three-full
 
   module _ (final : List ℕ) (laid : LaysRelations (d .count * d .rows * words) 64 numbered final) where
@@ -121,7 +121,7 @@ module _ (index : List ℕ) (full : length index ≡ 9220) (words : ℕ) (d : Di
     column-rows n (inl e) = inl e
     column-rows n (inr f) = inr (record { behind = f .0; within = omega (arith, f .1, size-is) })
 
-    pub laid-out : (n : ℕ) → length final ≡ 9220 → Digital d → words ≤ 64 → n ≤ 64 * words → Laid final n
+    pub laid-out : (n : ℕ) → length final ≡ 9284 → Digital d → words ≤ 64 → n ≤ 64 * words → Laid final n
     laid-out n long sound short enough =
         record {
           full = long;

@@ -13,10 +13,10 @@ rowsWords = 8704
 
 -- the words of the plan, and of plan and rows
 abbrev pub planWords : ℕ
-planWords = 516
+planWords = 580
 
 abbrev pub indexWords : ℕ
-indexWords = 9220
+indexWords = 9284
 
 -- the most digits of a value
 abbrev pub maxDigits : ℕ

@@ -23,7 +23,7 @@ use plan::lay_out;
 pub mod plan; // how values are told apart
 
 // The plan's words: where each column's rows begin, how many words a row has, how many digits a value has, how many rows a digit has,
-// and what a value is multiplied by.
+// what a value is multiplied by, and each relation's variables, a bit for each.
 pub const ROW_WORDS: usize = 512;
 
 pub const DIGITS: usize = 513;
@@ -32,7 +32,9 @@ pub const DIGIT_ROWS: usize = 514;
 
 pub const FACTOR: usize = 515;
 
-pub const PLAN: usize = 516;
+pub const SCOPES: usize = 516;
+
+pub const PLAN: usize = 580;
 
 // The words of all rows.
 pub const ROWS: usize = 8704;
@@ -45,6 +47,13 @@ pub const MAX_DIGITS: usize = 4;
 
 // Hashes lie below.
 pub const HASHES: u64 = 65536;
+
+// The variables of relation r, a bit for each: a hint, by which work that changes nothing is left out.
+pub fn scope_bits(index: &Index, r: u16) -> u64
+    requires { ⌜ r < maxRelations ⌝ }
+{
+    index[SCOPES + wide(r)]
+}
 
 // Where the rows of column c of relation r begin; 0 if it has none.
 pub fn column_start(index: &Index, r: u16, c: u16) -> usize

@@ -20,6 +20,7 @@ use super::MAX_DIGITS;
 use super::PLAN;
 use super::ROW_WORDS;
 use super::ROWS;
+use super::SCOPES;
 use layout::Starts;
 use layout::relation_count;
 use layout::tuple_count;
@@ -230,6 +231,31 @@ fn lay_relations(variables: &[u16], starts: &Starts, shared: u64, size: usize, i
     }
 }
 
+// The variables of a scope, a bit for each.
+fn bits_of(scope: &[u16]) -> u64 {
+    let mut bits: u64 = 0;
+    let mut c = 0;
+    while c < scope.len() {
+        bits = bits | (1u64 << (scope[c] % 64));
+        c += 1;
+    }
+    bits
+}
+
+// Says in the index which variables each relation has.
+fn lay_scopes(variables: &[u16], starts: &Starts, index: &mut Index)
+    requires { ⌜ Full (now index) × ScopesWithin (now starts) (now variables) ⌝ }
+    ensures { λ _. ⌜ Full (exit index) ⌝ }
+{
+    let mut r: u16 = 0;
+    while wide(r) < MAX_RELATIONS {
+        let scope = variable_start(starts, r);
+        let scope_end = variable_start(starts, r + 1);
+        index[SCOPES + wide(r)] = bits_of(&variables[scope..scope_end]);
+        r += 1;
+    }
+}
+
 // How many words a row has: a bit for each tuple, and at least one word.
 fn words_of_row(starts: &Starts) -> usize
     requires { ⌜ tupleStart (now starts) maxRelations ≤ maxTuples ⌝ }
@@ -247,6 +273,7 @@ pub fn lay_out(variables: &[u16], values: &[Value], starts: &Starts, index: &mut
     requires { ⌜ Full (now index) × SoundLists (lists now variables values starts) ⌝ }
     ensures { λ _. ⌜ Laid (exit index) (total (networkIn (lists entry variables values starts))) ⌝ }
 {
+    lay_scopes(variables, starts, index);
     let words = words_of_row(starts);
     let shared = shared_variables(variables);
     let rows = rows_for(most_columns(variables, starts, shared), words as u64);

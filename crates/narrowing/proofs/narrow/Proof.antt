@@ -10,7 +10,7 @@ use Rattle.model.proofs.Agreement.{cellsOf-at}
 use Rattle.layout.specs.Setting.{Lists, networkIn}
 use Rattle.layout.proofs.SoundStarts.{tuple-start, tuple-end, ids-within, ids-few}
 use Rattle.layout.proofs.Places.{Within, below-limit, place-within, place-lengths, place-cells, place-rises, place-inside, place-scope, place-few}
-use Rattle.narrowing.proofs.Narrowing.{narrows-agreeing}
+use Rattle.narrowing.proofs.Narrowing.{agreeing-none, narrows-agreeing}
 use Rattle.narrowing.proofs.narrow.Statement.{statement}
 use Rattle.narrowing.proofs.narrow.Tie as tie
 
@@ -18,7 +18,7 @@ abbrev given : tie.Start → Lists
 given s = record { variables = s .args .variables .now; values = s .args .values .now; starts = s .args .starts .now }
 
 abbrev start : tie.After-place-of2 → tie.Start
-start c = c .before .before .before .before
+start c = c .before .before .before .before .before .before .before
 
 first : (c : tie.After-place-of2) → Within (start c .pre .1 .0 .laid) (start c .args .r) (start c .args .x) (start c .pre .1 .0 .own) (c .before .place-of .result)
 first c = place-within (start c .pre .1 .0 .laid) (start c .args .r) (start c .args .x) (start c .pre .1 .0 .own) (c .before .place-of .result) (c .before .place-of .ensures)
@@ -51,8 +51,8 @@ narrow-columns-requires c κs =
     )
 
 -- the parts narrowed are the relation narrowed for the tuple
-returns : tie.Need-returns
-returns c =
+returns-2 : tie.Need-returns-2
+returns-2 c =
     let ids = c .before .before .before .before .before in
     let places = ids .before .before in
     let s = start places in
@@ -68,18 +68,21 @@ returns c =
           (place-cells laid (a .r) (a .x) (s .pre .1 .0 .own) p (places .before .place-of .ensures) ∙ sym (cellsOf-at (networkIn (given s)) (a .r) (a .x) (s .pre .1 .0 .own)))
           (take (q .«scope_end» - q .scope) (drop (q .scope) (a .variables .now)))
           (place-scope laid (a .s) (s .pre .1 .1) q 0 (places .place-of2 .ensures))
-          (a .words .now) (c .narrow-columns .last .1 .1 .1 .1 .0) (c .narrow-columns .ensures .1),
+          (a .words .now) (c .narrow-columns .last .1 .1 .1 .1 .1 .0) (c .narrow-columns .ensures .1),
     )
 
 pub narrow-spec : {M : Type 1} → statement M
 narrow-spec =
     tie.close
     (tie.spec
-    (λ c κs. let s = c .before .before in (s .pre .1 .0 .laid .framed, below-limit (s .pre .1 .0 .laid) (s .args .r) (s .args .x) (s .pre .1 .0 .own)))
-    (λ c κs. let s = c .before .before .before in (s .pre .1 .0 .laid .framed, s .pre .1 .1))
+    (λ c κs. let s = c .before .before in below-limit (s .pre .1 .0 .laid) (s .args .r) (s .args .x) (s .pre .1 .0 .own))
+    (λ c κs. c .before .before .before .pre .1 .1)
+    (λ c. let s = c .before .before .before .before .before in (s .pre .0, agreeing-none (networkIn (given s)) (s .args .r) (s .args .x) (s .args .s) (s .args .words .now)))
+    (λ c κs. let s = c .before .before .before .before .before in (s .pre .1 .0 .laid .framed, below-limit (s .pre .1 .0 .laid) (s .args .r) (s .args .x) (s .pre .1 .0 .own)))
+    (λ c κs. let s = c .before .before .before .before .before .before in (s .pre .1 .0 .laid .framed, s .pre .1 .1))
     (λ c κs. search needs) (λ c. search needs) (λ c κs. search needs)
     (λ c. omega (arith, first (c .before .before))) (λ c. omega (arith, first (c .before .before))) (λ c. omega (arith, first (c .before .before))) (λ c. omega (arith, first (c .before .before)))
     (λ c. omega (arith, first (c .before .before .before))) (λ c. omega (arith, first (c .before .before .before))) (λ c. omega (arith, first (c .before .before .before))) (λ c. omega (arith, first (c .before .before .before)))
     (λ c. omega (arith, second (c .before .before .before .before))) (λ c. omega (arith, second (c .before .before .before .before))) (λ c. omega (arith, second (c .before .before .before .before))) (λ c. omega (arith, second (c .before .before .before .before)))
     narrow-columns-requires
-    returns)
+    returns-2)

@@ -18,12 +18,12 @@ abbrev agrees : List ℕ → List ℕ → List ℕ → List ℕ → Bool
 agrees scope-a a scope-b b = agreeing (cells scope-a a) (cells scope-b b)
 
 abbrev Inv-loop : tie.InvT-loop
-Inv-loop scope-a a scope-b index words₀ s start end j₀ words j =
+Inv-loop bits scope-a a scope-b index words₀ s start end j₀ words j =
     (j ≤ length scope-b)
     × ((length words ≡ 64) × Narrows (agrees scope-a a scope-b) (length scope-b) index s start end words₀ words)
 
 abbrev μ-loop : tie.MeasureT-loop
-μ-loop scope-a a scope-b index words₀ s start end j₀ words j = length scope-b - j
+μ-loop bits scope-a a scope-b index words₀ s start end j₀ words j = length scope-b - j
 
 -- the column reached is one
 below : (c : tie.Then1 Inv-loop μ-loop) → c .before .before .loop .j < length (c .before .before .before .before .before .before .args .scope-b .now)

@@ -14,7 +14,7 @@ returns : tie.Need-returns
 returns c =
     let s = c .before in
     let a = s .args in
-    let low : 516 ≤ a .p / 64 = omega (arith, s .pre .1 .0) in
+    let low : 580 ≤ a .p / 64 = omega (arith, s .pre .1 .0) in
     (length-set (a .index .now) (a .p / 64) _ ∙ s .pre .0, (λ k h. getD-set-other (a .index .now) (a .p / 64) k _ 0 (λ e. absurd (omega arith)), λ h. entered-one (a .index .now) (a .p) h (omega (arith, s .pre .0, s .pre .1 .1))))
 
 pub enter-spec : {M : Type 1} → statement M

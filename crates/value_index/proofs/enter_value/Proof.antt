@@ -41,10 +41,10 @@ module _ (c : tie.Then1 Inv-loop μ-loop) where
   abbrev row : ℕ
   row = rowOf index (start .args .start) (loop .loop .hash) (loop .loop .i)
 
-  within : row + rowWords index ≤ 9220
+  within : row + rowWords index ≤ 9284
   within = row-within (loop .loop .inv .1 .0 .0 .plan) (loop .loop .hash) below (loop .loop .i) reached (loop .loop .inv .1 .0 .1)
 
-  behind : 516 ≤ row
+  behind : 580 ≤ row
   behind = row-behind (loop .loop .inv .1 .0 .0 .plan) (loop .loop .hash) below (loop .loop .i) reached (loop .loop .inv .1 .0 .1)
 
 loop-holds : tie.Need-loop-holds Inv-loop μ-loop

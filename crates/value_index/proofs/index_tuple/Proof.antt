@@ -12,7 +12,7 @@ use Rattle.value_index.proofs.index_tuple.Tie as tie
 
 abbrev Inv-loop : tie.InvT-loop
 Inv-loop values at r width g index₀ c₀ index c =
-    (c ≤ width) × ((length index ≡ 9220) × (Grows index₀ index × IndexesTuple values at r c g index))
+    (c ≤ width) × ((length index ≡ 9284) × (Grows index₀ index × IndexesTuple values at r c g index))
 
 abbrev μ-loop : tie.MeasureT-loop
 μ-loop values at r width g index₀ c₀ index c = width - c

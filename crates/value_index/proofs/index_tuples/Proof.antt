@@ -13,7 +13,7 @@ use Rattle.value_index.proofs.index_tuples.Tie as tie
 
 abbrev Inv-loop : tie.InvT-loop
 Inv-loop values at r width start end index₀ g₀ p₀ index g p =
-    (start ≤ g) × ((g ≤ end) × ((p ≡ at + (g - start) * width) × ((length index ≡ 9220) × (Grows index₀ index × IndexesTuples values at r width start g index))))
+    (start ≤ g) × ((g ≤ end) × ((p ≡ at + (g - start) * width) × ((length index ≡ 9284) × (Grows index₀ index × IndexesTuples values at r width start g index))))
 
 abbrev μ-loop : tie.MeasureT-loop
 μ-loop values at r width start end index₀ g₀ p₀ index g p = end - g

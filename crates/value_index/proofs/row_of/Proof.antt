@@ -15,7 +15,7 @@ module _ (s : tie.Start) where
   few : s .args .i * digitRows (s .args .index .now) + s .args .hash * digitRows (s .args .index .now) / 65536 < 34817
   few = rows-few (s .pre .0) (s .args .hash) (s .pre .1 .1 .0) (s .args .i) (s .pre .1 .1 .1)
 
-  fits : rowOf (s .args .index .now) (s .args .start) (s .args .hash) (s .args .i) + rowWords (s .args .index .now) ≤ 9220
+  fits : rowOf (s .args .index .now) (s .args .start) (s .args .hash) (s .args .i) + rowWords (s .args .index .now) ≤ 9284
   fits = row-within (s .pre .0) (s .args .hash) (s .pre .1 .1 .0) (s .args .i) (s .pre .1 .1 .1) (s .pre .1 .0)
 
 pub row-of-spec : {M : Type 1} → statement M

@@ -21,10 +21,10 @@ scopes : {L : Lists} → SoundLists L → ScopesWithin (L .starts) (L .variables
 scopes laid = record { rises = λ r h. scope-rises (laid .framed) r h; inside = λ r h. scope-within laid r h }
 
 words-of-row-requires : tie.Need-words-of-row-requires
-words-of-row-requires c κs = let f = c .before .before .pre .1 .framed in omega (arith, tuple-count f, tuples-few f)
+words-of-row-requires c κs = let f = c .before .before .before .before .pre .1 .framed in omega (arith, tuple-count f, tuples-few f)
 
 most-columns-requires : tie.Need-most-columns-requires
-most-columns-requires c κs = scopes (c .before .before .before .before .pre .1)
+most-columns-requires c κs = scopes (c .before .before .before .before .before .before .pre .1)
 
 mul-size : tie.Need-mul-size
 mul-size c = let d = c .before .digits-for in omega (arith, few (d .result) (d .ensures))
@@ -39,21 +39,24 @@ lay-relations-requires : tie.Need-lay-relations-requires
 lay-relations-requires c κs =
     let d = c .before .before in
     let w = d .before .before .before .before .before in
-    let s = w .before .before .before in
-    (numbered-full (s .args .index .now) (s .pre .0) (w .words-of-row .result) (d .digits-for .result), scopes (s .pre .1))
+    let laid = w .before in
+    let s = laid .before .before .before .before in
+    (numbered-full (laid .lay-scopes .last .1 .1 .0) (laid .lay-scopes .ensures) (w .words-of-row .result) (d .digits-for .result), scopes (s .pre .1))
 
 returns : tie.Need-returns
 returns c =
     let d = c .before .before .before in
     let w = d .before .before .before .before .before in
-    let s = w .before .before .before in
+    let laid = w .before in
+    let s = laid .before .before .before .before in
     let f = s .pre .1 .framed in
-    laid-out (s .args .index .now) (s .pre .0) (w .words-of-row .result) (d .digits-for .result) _ (c .lay-relations .ensures .1) _ (c .lay-relations .ensures .0) (d .digits-for .ensures) (w .words-of-row .ensures .1) (omega (arith, tuple-count f, w .words-of-row .ensures .2))
+    laid-out (laid .lay-scopes .last .1 .1 .0) (laid .lay-scopes .ensures) (w .words-of-row .result) (d .digits-for .result) _ (c .lay-relations .ensures .1) _ (c .lay-relations .ensures .0) (d .digits-for .ensures) (w .words-of-row .ensures .1) (omega (arith, tuple-count f, w .words-of-row .ensures .2))
 
 pub lay-out-spec : {M : Type 1} → statement M
 lay-out-spec =
     tie.close
     (tie.spec
+    (λ c κs. let s = c .before .before .before in (s .pre .0, scopes (s .pre .1)))
     words-of-row-requires
     (λ c κs. search needs)
     most-columns-requires
