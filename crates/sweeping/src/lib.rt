@@ -4,16 +4,14 @@ ghost use Rattle.model.specs.Limits.{maxRelations, maxTuples};
 ghost use Rattle.model.specs.Combination.{combinations};
 ghost use Rattle.live.specs.Words.{WordArray};
 ghost use Rattle.layout.specs.Loan.{entry, exit};
-ghost use Rattle.layout.specs.Setting.{lists, networkIn, setting, SoundLists, Whole, Sound};
+ghost use Rattle.layout.specs.Setting.{lists, networkIn, setting, Whole, Sound};
 ghost use Rattle.value_index.specs.Index.{Indexed};
 ghost use Rattle.narrowing.specs.Narrows.{Long, Seeks, Searchable};
 ghost use Rattle.sweeping.specs.Shrunk.{Shrunk};
 ghost use Rattle.sweeping.specs.Sweep.{Besides, Few, PutAsks, Put, Meets, Revises, Sweeps, AtMost};
 use layout::Starts;
-use layout::column_of;
 use layout::relation_count;
 use layout::tuple_start;
-use layout::variable_start;
 use layout::wide;
 use live::WORDS;
 use live::Words;
@@ -25,6 +23,7 @@ use live::set;
 use model::Value;
 use narrowing::narrow_member;
 use value_index::Index;
+use value_index::scope_bits;
 
 // How many tuples were tested, and how many of them are left.
 pub struct Swept {
@@ -50,29 +49,6 @@ fn meets(
     let start = tuple_start(starts, s);
     copy_between(words, scratch, start, tuple_start(starts, s + 1));
     narrow_member(variables, values, starts, index, scratch, r, x, s)
-}
-
-// Whether the scopes have a variable in common.
-fn overlap(scope_a: &[u16], scope_b: &[u16]) -> bool {
-    let mut i = 0;
-    while i < scope_a.len() {
-        if column_of(scope_b, scope_a[i]) < scope_b.len() {
-            return true;
-        }
-        i += 1;
-    }
-    false
-}
-
-// Whether relations r and s share a variable.
-fn share(variables: &[u16], values: &[Value], starts: &Starts, r: u16, s: u16) -> bool
-    requires { ⌜ SoundLists (lists now variables values starts) × ((r < maxRelations) × (s < maxRelations)) ⌝ }
-{
-    let a = variable_start(starts, r);
-    let a_end = variable_start(starts, r + 1);
-    let b = variable_start(starts, s);
-    let b_end = variable_start(starts, s + 1);
-    overlap(&variables[a..a_end], &variables[b..b_end])
 }
 
 // Live tuples of relation r fall, and only such ones as no live tuple of relation s agrees with.
@@ -123,7 +99,7 @@ fn revise(
     requires { ⌜ WordArray (now words) × (Searchable (lists now variables values starts) (now index) × ((r < maxRelations) × (s < maxRelations))) ⌝ }
     ensures { λ n. ⌜ AtMost 1 n × Revises (lists entry variables values starts) r s (entry words) (exit words) ⌝ }
 {
-    if !share(variables, values, starts, r, s) {
+    if scope_bits(index, r) & scope_bits(index, s) == 0 {
         return Swept { tested: 0, left: 0 };
     }
     let first = tuple_start(starts, r);
