@@ -1,20 +1,17 @@
-// Sweeps before the visits: a tuple falls where no live tuple of a relation beside its own, another member of a combination, agrees with
-// it.
-ghost use Prim.Native.Nat.{_<_};
-ghost use Rattle.model.specs.Limits.{maxRelations};
+// Sweeps before the visits: tuples fall that no live tuple of a relation beside theirs, another member of a combination, agrees with.
+ghost use Prim.Native.Nat.{_*_, _≤_, _<_};
+ghost use Rattle.model.specs.Limits.{maxRelations, maxTuples};
 ghost use Rattle.model.specs.Combination.{combinations};
 ghost use Rattle.live.specs.Words.{WordArray};
 ghost use Rattle.layout.specs.Loan.{entry, exit};
-ghost use Rattle.layout.specs.Setting.{lists, setting, network, SoundLists, Whole, Sound};
+ghost use Rattle.layout.specs.Setting.{lists, networkIn, setting, Whole, Sound};
 ghost use Rattle.value_index.specs.Index.{Indexed};
 ghost use Rattle.narrowing.specs.Narrows.{Long, Seeks, Searchable};
 ghost use Rattle.sweeping.specs.Shrunk.{Shrunk};
 ghost use Rattle.sweeping.specs.Sweep.{Besides, Few, PutAsks, Put, Meets, Revises, Sweeps, AtMost};
 use layout::Starts;
-use layout::column_of;
 use layout::relation_count;
 use layout::tuple_start;
-use layout::variable_start;
 use layout::wide;
 use live::WORDS;
 use live::Words;
@@ -26,6 +23,7 @@ use live::set;
 use model::Value;
 use narrowing::narrow_member;
 use value_index::Index;
+use value_index::scope_bits;
 
 // How many tuples were tested, and how many of them are left.
 pub struct Swept {
@@ -53,30 +51,7 @@ fn meets(
     narrow_member(variables, values, starts, index, scratch, r, x, s)
 }
 
-// Whether the scopes have a variable in common.
-fn overlap(scope_a: &[u16], scope_b: &[u16]) -> bool {
-    let mut i = 0;
-    while i < scope_a.len() {
-        if column_of(scope_b, scope_a[i]) < scope_b.len() {
-            return true;
-        }
-        i += 1;
-    }
-    false
-}
-
-// Whether relations r and s share a variable.
-fn share(variables: &[u16], values: &[Value], starts: &Starts, r: u16, s: u16) -> bool
-    requires { ⌜ SoundLists (lists now variables values starts) × ((r < maxRelations) × (s < maxRelations)) ⌝ }
-{
-    let a = variable_start(starts, r);
-    let a_end = variable_start(starts, r + 1);
-    let b = variable_start(starts, s);
-    let b_end = variable_start(starts, s + 1);
-    overlap(&variables[a..a_end], &variables[b..b_end])
-}
-
-// The live tuples of relation r fall that no live tuple of relation s agrees with.
+// Live tuples of relation r fall, and only such ones as no live tuple of relation s agrees with.
 fn clear_unmet(
     variables: &[u16],
     values: &[Value],
@@ -111,7 +86,7 @@ fn clear_unmet(
     }
 }
 
-// The same where the two relations share a variable; where they do not, every tuple of the one agrees with all of the other.
+// The same where the two relations share a variable; tuples of relations that share none agree, and are not tested.
 fn revise(
     variables: &[u16],
     values: &[Value],
@@ -124,7 +99,7 @@ fn revise(
     requires { ⌜ WordArray (now words) × (Searchable (lists now variables values starts) (now index) × ((r < maxRelations) × (s < maxRelations))) ⌝ }
     ensures { λ n. ⌜ AtMost 1 n × Revises (lists entry variables values starts) r s (entry words) (exit words) ⌝ }
 {
-    if !share(variables, values, starts, r, s) {
+    if scope_bits(index, r) & scope_bits(index, s) == 0 {
         return Swept { tested: 0, left: 0 };
     }
     let first = tuple_start(starts, r);
@@ -137,7 +112,7 @@ fn revise(
     }
 }
 
-// The live tuples of relation r fall that no live tuple of some relation beside it agrees with.
+// The same for relation r and each relation beside it.
 fn sweep_relation(
     variables: &[u16],
     values: &[Value],
@@ -148,7 +123,7 @@ fn sweep_relation(
     r: u16,
 ) -> Swept
     requires { ⌜ WordArray (now words) × (Long (now beside) × (Searchable (lists now variables values starts) (now index) × (r < maxRelations))) ⌝ }
-    ensures { λ n. ⌜ AtMost 64 n × Sweeps (lists entry variables values starts) (entry beside) (entry words) (exit words) ⌝ }
+    ensures { λ n. ⌜ AtMost maxRelations n × Sweeps (lists entry variables values starts) (entry beside) (entry words) (exit words) ⌝ }
 {
     let base = r * 64;
     let end = base + 64;
@@ -164,7 +139,18 @@ fn sweep_relation(
     Swept { tested, left }
 }
 
-// A sweep over all relations. It stops, and is false, where so far less than a sixteenth of the tuples tested fell.
+// Whether so few of the tuples tested fell that it does not pay to go on: less than a quarter in combinations of two, whose visits
+// cost no more than the tests, and less than a sixteenth in larger ones.
+fn few_fell(tested: u32, left: u32, m: u16) -> bool
+    requires { ⌜ (tested ≤ maxRelations * maxRelations * maxTuples) × (left ≤ maxRelations * maxRelations * maxTuples) ⌝ }
+{
+    if m == 2 {
+        return tested * 3 < left * 4;
+    }
+    tested * 15 < left * 16
+}
+
+// A sweep over all relations. It stops, and is false, where too few fell so far.
 fn sweep(
     variables: &[u16],
     values: &[Value],
@@ -172,6 +158,7 @@ fn sweep(
     index: &Index,
     beside: &Words,
     words: &mut Words,
+    m: u16,
 ) -> bool
     requires { ⌜ WordArray (now words) × (Long (now beside) × Searchable (lists now variables values starts) (now index)) ⌝ }
     ensures { λ _. ⌜ Sweeps (lists entry variables values starts) (entry beside) (entry words) (exit words) ⌝ }
@@ -184,7 +171,7 @@ fn sweep(
         let swept = sweep_relation(variables, values, starts, index, beside, words, r);
         tested += swept.tested;
         left += swept.left;
-        if tested * 15 < left * 16 {
+        if few_fell(tested, left, m) {
             return false;
         }
         r += 1;
@@ -233,11 +220,12 @@ pub fn sweeps(
     index: &Index,
     words: &mut Words,
 )
-    requires { ⌜ WordArray (now words) × (Sound (setting now variables values starts members m) × Indexed (network (setting now variables values starts members m)) (now index)) ⌝ }
+    requires { ⌜ WordArray (now words) × Sound (setting now variables values starts members m) ⌝ }
+    requires { ⌜ Indexed (networkIn (lists now variables values starts)) (now index) ⌝ }
     ensures { λ _. ⌜ Shrunk (setting entry variables values starts members m) (entry words) (exit words) ⌝ }
 {
     let beside = all_beside(members, m);
-    if sweep(variables, values, starts, index, &beside, words) {
-        sweep(variables, values, starts, index, &beside, words);
+    if sweep(variables, values, starts, index, &beside, words, m) {
+        sweep(variables, values, starts, index, &beside, words, m);
     }
 }

@@ -18,7 +18,7 @@ use Rattle.sweeping.proofs.revise.Tie as tie
 
 module _ (c : tie.After-tuple-start2) where
   abbrev start : tie.Start
-  start = c .before .before .before .before .before .before
+  start = c .before .before .before .before .before .before .before
 
   abbrev first : ℕ
   first = c .before .tuple-start .result
@@ -61,7 +61,7 @@ returns-2 c =
 
 returns : tie.Need-returns
 returns c =
-    let s = c .before .before .before .before in
+    let s = c .before .before .before .before .before in
     let L : Lists = record { variables = s .args .variables .now; values = s .args .values .now; starts = s .args .starts .now } in
     ((omega arith, omega arith), revises-none L (s .args .r) (s .args .s) (s .pre .0))
 
@@ -69,7 +69,7 @@ pub revise-spec : {M : Type 1} → statement M
 revise-spec =
     tie.close
     (tie.spec
-    (λ c κs. search needs)
+    (λ c κs. search needs) (λ c κs. search needs)
     returns
     (λ c κs. search needs) (λ c. search needs) (λ c κs. search needs)
     (λ c κs. let read = c .before .before in asks read (start read .args .words .now) (start read .pre .0 .long))

@@ -24,13 +24,13 @@ pub sweeps-spec : {M : Type 1} → statement M
 sweeps-spec =
     tie.close
     (tie.spec
-    (λ c κs. let s = c .before .before .before .pre .1 .0 in (s .paired .list, λ q h. member-below (s .laid .framed) (s .paired) q h))
+    (λ c κs. let s = c .before .before .before .pre .0 .1 in (s .paired .list, λ q h. member-below (s .laid .framed) (s .paired) q h))
     (λ c κs.
     let s = c .before .before .before .before .before .before .pre in
-    (s .0, (c .before .before .all-beside .ensures .array .long, record { laid = s .1 .0 .laid; indexed = s .1 .1 })))
+    (s .0 .0, (c .before .before .all-beside .ensures .array .long, record { laid = s .0 .1 .laid; indexed = s .1 })))
     (λ c κs.
     let first = c .before .before .before in
     let s = given first .pre in
-    (first .sweep .ensures .0, (first .before .before .before .all-beside .ensures .array .long, record { laid = s .1 .0 .laid; indexed = s .1 .1 })))
+    (first .sweep .ensures .0, (first .before .before .before .all-beside .ensures .array .long, record { laid = s .0 .1 .laid; indexed = s .1 })))
     returns
     returns-2)

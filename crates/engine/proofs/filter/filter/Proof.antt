@@ -140,7 +140,7 @@ filter-spec =
     (λ c κs. let s = c .before .before .before .before .before .before in (search needs, record { sound = s .pre .0; short = omega (arith, needed-outline (given s .lists) (listed (given s)), s .pre .1 .short) }))
     (λ c κs. search needs) (λ c κs. search needs)
     (λ c κs. few (c .before))
-    (λ c κs. let k = c .before .before in let w = sized k in (array k, (entry w .pre .0, w .before .before .prepare .ensures .indexed)))
+    (λ c κs. let k = c .before .before in let w = sized k in ((array k, entry w .pre .0), w .before .before .prepare .ensures .indexed))
     settle-requires
     put-back-requires
     (λ c. search needs) (λ c. search needs)
