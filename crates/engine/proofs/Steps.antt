@@ -30,7 +30,8 @@ use Rattle.worklist.specs.Pairs.{queues}
 use Rattle.worklist.proofs.Stretch.{replaced, replaced-length, replaced-here, replaced-after, replaced-elsewhere}
 use Rattle.layout.specs.Setting.{Setting, network, listed, Sound, liveIn}
 use Rattle.layout.specs.Pairs.{combinationOf, sizeOf, tupleId, placeOf, held}
-use Rattle.engine.specs.Work.{Supported, Bound, Working, Done, Rest, Shrunk}
+use Rattle.worklist.specs.Supports.{Supported, Done}
+use Rattle.engine.specs.Work.{Bound, Working, Rest, Shrunk}
 use Rattle.layout.proofs.Pairs.{combination-listed, combination-length, combination-rises, tuple-relation, tuple-in, place-within, places-apart}
 
 -- every word fits in 64 bits

@@ -17,7 +17,8 @@ use Rattle.model.proofs.LiveWords.{cleared-below, cleared-length}
 use Rattle.worklist.specs.Pairs.{queues}
 use Rattle.layout.specs.Setting.{Setting, network, listed, Sound, liveIn}
 use Rattle.layout.specs.Pairs.{sizeOf, tupleId}
-use Rattle.engine.specs.Work.{Working, Done, Rest, Shrunk, Renewed, Visited}
+use Rattle.worklist.specs.Supports.{Done}
+use Rattle.engine.specs.Work.{Working, Rest, Shrunk, Renewed, Visited}
 use Rattle.engine.proofs.Steps.{Small, kept-length, kept-beyond, kept-rest, kept-working, kept-done, shrunk-refl, shrunk-trans, done-skip, removed-count, removed-working, removed-shrunk, removed-rest, removed-done}
 
 -- The visit of pair p has done the first k tuples of its member: what it has kept, and what it has made of the queue, words

@@ -9,7 +9,7 @@ use native.Mathlib.Omega.{arith}
 use lib.Dec.{eqb}
 use lib.ListN.{length, getD}
 use borrow.Author.Tests.{eq-eqb, eqb-true, not-true, not-false}
-use Rattle.model.specs.Lists.{all, any, elem}
+use Rattle.model.specs.Lists.{all, any, elem, keepIf}
 use Rattle.model.specs.Network.{Network, size, firstId, scopeOf, valuesAt, tupleOf}
 use Rattle.model.specs.Agreement.{Cell, fit, cells, clash, agreeing, under, cellsOf, agree}
 use Rattle.model.proofs.Bools.{and-intro, iff-eq, not-both}
@@ -114,6 +114,20 @@ module _ (xs vs ys ws : List ℕ) where
   agreeing-clash k l ex ey hk hl e =
       cells-false (λ (x : Cell). all (λ (y : Cell). not (clash x y)) (cells ys ws)) xs vs k ex hk
       (cells-false (λ (y : Cell). not (clash (cellAt xs vs k) y)) ys ws l ey hl (ap not e))
+
+-- ---- Cells under some of the variables
+
+-- values that are equal in every column whose variable passes the test
+pub cells-under : (test : ℕ → Bool) (xs vs ws : List ℕ) → length xs ≡ length vs → length xs ≡ length ws → ((k : ℕ) → k < length xs → test (getD xs k 0) ≡ true → getD vs k 0 ≡ getD ws k 0) → under test (cells xs vs) ≡ under test (cells xs ws)
+cells-under test [] vs ws l m f = refl
+cells-under test (x ∷ xs) [] ws l m f = absurd (omega arith)
+cells-under test (x ∷ xs) (v ∷ vs) [] l m f = absurd (omega arith)
+cells-under test (x ∷ xs) (v ∷ vs) (w ∷ ws) l m f =
+    same (test x) (f 0 (omega arith)) ∙ ap (keepIf (test x) (x, w)) (cells-under test xs vs ws (omega arith) (omega arith) (λ k h. f (suc k) (omega arith)))
+  where
+    same : (b : Bool) → (b ≡ true → v ≡ w) → keepIf b (x, v) (under test (cells xs vs)) ≡ keepIf b (x, w) (under test (cells xs vs))
+    same true e = ap {B = List Cell} (λ u. (x, u) ∷ under test (cells xs vs)) (e refl)
+    same false e = refl
 
 -- ---- Agreement of tuples
 

@@ -80,7 +80,7 @@ fn keep_words(index: &Index, words: &mut Words, first: usize, from: usize, to: u
 
 // Of the ids from start on and below end, those not indexed under the column and the value's bucket are dead, and every
 // other bit stays.
-fn keep(index: &Index, words: &mut Words, start: u16, end: u16, column: u16, value: Value)
+pub fn keep(index: &Index, words: &mut Words, start: u16, end: u16, column: u16, value: Value)
     requires { ⌜ Long (now words) × ((end ≤ maxTuples) × (column < maxWidth)) ⌝ }
     ensures { λ _. ⌜ Long (exit words) × KeptIds (isIndexed (entry index) column (bucketOf value)) start end (entry words) (exit words) ⌝ }
 {

@@ -1,0 +1,3 @@
+-- The laws of twins.
+pub mod Others
+pub mod Taking
