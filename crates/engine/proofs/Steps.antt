@@ -3,27 +3,26 @@
 use mathlib.Core.Path.{_≡_, refl, sym, _∙_, ap, subst}
 use mathlib.Core.Bool.{Bool, true, false, not, _&&_, true≢false}
 use mathlib.Core.Logic.{_⊎_, inl, inr, ⊎-elim}
-use mathlib.Core.List.{List, map, Memᴰ·cast}
+use mathlib.Core.List.{List, Memᴰ·cast}
 use Prim.Native.Nat.{ℕ, suc, _+_, _*_, _/_, _^_, _≤_, _<_}
 use native.Mathlib.Decide.{ℕ-discrete, decLt}
 use native.Mathlib.Omega.{arith}
 use lib.Dec.{eqb}
 use lib.ListN.{length, getD, take, drop}
-use lib.Seq.{take-length}
 use borrow.Author.Tests.{eqb-true, eq-eqb}
 use Rattle.model.specs.Limits.{wordBits}
-use Rattle.model.specs.Lists.{elem, earlier}
+use Rattle.model.specs.Lists.{elem}
 use Rattle.model.specs.TupleSet.{TupleSet, has, count, without, Inside}
-use Rattle.model.specs.Network.{total, size, firstId, indexOf}
+use Rattle.model.specs.Network.{total, size, firstId}
 use Rattle.model.specs.Combination.{Combination, pairMember}
 use Rattle.model.specs.Support.{firstSupport}
 use Rattle.model.specs.Consistency.{filtered, needed}
 use Rattle.model.specs.LiveWords.{isLive, cleared, written}
 use Rattle.model.proofs.Bools.{not-both}
-use Rattle.model.proofs.Lists.{mem-elem, mem-from, earlier-take, later-earlier}
+use Rattle.model.proofs.Lists.{mem-elem, mem-from}
 use Rattle.model.proofs.TupleSet.{restrict-inside, restrict-test}
 use Rattle.model.proofs.Network.{ids-below}
-use Rattle.model.proofs.Support.{isSupport-self, isSupport-agree, isSupport-mono, firstSupport-least, firstSupport-length}
+use Rattle.model.proofs.Support.{isSupport-self, isSupport-agree, isSupport-mono, firstSupport-least, firstSupport-earliest, firstSupport-length}
 use Rattle.model.proofs.LiveWords.{cleared-length, cleared-written, written-living, written-written, living-cleared, cleared-count, living-has}
 use Rattle.model.proofs.Work.{Unused, firstSupport-without, supported-without, unused-unsupported, unused-elsewhere, unused-sibling, filtered-remove}
 use Rattle.worklist.specs.Pairs.{queues}
@@ -41,9 +40,6 @@ Small ws = (i : ℕ) → i < length ws → getD ws i 0 < 2 ^ 64
 module _ (G : Setting) (sound : Sound G) where
   -- ---- A tuple that has a support
 
-  earlier-self : (xs : List ℕ) → earlier xs xs ≡ false
-  earlier-self xs = ap (λ (ys : List ℕ). earlier ys xs) (sym (take-length xs)) ∙ earlier-take (length xs) xs
-
   -- the first support is a bound
   pub first-bound : (S : TupleSet) (c : Combination) (g : ℕ) → Supported G S c g → Bound G S c g (firstSupport (network G) S c g)
   first-bound S c g s =
@@ -55,10 +51,7 @@ module _ (G : Setting) (sound : Sound G) where
         own = isSupport-self (network G) S g (f .0) (f .2);
         agreeing = isSupport-agree (network G) S g (f .0) (f .2);
         indices = f .3;
-        lowest = λ u m e. ap (earlier (map (indexOf (network G)) u)) (f .3) ∙ ⊎-elim
-            (λ q. ap (λ (t : List ℕ). earlier (map (indexOf (network G)) t) (map (indexOf (network G)) (f .0))) q ∙ earlier-self (map (indexOf (network G)) (f .0)))
-            (λ l. later-earlier (map (indexOf (network G)) u) (map (indexOf (network G)) (f .0)) l)
-            (f .4 u m e);
+        lowest = firstSupport-earliest (network G) S c g;
       })
 
   module _ (words numbers : List ℕ) (p x : ℕ) (working : Working G words numbers) (hp : p < length (G .members)) (hx : x < sizeOf G p) where

@@ -16,6 +16,7 @@ use Rattle.model.specs.Consistency.{filtered, supportList, needed}
 use Rattle.model.specs.LiveWords.{isLive, cleared, written}
 use Rattle.narrowing.specs.Index.{Indexed}
 use Rattle.worklist.specs.Supports.{SupportsFit, PairsBegin, Supported, Done}
+use Rattle.twins.specs.Twins.{Common}
 use Rattle.layout.specs.Loan.{Loan, entry, exit}
 use Rattle.layout.specs.Setting.{Setting, network, listed, liveIn, Sound}
 use Rattle.layout.specs.Pairs.{combinationOf, sizeOf, tupleId, placeOf, held}
@@ -79,11 +80,17 @@ pub record Seeker (G : Setting) (words numbers : List ℕ) (p x : ℕ) : Type 0 
   pub index : x < sizeOf G p
   pub lives : has (liveIn G words) (tupleId G p x) ≡ true
 
--- What its renewal asks: the value index, and where its numbers begin.
-pub record RenewAt (G : Setting) (index words numbers : List ℕ) (p x at : ℕ) : Type 0 where
+-- What the search for its first support asks: the value index, and where its numbers begin.
+pub record SeekAt (G : Setting) (index words numbers : List ℕ) (p x at : ℕ) : Type 0 where
   pub seeker : Seeker G words numbers p x
   pub indexed : Indexed (network G) index
   pub place : at ≡ placeOf G p x
+
+-- What its renewal asks: the tuples before it are done, and every variable that the other members have is in the set.
+pub record RenewAt (G : Setting) (index words numbers : List ℕ) (p x at set : ℕ) : Type 0 where
+  pub seek : SeekAt G index words numbers p x at
+  pub done : Done G words numbers p x
+  pub common : Common G p set
 
 -- Tuple x of pair p's member has its first support in the list, or has none and is dead; nothing else changes.
 pub record Renewed (G : Setting) (p x : ℕ) (words numbers : List ℕ) (found : Bool) (words′ numbers′ : List ℕ) : Type 0 where

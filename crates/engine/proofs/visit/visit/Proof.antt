@@ -32,11 +32,11 @@ settingOf variables values starts members m =
     record { lists = record { variables = variables; values = values; starts = starts }; members = members; m = m }
 
 abbrev Inv-loop : tie.InvT-loop
-Inv-loop variables values starts index members m pair-starts words₀ numbers₀ p r first end start waiting₀ shrunk₀ g₀ words numbers waiting shrunk g =
+Inv-loop variables values starts index members m pair-starts words₀ numbers₀ p common r first end start waiting₀ shrunk₀ g₀ words numbers waiting shrunk g =
     WalkAt (settingOf variables values starts members m) p first end (waiting₀ .words) words₀ numbers₀ (waiting .words) words numbers shrunk g
 
 abbrev μ-loop : tie.MeasureT-loop
-μ-loop variables values starts index members m pair-starts words₀ numbers₀ p r first end start waiting₀ shrunk₀ g₀ words numbers waiting shrunk g = end - g
+μ-loop variables values starts index members m pair-starts words₀ numbers₀ p common r first end start waiting₀ shrunk₀ g₀ words numbers waiting shrunk g = end - g
 
 -- ---- What it is called on
 
@@ -56,14 +56,14 @@ module _ (a : tie.Start Inv-loop μ-loop) where
 -- ---- The pair's row
 
 -- the relation read is the pair's member
-member-is : (c : tie.After-wide Inv-loop μ-loop) → (let a = c .before .before .before .before .before in getD (a .args .members .now) (c .wide .result) 0 ≡ pairMember (a .args .members .now) (a .args .p))
-member-is c = let a = c .before .before .before .before .before in ap (λ (q : ℕ). getD (a .args .members .now) q 0) (c .wide .ensures .0)
+member-is : (c : tie.After-wide Inv-loop μ-loop) → (let a = c .before .before .before .before .before .before in getD (a .args .members .now) (c .wide .result) 0 ≡ pairMember (a .args .members .now) (a .args .p))
+member-is c = let a = c .before .before .before .before .before .before in ap (λ (q : ℕ). getD (a .args .members .now) q 0) (c .wide .ensures .0)
 
-member-few : (c : tie.After-wide Inv-loop μ-loop) → getD (c .before .before .before .before .before .args .members .now) (c .wide .result) 0 < 64
-member-few c = let a = c .before .before .before .before .before in omega (arith, member-is c, member-below (sound a .laid .framed) (sound a .paired) (a .args .p) (in-members a))
+member-few : (c : tie.After-wide Inv-loop μ-loop) → getD (c .before .before .before .before .before .before .args .members .now) (c .wide .result) 0 < 64
+member-few c = let a = c .before .before .before .before .before .before in omega (arith, member-is c, member-below (sound a .laid .framed) (sound a .paired) (a .args .p) (in-members a))
 
 abbrev entry : tie.After-wide3 Inv-loop μ-loop → tie.Start Inv-loop μ-loop
-entry c = c .before .before .before .before .before .before .before .before .before .before .before
+entry c = c .before .before .before .before .before .before .before .before .before .before .before .before
 
 abbrev first : tie.After-wide3 Inv-loop μ-loop → ℕ
 first c = c .before .before .before .before .tuple-start .result
@@ -198,15 +198,19 @@ renew-requires c κs =
     let l = i .before .loop in (
       l .inv .going .wide ∙ a .pre .0 .long,
       record {
-        seeker = record {
-          sound = sound a;
-          working = l .inv .going .working;
-          pair = in-members a;
-          index = row-index (row b) (l .inv .from-first) (i .loop-test .taken);
-          lives = index-lives (row b) (l .inv) (i .loop-test .taken);
+        seek = record {
+          seeker = record {
+            sound = sound a;
+            working = l .inv .going .working;
+            pair = in-members a;
+            index = row-index (row b) (l .inv .from-first) (i .loop-test .taken);
+            lives = index-lives (row b) (l .inv) (i .loop-test .taken);
+          };
+          indexed = a .pre .1 .prepared .indexed;
+          place = place-is w;
         };
-        indexed = a .pre .1 .prepared .indexed;
-        place = place-is w;
+        done = l .inv .going .done;
+        common = b .before .before .before .before .before .before .before .variables-of-others .ensures;
       },
     )
 
@@ -264,15 +268,16 @@ visit-spec =
     (tie.spec
     Inv-loop
     μ-loop
+    (λ c κs. let a = c .before .before .before .before in record { sound = sound a; pair = in-members a })
     (λ c κs. search needs)
     (λ c. omega (arith, c .wide .ensures .1))
-    (λ c. omega (arith, c .before .wide .ensures .0, in-members (c .before .before .before .before .before .before)))
+    (λ c. omega (arith, c .before .wide .ensures .0, in-members (c .before .before .before .before .before .before .before)))
     (λ c κs. omega (arith, member-few (c .before)))
     (λ c. omega (arith, member-few (c .before .before)))
     (λ c κs. omega (arith, member-few (c .before .before)))
     (λ c κs. search needs)
     (λ c. omega (arith, c .wide2 .ensures .1))
-    (λ c. let a = c .before .before .before .before .before .before .before .before .before in omega (arith, c .wide2 .ensures .0, in-members a, sound a .paired .list .short))
+    (λ c. let a = c .before .before .before .before .before .before .before .before .before .before in omega (arith, c .wide2 .ensures .0, in-members a, sound a .paired .list .short))
     (λ c κs. search needs)
     next-requires
     loop-holds
