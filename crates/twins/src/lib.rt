@@ -126,13 +126,16 @@ fn alike(
     requires { ⌜ Long (now words) × TupleAt (lists now variables values starts) r x ⌝ }
     ensures { λ y. ⌜ Earlier (entry starts) (entry words) r x y ⌝ }
 {
+    let start = tuple_start(starts, r);
+    let end = start + x;
+    if next(words, start, end) == end {
+        return x;
+    }
     let p = place_of(starts, r, x);
     let scope = p.scope;
     let scope_end = p.scope_end;
     let tuple = p.tuple;
     let tuple_end = p.tuple_end;
-    let start = tuple_start(starts, r);
-    let end = start + x;
     let mut candidates = *words;
     keep_alike(
         &variables[scope..scope_end],
