@@ -22,7 +22,8 @@ use Rattle.model.proofs.Work.{filtered-done}
 use Rattle.model.proofs.SupportList.{needed-pairs, supportList-ext}
 use Rattle.layout.specs.Setting.{Setting, network, listed, Sound, liveIn}
 use Rattle.layout.specs.Pairs.{combinationOf, sizeOf, tupleId, held}
-use Rattle.engine.specs.Work.{Done, Rest, Shrunk}
+use Rattle.worklist.specs.Supports.{Done}
+use Rattle.engine.specs.Work.{Rest, Shrunk}
 use Rattle.engine.specs.Blank.{Blanked}
 use Rattle.layout.proofs.Pairs.{combination-length}
 use Rattle.layout.proofs.Pairs.{tuple-below}
