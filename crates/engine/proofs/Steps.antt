@@ -1,39 +1,42 @@
 -- Laws of one step of a visit: what holds once a tuple got its first support, and once one was removed.
 -- From the model's laws of what a removal leaves, and of pairs' numbers lying apart.
 use mathlib.Core.Path.{_≡_, refl, sym, _∙_, ap, subst}
-use mathlib.Core.Bool.{Bool, true, false, not, _&&_, true≢false}
+use mathlib.Core.Bool.{Bool, true, false, not, _&&_, and-true, true≢false}
 use mathlib.Core.Logic.{_⊎_, inl, inr, ⊎-elim}
-use mathlib.Core.List.{List, map, Memᴰ·cast}
-use Prim.Native.Nat.{ℕ, suc, _+_, _*_, _/_, _^_, _≤_, _<_}
+use mathlib.Core.List.{List, Memᴰ·cast}
+use Prim.Native.Nat.{ℕ, suc, _+_, _*_, _/_, _%_, _^_, _≤_, _<_}
 use native.Mathlib.Decide.{ℕ-discrete, decLt}
 use native.Mathlib.Omega.{arith}
 use lib.Dec.{eqb}
 use lib.ListN.{length, getD, take, drop}
-use lib.Seq.{take-length}
-use borrow.Author.Tests.{eqb-true, eq-eqb}
+use borrow.Author.Tests.{eqb-true, eq-eqb, ne-eqb}
 use Rattle.model.specs.Limits.{wordBits}
-use Rattle.model.specs.Lists.{elem, earlier}
+use Rattle.model.specs.Lists.{elem}
 use Rattle.model.specs.TupleSet.{TupleSet, has, count, without, Inside}
-use Rattle.model.specs.Network.{total, size, firstId, indexOf}
+use Rattle.model.specs.Network.{total, size, firstId}
 use Rattle.model.specs.Combination.{Combination, pairMember}
 use Rattle.model.specs.Support.{firstSupport}
 use Rattle.model.specs.Consistency.{needed}
 use Rattle.model.specs.LiveWords.{isLive, cleared}
 use Rattle.model.proofs.Bools.{not-both}
-use Rattle.model.proofs.Lists.{mem-elem, mem-from, earlier-take, later-earlier}
-use Rattle.model.proofs.TupleSet.{restrict-inside, restrict-test}
+use Rattle.model.proofs.Lists.{mem-elem, mem-from}
+use Rattle.model.proofs.TupleSet.{restrict-has, restrict-inside, restrict-test}
 use Rattle.model.proofs.Network.{ids-below}
-use Rattle.model.proofs.Support.{isSupport-self, isSupport-agree, isSupport-mono, firstSupport-least, firstSupport-length}
+use Rattle.model.proofs.Support.{isSupport-self, isSupport-agree, isSupport-mono, firstSupport-least, firstSupport-length, firstSupport-earliest}
 use Rattle.model.proofs.LiveWords.{cleared-length, living-cleared, cleared-count, living-has}
-use Rattle.model.proofs.Work.{Unused, firstSupport-without, supported-without, unused-unsupported, unused-elsewhere, unused-sibling}
+use Rattle.model.proofs.Work.{Unused, firstSupport-without, supported-without, unused-unsupported, unused-elsewhere, unused-sibling, filtered-remove}
+use Rattle.model.proofs.Twins.{partners-supported}
 use Rattle.worklist.specs.Pairs.{queues}
 use Rattle.worklist.proofs.Stretch.{replaced, replaced-length, replaced-here, replaced-after, replaced-elsewhere}
 use Rattle.sweeping.specs.Shrunk.{Shrunk}
 use Rattle.sweeping.proofs.Shrunk.{shrunk-removed}
 use Rattle.layout.specs.Setting.{Setting, network, listed, Sound, liveIn}
 use Rattle.layout.specs.Pairs.{combinationOf, sizeOf, tupleId, placeOf, held}
-use Rattle.engine.specs.Work.{Supported, Bound, Working, Done, Rest}
-use Rattle.layout.proofs.Pairs.{combination-listed, combination-length, combination-rises, tuple-relation, tuple-in, place-within, places-apart}
+use Rattle.engine.specs.Work.{Bound, Working, Rest}
+use Rattle.layout.proofs.Pairs.{combination-listed, combination-length, combination-rises, tuple-relation, tuple-in, place-within, places-apart, place-below}
+use Rattle.worklist.specs.Supports.{Supported, Done}
+use Rattle.twins.specs.Twins.{Entered, Noted}
+use Rattle.twins.proofs.Sought.{noted-next}
 
 -- every word fits in 64 bits
 abbrev pub Small : List ℕ → Type 0
@@ -41,9 +44,6 @@ Small ws = (i : ℕ) → i < length ws → getD ws i 0 < 2 ^ 64
 
 module _ (G : Setting) (sound : Sound G) where
   -- ---- A tuple that has a support
-
-  earlier-self : (xs : List ℕ) → earlier xs xs ≡ false
-  earlier-self xs = ap (λ (ys : List ℕ). earlier ys xs) (sym (take-length xs)) ∙ earlier-take (length xs) xs
 
   -- the first support is a bound
   pub first-bound : (S : TupleSet) (c : Combination) (g : ℕ) → Supported G S c g → Bound G S c g (firstSupport (network G) S c g)
@@ -56,10 +56,7 @@ module _ (G : Setting) (sound : Sound G) where
         own = isSupport-self (network G) S g (f .0) (f .2);
         agreeing = isSupport-agree (network G) S g (f .0) (f .2);
         indices = f .3;
-        lowest = λ u m e. ap (earlier (map (indexOf (network G)) u)) (f .3) ∙ ⊎-elim
-            (λ q. ap (λ (t : List ℕ). earlier (map (indexOf (network G)) t) (map (indexOf (network G)) (f .0))) q ∙ earlier-self (map (indexOf (network G)) (f .0)))
-            (λ l. later-earlier (map (indexOf (network G)) u) (map (indexOf (network G)) (f .0)) l)
-            (f .4 u m e);
+        lowest = firstSupport-earliest (network G) S c g;
       })
 
   module _ (words numbers : List ℕ) (p x : ℕ) (working : Working G words numbers) (hp : p < length (G .members)) (hx : x < sizeOf G p) where
@@ -104,6 +101,10 @@ module _ (G : Setting) (sound : Sound G) where
     kept-rest queue rest q hq w d y hy e =
         let r = rest q hq w d y hy e in
         (r .0, held-other q y (λ f _. d f) hq hy ∙ r .1)
+
+    -- what is noted stays so, and this tuple lives
+    pub kept-noted : has S (tupleId G p x) ≡ true → {sought sought′ : List ℕ} → Noted G words p x sought → Entered x sought sought′ → Noted G words p (suc x) sought′
+    kept-noted lives noted entered = noted-next noted entered (λ h e. e) (λ y l f. f) (λ f. absurd (not-both lives f))
 
     module _ (s : Supported G S (combinationOf G p) (tupleId G p x)) where
       pub kept-working : Working G words after
@@ -175,6 +176,24 @@ module _ (G : Setting) (sound : Sound G) where
 
     left-other : (h : ℕ) → has (liveIn G fewer) h ≡ true → g ≡ h → ⊥
     left-other h e q = not-both (restrict-test (λ y. not (eqb g y)) before h (subst (λ (X : TupleSet). has X h ≡ true) left-is e)) (ap not (eq-eqb g h q))
+
+    -- the tuples before it live as they did
+    left-before : (y : ℕ) → y < x → has (liveIn G fewer) (tupleId G p y) ≡ false → has before (tupleId G p y) ≡ false
+    left-before y l f =
+        let d : g ≡ tupleId G p y → ⊥ = λ e. omega arith in
+        sym
+        (ap (λ (X : TupleSet). has X (tupleId G p y)) left-is
+        ∙ restrict-has (λ h. not (eqb g h)) before (tupleId G p y)
+        ∙ ap (λ (b : Bool). has before (tupleId G p y) && not b) (ne-eqb g (tupleId G p y) d)
+        ∙ and-true (has before (tupleId G p y)))
+        ∙ f
+
+    -- what is noted stays so, and this tuple has no partners
+    pub removed-noted : {sought sought′ : List ℕ} → Noted G words p x sought → Entered x sought sought′ → Noted G fewer p (suc x) sought′
+    removed-noted noted entered =
+        let framed = sound .laid .framed in
+        let inside : p % G .m < length (combinationOf G p) = omega (arith, place-below framed (sound .paired) p hp, combination-length framed (sound .paired) p hp) in
+        noted-next noted entered left-inside left-before (λ _ P. none (partners-supported inside lives P))
 
     pub removed-count : count (liveIn G fewer) < count before
     removed-count = omega (arith, cleared-count n g words small (working .space .enough) below (sym (living-has n words g below) ∙ lives))

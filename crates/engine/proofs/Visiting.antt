@@ -19,8 +19,10 @@ use Rattle.sweeping.specs.Shrunk.{Shrunk}
 use Rattle.sweeping.proofs.Shrunk.{shrunk-refl, shrunk-trans}
 use Rattle.layout.specs.Setting.{Setting, network, listed, Sound, liveIn}
 use Rattle.layout.specs.Pairs.{sizeOf, tupleId}
-use Rattle.engine.specs.Work.{Working, Done, Rest, Renewed, Visited}
-use Rattle.engine.proofs.Steps.{Small, kept-length, kept-beyond, kept-rest, kept-working, kept-done, done-skip, removed-count, removed-working, removed-shrunk, removed-rest, removed-done}
+use Rattle.engine.specs.Work.{Working, Rest, Renewed, Visited}
+use Rattle.engine.proofs.Steps.{Small, kept-length, kept-beyond, kept-rest, kept-working, kept-done, done-skip, removed-count, removed-working, removed-shrunk, removed-rest, removed-done, kept-noted, removed-noted}
+use Rattle.worklist.specs.Supports.{Done}
+use Rattle.twins.specs.Twins.{Entered, Noted}
 
 -- The visit of pair p has done the first k tuples of its member: what it has kept, and what it has made of the queue, words
 -- and numbers that it began with.
@@ -31,7 +33,8 @@ pub record VisitOf (G : Setting) (p : ℕ) (queue words numbers queue′ words�
   pub beyond : drop (needed (network G) (listed G)) numbers′ ≡ drop (needed (network G) (listed G)) numbers
   pub long : length numbers′ ≡ length numbers
   pub wide : length words′ ≡ length words
-  pub done : Rest G queue words numbers (λ q. q ≡ p) → Rest G queue′ words′ numbers′ (λ q. q ≡ p) × Done G words′ numbers′ p k
+  pub rest : Rest G queue words numbers (λ q. q ≡ p) → Rest G queue′ words′ numbers′ (λ q. q ≡ p)
+  pub done : Done G words′ numbers′ p k
   pub same : shrunk ≡ false → (queue′ ≡ queue) × (words′ ≡ words)
   pub less : shrunk ≡ true → (count (liveIn G words′) < count (liveIn G words)) × ((q : ℕ) → q < length (G .members) → queues (G .m) (G .members) p q ≡ true → isLive queue′ q ≡ true)
 
@@ -46,7 +49,8 @@ module _ {G : Setting} (sound : Sound G) {p : ℕ} (hp : p < length (G .members)
         beyond = refl;
         long = refl;
         wide = refl;
-        done = λ rest. (rest, λ x l e. absurd (omega arith));
+        rest = λ all. all;
+        done = λ x l e. absurd (omega arith);
         same = λ _. (refl, refl);
         less = λ e. absurd (true≢false (sym e));
       }
@@ -62,7 +66,8 @@ module _ {G : Setting} (sound : Sound G) {p : ℕ} (hp : p < length (G .members)
           beyond = I .beyond;
           long = I .long;
           wide = I .wide;
-          done = λ rest. let d = I .done rest in (d .0, done-skip G sound words′ numbers′ p k j (d .1) dead);
+          rest = I .rest;
+          done = done-skip G sound words′ numbers′ p k j (I .done) dead;
           same = I .same;
           less = I .less;
         }
@@ -81,7 +86,8 @@ module _ {G : Setting} (sound : Sound G) {p : ℕ} (hp : p < length (G .members)
             beyond = kept-beyond G sound words′ numbers′ p k (I .working) hp hk ∙ I .beyond;
             long = kept-length G sound words′ numbers′ p k (I .working) hp hk ∙ I .long;
             wide = I .wide;
-            done = λ rest. let d = I .done rest in (kept-rest G sound words′ numbers′ p k (I .working) hp hk queue′ (d .0), kept-done G sound words′ numbers′ p k (I .working) hp hk (r .2) (d .1));
+            rest = λ all. kept-rest G sound words′ numbers′ p k (I .working) hp hk queue′ (I .rest all);
+            done = kept-done G sound words′ numbers′ p k (I .working) hp hk (r .2) (I .done);
             same = I .same;
             less = I .less;
           }))
@@ -109,13 +115,24 @@ module _ {G : Setting} (sound : Sound G) {p : ℕ} (hp : p < length (G .members)
               beyond = I .beyond;
               long = I .long;
               wide = cleared-length (tupleId G p k) words′ ∙ I .wide;
-              done = λ rest. let d = I .done rest in (removed-rest G sound words′ numbers′ (I .small) p k (I .working) hp hk lives none queue′ queue″ waits (d .0), removed-done G sound words′ numbers′ (I .small) p k (I .working) hp hk lives none (d .1));
+              rest = λ all. removed-rest G sound words′ numbers′ (I .small) p k (I .working) hp hk lives none queue′ queue″ waits (I .rest all);
+              done = removed-done G sound words′ numbers′ (I .small) p k (I .working) hp hk lives none (I .done);
               same = λ q. absurd (true≢false q);
               less = λ _. (
                 omega (arith, removed-count G sound words′ numbers′ (I .small) p k (I .working) hp hk lives none, fewer-count shrunk refl),
                 λ q l f. queued q l f (isLive queue″ q) refl,
               );
             }))
+
+      -- what is noted
+      pub going-noted : has (liveIn G words′) (tupleId G p k) ≡ true → {sought sought′ : List ℕ} → Noted G words′ p k sought → Entered k sought sought′ → Noted G words″ p (suc k) sought′
+      going-noted lives {sought} {sought′} noted entered = go found refl
+        where
+          go : (b : Bool) → found ≡ b → Noted G words″ p (suc k) sought′
+          go true e =
+              subst (λ (ws : List ℕ). Noted G ws p (suc k) sought′) (sym (R .kept e .0)) (kept-noted G sound words′ numbers′ p k (I .working) hp hk lives noted entered)
+          go false e =
+              subst (λ (ws : List ℕ). Noted G ws p (suc k) sought′) (sym (R .removed e .0)) (removed-noted G sound words′ numbers′ (I .small) p k (I .working) hp hk lives (R .removed e .2) noted entered)
 
     -- every pair that a removal queues waits already
     pub still-waits : shrunk ≡ true → (q : ℕ) → q < length (G .members) → isLive queue′ q ≡ false → (isLive queue′ q ≡ false) × (queues (G .m) (G .members) p q ≡ false)
@@ -133,13 +150,13 @@ module _ {G : Setting} (sound : Sound G) {p : ℕ} (hp : p < length (G .members)
           shrunk = I .shrinks;
           beyond = I .beyond;
           long = I .long;
-          done = λ rest q hq w _. let d = I .done rest in at d q hq w (ℕ-discrete q p);
+          done = λ all q hq w _. at (I .rest all) q hq w (ℕ-discrete q p);
           progress = go shrunk refl;
         }
       where
-        at : Rest G queue′ words′ numbers′ (λ q. q ≡ p) × Done G words′ numbers′ p k → (q : ℕ) → q < length (G .members) → isLive queue′ q ≡ false → Dec (q ≡ p) → Done G words′ numbers′ q (sizeOf G q)
-        at d q hq w (yes e) = subst (λ (r : ℕ). Done G words′ numbers′ r (sizeOf G r)) (sym e) (λ x l f. d .1 x (omega arith) f)
-        at d q hq w (no n) = d .0 q hq w n
+        at : Rest G queue′ words′ numbers′ (λ q. q ≡ p) → (q : ℕ) → q < length (G .members) → isLive queue′ q ≡ false → Dec (q ≡ p) → Done G words′ numbers′ q (sizeOf G q)
+        at rest q hq w (yes e) = subst (λ (r : ℕ). Done G words′ numbers′ r (sizeOf G r)) (sym e) (λ x l f. I .done x (omega arith) f)
+        at rest q hq w (no n) = rest q hq w n
 
         go : (b : Bool) → shrunk ≡ b → ((queue′ ≡ queue) × (words′ ≡ words)) ⊎ (count (liveIn G words′) < count (liveIn G words))
         go true e = inr (I .less e .0)

@@ -16,7 +16,8 @@ use Rattle.model.specs.Consistency.{filtered, supportList, needed}
 use Rattle.model.specs.LiveWords.{isLive, cleared, written}
 use Rattle.value_index.specs.Index.{Indexed}
 use Rattle.sweeping.specs.Shrunk.{Shrunk}
-use Rattle.worklist.specs.Supports.{SupportsFit, PairsBegin}
+use Rattle.worklist.specs.Supports.{SupportsFit, PairsBegin, Supported, Done}
+use Rattle.twins.specs.Twins.{Noted, Common}
 use Rattle.layout.specs.Loan.{Loan, entry, exit}
 use Rattle.layout.specs.Setting.{Setting, network, listed, liveIn, Sound}
 use Rattle.layout.specs.Pairs.{combinationOf, sizeOf, tupleId, placeOf, held}
@@ -42,10 +43,6 @@ pub record Prepared (G : Setting) (index begins : List ℕ) : Type 0 where
 
 -- ---- What holds while the filter works
 
--- tuple g has a support in combination c while S lives
-abbrev pub Supported : Setting → TupleSet → Combination → ℕ → Type 0
-Supported G S c g = (t : List ℕ) × List·Memᴰ t (candidates (network G) c) × (isSupport (network G) S g t ≡ true)
-
 -- The numbers are the indices of a candidate with tuple g, every two of which agree, and no support of g is earlier.
 pub record Candidate (G : Setting) (S : TupleSet) (c : Combination) (g : ℕ) (numbers : List ℕ) : Type 0 where
   pub tuples : List ℕ
@@ -64,14 +61,6 @@ pub record Working (G : Setting) (words numbers : List ℕ) : Type 0 where
   pub space : Room G words numbers
   pub bounds : (p x : ℕ) → p < length (G .members) → x < sizeOf G p → has (liveIn G words) (tupleId G p x) ≡ true → Bound G (liveIn G words) (combinationOf G p) (tupleId G p x) (held G numbers p x)
 
--- The first k tuples of pair p's member are done: those that live have their first support in the list.
-abbrev pub Done : Setting → List ℕ → List ℕ → ℕ → ℕ → Type 0
-Done G words numbers p k =
-    (x : ℕ)
-    → x < k
-    → has (liveIn G words) (tupleId G p x) ≡ true
-    → Supported G (liveIn G words) (combinationOf G p) (tupleId G p x) × (held G numbers p x ≡ firstSupport (network G) (liveIn G words) (combinationOf G p) (tupleId G p x))
-
 -- Every pair that does not wait is done, but for those of which `but` holds.
 abbrev pub Rest : Setting → List ℕ → List ℕ → List ℕ → (ℕ → Type 0) → Type 0
 Rest G queue words numbers but =
@@ -87,11 +76,18 @@ pub record Seeker (G : Setting) (words numbers : List ℕ) (p x : ℕ) : Type 0 
   pub index : x < sizeOf G p
   pub lives : has (liveIn G words) (tupleId G p x) ≡ true
 
--- What its renewal asks: the value index, and where its numbers begin.
-pub record RenewAt (G : Setting) (index words numbers : List ℕ) (p x at : ℕ) : Type 0 where
+-- What the search for its first support asks: the value index, and where its numbers begin.
+pub record SeekAt (G : Setting) (index words numbers : List ℕ) (p x at : ℕ) : Type 0 where
   pub seeker : Seeker G words numbers p x
   pub indexed : Indexed (network G) index
   pub place : at ≡ placeOf G p x
+
+-- What its renewal asks: the tuples before it are done and noted, and every variable that the other members have is in the set.
+pub record RenewAt (G : Setting) (index words numbers sought : List ℕ) (p x at set : ℕ) : Type 0 where
+  pub seek : SeekAt G index words numbers p x at
+  pub done : Done G words numbers p x
+  pub noted : Noted G words p x sought
+  pub common : Common G p set
 
 -- Tuple x of pair p's member has its first support in the list, or has none and is dead; nothing else changes.
 pub record Renewed (G : Setting) (p x : ℕ) (words numbers : List ℕ) (found : Bool) (words′ numbers′ : List ℕ) : Type 0 where

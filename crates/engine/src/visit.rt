@@ -3,7 +3,9 @@ ghost use Rattle.layout.specs.Loan.{entry, exit};
 ghost use Rattle.layout.specs.Setting.{setting};
 ghost use Rattle.narrowing.specs.Narrows.{Long};
 ghost use Rattle.live.specs.Words.{WordArray};
-ghost use Rattle.engine.specs.Work.{RenewAt, Renewed, VisitAt, Visited};
+ghost use Rattle.spreading.specs.Spread.{PairNumbers};
+ghost use Rattle.twins.specs.Twins.{Entered};
+ghost use Rattle.engine.specs.Work.{SeekAt, RenewAt, Renewed, VisitAt, Visited};
 use layout::Starts;
 use layout::tuple_start;
 use layout::wide;
@@ -13,7 +15,13 @@ use live::next;
 use model::MAX_MEMBERS;
 use model::NO_SUPPORT;
 use model::Value;
+use spreading::steps::steps_of_pair;
 use support::first_support;
+use twins::CLASSES;
+use twins::Sought;
+use twins::Twin;
+use twins::take_twin;
+use twins::variables_of_others;
 use value_index::Index;
 use worklist::list::PairStarts;
 use worklist::list::all_live;
@@ -22,8 +30,16 @@ use worklist::list::store;
 use worklist::queue::Queue;
 use worklist::queue::requeue;
 
-// Whether tuple x of pair p's member has a support: its first one is in the list then, and otherwise the tuple is dead.
-pub fn renew(
+// The steps for a search by a tuple of pair p's member.
+fn steps_at(index: &Index, members: &[u16], m: u16, p: u16) -> u64
+    requires { ⌜ PairNumbers (now members) m p ⌝ }
+{
+    steps_of_pair(index, members, wide(m), wide(p))
+}
+
+// Whether tuple x of pair p's member has a support, sought from the bound that the list holds: its first one is in the list then, and
+// otherwise the tuple is dead.
+fn seek(
     variables: &[u16],
     values: &[Value],
     starts: &Starts,
@@ -35,8 +51,9 @@ pub fn renew(
     p: u16,
     x: u16,
     at: usize,
+    steps: u64,
 ) -> bool
-    requires { ⌜ Long (now words) × RenewAt (setting now variables values starts members m) (now index) (now words) (now numbers) p x at ⌝ }
+    requires { ⌜ Long (now words) × SeekAt (setting now variables values starts members m) (now index) (now words) (now numbers) p x at ⌝ }
     ensures { λ r. ⌜ Renewed (setting entry variables values starts members m) p x (entry words) (entry numbers) r (exit words) (exit numbers) ⌝ }
 {
     let each = wide(m);
@@ -47,9 +64,6 @@ pub fn renew(
     let mut low = [0u16; MAX_MEMBERS];
     if numbers[at] != NO_SUPPORT {
         low = load(numbers, at, each);
-        if all_live(words, starts, members, base, each, low) {
-            return true;
-        }
     } else {
         low[place] = x;
     }
@@ -63,6 +77,7 @@ pub fn renew(
         place,
         x,
         low,
+        steps,
     );
     if found.ok {
         let tuples = found.tuples;
@@ -71,6 +86,111 @@ pub fn renew(
     }
     clear(words, tuple_start(starts, members[pair]) + x);
     false
+}
+
+// The same for a tuple that may have a twin: it takes that one's support with x put in, or falls as that one fell, or seeks its own.
+fn replace(
+    variables: &[u16],
+    values: &[Value],
+    starts: &Starts,
+    index: &Index,
+    members: &[u16],
+    m: u16,
+    words: &mut Words,
+    numbers: &mut [u16],
+    sought: &mut Sought,
+    p: u16,
+    x: u16,
+    at: usize,
+    common: u64,
+    steps: u64,
+) -> bool
+    requires { ⌜ Long (now words) × RenewAt (setting now variables values starts members m) (now index) (now words) (now numbers) (now sought) p x at common ⌝ }
+    ensures { λ r. ⌜ Renewed (setting entry variables values starts members m) p x (entry words) (entry numbers) r (exit words) (exit numbers) ⌝ }
+    ensures { λ _. ⌜ Entered x (entry sought) (exit sought) ⌝ }
+{
+    let twin = take_twin(
+        variables,
+        values,
+        starts,
+        members,
+        m,
+        words,
+        numbers,
+        sought,
+        p,
+        x,
+        at,
+        common,
+    );
+    match twin {
+        Twin::Taken => true,
+        Twin::Fallen => {
+            clear(words, tuple_start(starts, members[wide(p)]) + x);
+            false
+        }
+        Twin::None => seek(
+            variables,
+            values,
+            starts,
+            index,
+            members,
+            m,
+            words,
+            numbers,
+            p,
+            x,
+            at,
+            steps,
+        ),
+    }
+}
+
+// Whether tuple x of pair p's member has a support: its first one is in the list then, and otherwise the tuple is dead. It is the one held
+// if that lives.
+pub fn renew(
+    variables: &[u16],
+    values: &[Value],
+    starts: &Starts,
+    index: &Index,
+    members: &[u16],
+    m: u16,
+    words: &mut Words,
+    numbers: &mut [u16],
+    sought: &mut Sought,
+    p: u16,
+    x: u16,
+    at: usize,
+    common: u64,
+    steps: u64,
+) -> bool
+    requires { ⌜ Long (now words) × RenewAt (setting now variables values starts members m) (now index) (now words) (now numbers) (now sought) p x at common ⌝ }
+    ensures { λ r. ⌜ Renewed (setting entry variables values starts members m) p x (entry words) (entry numbers) r (exit words) (exit numbers) ⌝ }
+    ensures { λ _. ⌜ Entered x (entry sought) (exit sought) ⌝ }
+{
+    let each = wide(m);
+    if numbers[at] != NO_SUPPORT {
+        let held = load(numbers, at, each);
+        if all_live(words, starts, members, wide(p) / each * each, each, held) {
+            return true;
+        }
+    }
+    replace(
+        variables,
+        values,
+        starts,
+        index,
+        members,
+        m,
+        words,
+        numbers,
+        sought,
+        p,
+        x,
+        at,
+        common,
+        steps,
+    )
 }
 
 // Each live tuple of pair p's member has its first support in the list, or is dead. The pairs that wait now are given back.
@@ -90,10 +210,13 @@ pub fn visit(
     requires { ⌜ WordArray (now words) × VisitAt (setting now variables values starts members m) (now index) (now «pair_starts») (now words) (now numbers) p ⌝ }
     ensures { λ r. ⌜ Visited (setting entry variables values starts members m) p (queue .words) (entry words) (entry numbers) (r .words) (exit words) (exit numbers) ⌝ }
 {
+    let common = variables_of_others(variables, values, starts, members, m, p);
+    let steps = steps_at(index, members, m, p);
     let r = members[wide(p)];
     let first = tuple_start(starts, r);
     let end = tuple_start(starts, r + 1);
     let start = wide(pair_starts[wide(p)]);
+    let mut sought = [NO_SUPPORT; CLASSES];
     let mut waiting = queue;
     let mut shrunk = false;
     let mut g = next(words, first, end);
@@ -109,9 +232,12 @@ pub fn visit(
             m,
             words,
             numbers,
+            &mut sought,
             p,
             x,
             at,
+            common,
+            steps,
         ) {
             if !shrunk {
                 waiting = requeue(waiting, members, m, p);

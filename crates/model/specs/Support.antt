@@ -1,9 +1,10 @@
 -- Supports of a tuple in a combination, in the papers' order.
-use mathlib.Core.Bool.{Bool, not, _&&_}
+use mathlib.Core.Path.{_≡_}
+use mathlib.Core.Bool.{Bool, true, not, _&&_}
 use mathlib.Core.Option.{Option}
-use mathlib.Core.List.{List, _++_, map, head?}
-use Prim.Native.Nat.{ℕ}
-use lib.ListN.{length, replicate}
+use mathlib.Core.List.{List, _++_, map, head?, List·Memᴰ}
+use Prim.Native.Nat.{ℕ, _<_}
+use lib.ListN.{length, getD, replicate}
 use Rattle.model.specs.Limits.{noSupport}
 use Rattle.model.specs.Lists.{all, elem, select, firstOr, pairwise, choices, earlier}
 use Rattle.model.specs.TupleSet.{TupleSet, has}
@@ -26,6 +27,15 @@ supports N S c g = select (isSupport N S g) (candidates N c)
 -- the indices of the first support, one for each member; 65,535 for each where there is none
 unfoldable pub firstSupport : Network → TupleSet → Combination → ℕ → List ℕ
 firstSupport N S c g = firstOr (replicate (length c) noSupport) (map (map (indexOf N)) (supports N S c g))
+
+-- Partners of tuple g of the member at place j, while S lives: a live tuple of each other member, so that every two of all agree.
+-- Whether g lives does not matter.
+pub record Partners (N : Network) (S : TupleSet) (c : Combination) (j g : ℕ) : Type 0 where
+  pub tuples : List ℕ
+  pub candidate : List·Memᴰ tuples (candidates N c)
+  pub own : getD tuples j 0 ≡ g
+  pub living : (i : ℕ) → i < length c → (i ≡ j → ⊥) → has S (getD tuples i 0) ≡ true
+  pub agreeing : pairwise (agree N) tuples ≡ true
 
 -- ---- From a place in the order
 

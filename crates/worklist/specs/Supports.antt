@@ -1,15 +1,19 @@
--- The support list: where each pair's numbers begin, and the tuples that a support names.
+-- The support list: where each pair's numbers begin, the tuples that a support names, and when a pair's tuples are done.
 use mathlib.Core.Path.{_≡_}
-use mathlib.Core.Bool.{Bool}
-use mathlib.Core.List.{List, _++_}
+use mathlib.Core.Bool.{Bool, true}
+use mathlib.Core.List.{List, _++_, List·Memᴰ}
 use Prim.Native.Nat.{ℕ, _+_, _*_, _≤_, _<_}
 use lib.ListN.{length, getD, take, drop}
 use Rattle.model.specs.Limits.{maxRelations, maxTuples, maxMembers, maxSupportNumbers, wordBits}
 use Rattle.model.specs.Lists.{from, all}
+use Rattle.model.specs.TupleSet.{TupleSet, has}
 use Rattle.model.specs.LiveWords.{isLive}
-use Rattle.model.specs.Combination.{combinations}
+use Rattle.model.specs.Combination.{Combination, combinations}
+use Rattle.model.specs.Support.{candidates, isSupport, firstSupport}
 use Rattle.model.specs.Consistency.{needed, supportStart}
 use Rattle.layout.specs.Starts.{tupleStart, outline}
+use Rattle.layout.specs.Setting.{Setting, network, liveIn}
+use Rattle.layout.specs.Pairs.{combinationOf, tupleId, held}
 
 -- the list with `new` in place of the m elements from `at` on
 abbrev pub replaced {ℓ} : {A : Type ℓ} → List A → List A → ℕ → ℕ → List A
@@ -46,3 +50,17 @@ pub record Chosen (words starts members : List ℕ) (base m : ℕ) (tuples : Lis
   pub relations : (j : ℕ) → j < m → getD members (base + j) 0 < maxRelations
   pub ids : (j : ℕ) → j < m → chosenId starts members base tuples j < maxTuples
   pub bits : (j : ℕ) → j < m → chosenId starts members base tuples j < wordBits * length words
+
+-- ---- What is done
+
+-- tuple g has a support in combination c while S lives
+abbrev pub Supported : Setting → TupleSet → Combination → ℕ → Type 0
+Supported G S c g = (t : List ℕ) × List·Memᴰ t (candidates (network G) c) × (isSupport (network G) S g t ≡ true)
+
+-- The first k tuples of pair p's member are done: those that live have their first support in the list.
+abbrev pub Done : Setting → List ℕ → List ℕ → ℕ → ℕ → Type 0
+Done G words numbers p k =
+    (x : ℕ)
+    → x < k
+    → has (liveIn G words) (tupleId G p x) ≡ true
+    → Supported G (liveIn G words) (combinationOf G p) (tupleId G p x) × (held G numbers p x ≡ firstSupport (network G) (liveIn G words) (combinationOf G p) (tupleId G p x))

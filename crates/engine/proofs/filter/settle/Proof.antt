@@ -17,7 +17,7 @@ use Rattle.layout.proofs.Outline.{needed-outline}
 use Rattle.engine.proofs.Blanks.{blanked-network}
 use Rattle.layout.specs.Setting.{Setting, network, listed, Sound}
 use Rattle.layout.specs.Pairs.{sizeOf}
-use Rattle.engine.specs.Work.{Done}
+use Rattle.worklist.specs.Supports.{Done}
 use Rattle.engine.proofs.Start.{filled-long, filled-beyond, filled-working, full-rest}
 use Rattle.sweeping.proofs.Shrunk.{shrunk-refl, shrunk-array}
 use Rattle.engine.proofs.Turn.{Progress, weight, weight-less, underway}

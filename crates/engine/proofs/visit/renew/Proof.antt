@@ -1,28 +1,19 @@
--- `visit::renew` meets its contract: what is held lives and is the first support, or it is the bound from which the search starts.
+-- `visit::renew` meets its contract: what is held lives and is the first support, or it is replaced.
 -- From the laws of the numbers held for a tuple, and the contracts of the functions called.
-use mathlib.Core.Path.{_≡_, sym, _∙_, ap, ap₂, subst}
-use mathlib.Core.Bool.{Bool, true, false}
-use mathlib.Core.Logic.{⊎-elim}
+use mathlib.Core.Path.{_≡_, refl, sym, _∙_, ap, ap₂, subst}
+use mathlib.Core.Bool.{Bool, true, true≢false}
 use mathlib.Core.List.{List, _++_}
-use Prim.Native.Nat.{ℕ, _+_, _-_, _*_, _/_, _%_, _≤_, _<_}
-use native.Mathlib.Nat.{div-mul-le-self, mod-lt, add-sub-cancel-left}
+use Prim.Native.Nat.{ℕ, _+_, _-_, _*_, _/_, _≤_}
+use native.Mathlib.Nat.{div-mul-le-self}
 use native.Mathlib.Omega.{arith}
-use lib.ListN.{length, getD, take, drop, set, replicate}
+use lib.ListN.{length, getD, take, drop, replicate}
 use borrow.Author.Needs.{needs}
 use Rattle.model.specs.Limits.{maxMembers, noSupport}
-use Rattle.model.specs.Network.{total}
-use Rattle.model.specs.LiveWords.{cleared}
-use Rattle.model.specs.Support.{supportFrom}
 use Rattle.worklist.specs.Supports.{Chosen, allLive}
-use Rattle.support.specs.Search.{Search, netOf, liveOf, SoundSearch, answer}
-use Rattle.support.specs.Search as support
-use Rattle.layout.specs.Starts.{tupleStart}
-use Rattle.layout.specs.Setting.{Setting, network, Sound}
-use Rattle.layout.specs.Pairs.{combinationOf, tupleId, placeOf}
-use Rattle.engine.specs.Work.{Seeker, Renewed}
-use Rattle.layout.proofs.SoundStarts.{tuples-few, tuple-start}
-use Rattle.layout.proofs.Pairs.{member-below, tuple-below, base-within}
-use Rattle.engine.proofs.Bounds.{held-inside, loaded, lead, chosen, renewed-held, lowOf, low-none, low-held, searched, ready, renewed-found, renewed-none}
+use Rattle.layout.specs.Setting.{Setting, Sound}
+use Rattle.twins.proofs.Sought.{entered-none}
+use Rattle.engine.specs.Work.{Seeker, SeekAt, Renewed}
+use Rattle.engine.proofs.Bounds.{held-inside, loaded, lead, chosen, renewed-held}
 use Rattle.engine.proofs.visit.renew.Statement.{statement}
 use Rattle.engine.proofs.visit.renew.Tie as tie
 
@@ -38,120 +29,40 @@ module _ (a : tie.Start) where
       }
 
   abbrev seeker : Seeker G (a .args .words .now) (a .args .numbers .now) (a .args .p) (a .args .x)
-  seeker = a .pre .1 .seeker
+  seeker = a .pre .1 .seek .seeker
 
   abbrev sound : Sound G
   sound = seeker .sound
 
-  abbrev in-members : a .args .p < length (a .args .members .now)
-  in-members = seeker .pair
-
-  abbrev is-at : a .args .at ≡ placeOf G (a .args .p) (a .args .x)
-  is-at = a .pre .1 .place
-
   inside : a .args .at + a .args .m ≤ length (a .args .numbers .now)
-  inside = omega (arith, is-at, held-inside seeker)
+  inside = omega (arith, a .pre .1 .seek .place, held-inside seeker)
 
-  abbrev baseOf : ℕ
-  baseOf = a .args .p / a .args .m * a .args .m
+abbrev entry : tie.After-wide → tie.Start
+entry c = c .before .before .before .before .before
 
-  abbrev loadedOf : List ℕ
-  loadedOf = loaded seeker
+each-is : (c : tie.After-wide) → c .wide .result ≡ entry c .args .m
+each-is c = c .wide .ensures .0
 
-abbrev entry : tie.After-wide2 → tie.Start
-entry c = c .before .before .before .before .before .before
+-- ---- What is held
 
--- ---- The numbers as they are read
+abbrev begun : tie.After-wide2 → tie.After-wide
+begun c = c .before .before .before .before .before .before .before
 
-each-is : (c : tie.After-wide2) → c .before .wide .result ≡ entry c .args .m
-each-is c = c .before .wide .ensures .0
+base-is : (c : tie.After-wide2) → (let w = begun c in let a = entry w in c .wide2 .result / w .wide .result * w .wide .result ≡ a .args .p / a .args .m * a .args .m)
+base-is c = ap₂ (λ (q n : ℕ). q / n * n) (c .wide2 .ensures .0) (each-is (begun c))
 
-pair-is : (c : tie.After-wide2) → c .wide2 .result ≡ entry c .args .p
-pair-is c = c .wide2 .ensures .0
-
-base-is : (c : tie.After-wide2) → c .wide2 .result / c .before .wide .result * c .before .wide .result ≡ baseOf (entry c)
-base-is c = ap₂ (λ (q n : ℕ). q / n * n) (pair-is c) (each-is c)
-
-place-is : (c : tie.After-wide2) → c .wide2 .result % c .before .wide .result ≡ entry c .args .p % entry c .args .m
-place-is c = ap₂ (λ (q n : ℕ). q % n) (pair-is c) (each-is c)
-
-place-small : (c : tie.After-wide2) → c .wide2 .result % c .before .wide .result < maxMembers
-place-small c =
-    let a = entry c in
-    omega (arith, place-is c, mod-lt (a .args .p) (sound a .paired .list .positive), sound a .paired .list .few)
-
-end-is : (c : tie.After-wide2) → c .wide2 .result / c .before .wide .result * c .before .wide .result + c .before .wide .result ≤ length (entry c .args .members .now)
-end-is c = omega (arith, base-is c, each-is c, base-within (sound (entry c) .laid .framed) (sound (entry c) .paired) (entry c .args .p) (in-members (entry c)))
-
--- the numbers loaded
-loaded-is : (w : tie.After-wide2) {low : List ℕ} → (let a = entry w in let n = w .before .wide .result in low ≡ take n (drop (a .args .at) (a .args .numbers .now)) ++ replicate (maxMembers - n) 0) → low ≡ loadedOf (entry w)
-loaded-is w e =
+loaded-is : (c : tie.After-load) → (let a = entry (c .before .before .before .before) in c .load .result ≡ loaded (seeker a))
+loaded-is c =
+    let w = c .before .before .before .before in
     let a = entry w in
-    e ∙ ap₂ (λ (n at : ℕ). take n (drop at (a .args .numbers .now)) ++ replicate (maxMembers - n) 0) (each-is w) (is-at a)
-
-lead-is : (a : tie.Start) → getD (a .args .numbers .now) (a .args .at) 0 ≡ lead (seeker a)
-lead-is a = ap (λ (i : ℕ). getD (a .args .numbers .now) i 0) (is-at a)
+    c .load .ensures
+    ∙ ap₂ (λ (n at : ℕ). take n (drop at (a .args .numbers .now)) ++ replicate (maxMembers - n) 0) (each-is w) (a .pre .1 .seek .place)
 
 -- the first number is an index
 is-index : (c : tie.Then1) → lead (seeker (entry (c .before .before))) ≡ noSupport → ⊥
-is-index c e = c .if1 .taken (lead-is (entry (c .before .before)) ∙ e)
-
-low-is : (c : tie.Joined1) → c .if1 .low ≡ lowOf (seeker (entry (c .before .before)))
-low-is c =
-    let w = c .before .before in
-    let a = entry w in
-    ⊎-elim
-    {C = c .if1 .low ≡ lowOf (seeker a)}
-    (λ t. t .7 ∙ loaded-is w (t .2 .ensures) ∙ sym (low-held (seeker a) (λ e. t .0 .taken (lead-is a ∙ e))))
-    (λ t. t .1 ∙ ap (λ (q : ℕ). set (replicate maxMembers 0) q (a .args .x)) (place-is w) ∙ sym (low-none (seeker a) (sym (lead-is a) ∙ t .0 .left)))
-    (c .if1 .came)
-
--- the combination
-part-is : (c : tie.After-wide2) → (let a = entry c in let n = c .before .wide .result in let b = c .wide2 .result / n * n in take (b + n - b) (drop b (a .args .members .now)) ≡ combinationOf (G a) (a .args .p))
-part-is c =
-    let a = entry c in
-    let n = c .before .wide .result in
-    let b = c .wide2 .result / n * n in
-    ap (λ (k : ℕ). take k (drop b (a .args .members .now))) (add-sub-cancel-left b n)
-    ∙ ap₂ (λ (k d : ℕ). take k (drop d (a .args .members .now))) (each-is c) (base-is c)
-
--- the search
-abbrev searchOf : tie.Start → List ℕ → ℕ → List ℕ → Search
-searchOf a members place low =
-    record { lists = G a .lists; words = a .args .words .now; members = members; place = place; own = a .args .x; low = low }
-
-search-is : (c : tie.Joined1) → (let w = c .before .before in let a = entry w in let n = w .before .wide .result in let b = w .wide2 .result / n * n in searchOf a (take (b + n - b) (drop b (a .args .members .now))) (w .wide2 .result % n) (c .if1 .low) ≡ searched (seeker a))
-search-is c =
-    let w = c .before .before in
-    let a = entry w in
-    ap₂ (λ (ms : List ℕ) (q : ℕ). searchOf a ms q (c .if1 .low)) (part-is w) (place-is w)
-    ∙ ap (searchOf a (combinationOf (G a) (a .args .p)) (a .args .p % a .args .m)) (low-is c)
-
--- what it answers
-answer-is : (c : tie.After-first-support) → (let a = entry (c .before .before .before .before .before) in let Q = searched (seeker a) in answer (c .first-support .result .ok) (take (length (Q .members)) (c .first-support .result .tuples)) ≡ supportFrom (netOf Q) (liveOf Q) (Q .members) (support.seeker Q) (Q .low))
-answer-is c =
-    subst (λ (Q : Search). answer (c .first-support .result .ok) (take (length (Q .members)) (c .first-support .result .tuples)) ≡ supportFrom (netOf Q) (liveOf Q) (Q .members) (support.seeker Q) (Q .low))
-    (search-is (c .before .before .before))
-    (c .first-support .ensures)
-
--- ---- The tuple's id
-
-abbrev looked : tie.After-tuple-start → tie.After-wide2
-looked c = c .before .before .before .before .before .before .before .before .before
-
-id-is : (c : tie.After-tuple-start) → (let a = entry (looked c) in c .tuple-start .result + a .args .x ≡ tupleId (G a) (a .args .p) (a .args .x))
-id-is c =
-    let a = entry (looked c) in
-    let h = member-below (sound a .laid .framed) (sound a .paired) (a .args .p) (in-members a) in
-    ap (λ (g : ℕ). g + a .args .x)
-    (c .tuple-start .ensures
-    ∙ ap (λ (q : ℕ). tupleStart (a .args .starts .now) (getD (a .args .members .now) q 0)) (pair-is (looked c))
-    ∙ tuple-start (sound a .laid .framed) (getD (a .args .members .now) (a .args .p) 0) (omega arith))
-
-id-below : (c : tie.After-tuple-start) → (let a = entry (looked c) in c .tuple-start .result + a .args .x < total (network (G a)))
-id-below c = let a = entry (looked c) in omega (arith, id-is c, tuple-below (sound a) (a .args .p) (a .args .x) (in-members a) (seeker a .index))
-
--- ---- The needs
+is-index c e =
+    let a = entry (c .before .before) in
+    c .if1 .taken (ap (λ (i : ℕ). getD (a .args .numbers .now) i 0) (a .pre .1 .seek .place) ∙ e)
 
 load-requires : tie.Need-load-requires
 load-requires c κs =
@@ -161,92 +72,53 @@ load-requires c κs =
 
 all-live-requires : tie.Need-all-live-requires
 all-live-requires c κs =
-    let l = c .before .before in
-    let w = l .before .before .before .before in
+    let l = c .before .before .before in
+    let w = begun c in
     let a = entry w in
     let ws = a .args .words .now in
     let ts = a .args .starts .now in
     let ms = a .args .members .now in
-    subst (λ (n : ℕ). Chosen ws ts ms (w .wide2 .result / w .before .wide .result * w .before .wide .result) n (l .load .result)) (sym (each-is w))
-    (subst (λ (b : ℕ). Chosen ws ts ms b (a .args .m) (l .load .result)) (sym (base-is w))
-    (subst (Chosen ws ts ms (baseOf a) (a .args .m)) (sym (loaded-is w (l .load .ensures)))
+    subst (λ (n : ℕ). Chosen ws ts ms (c .wide2 .result / w .wide .result * w .wide .result) n (l .load .result)) (sym (each-is w))
+    (subst (λ (b : ℕ). Chosen ws ts ms b (a .args .m) (l .load .result)) (sym (base-is c))
+    (subst (Chosen ws ts ms (a .args .p / a .args .m * a .args .m) (a .args .m)) (sym (loaded-is l))
     (chosen (seeker a) (is-index (l .before .before)))))
 
 returns : tie.Need-returns
 returns c =
-    let l = c .before .before .before .before in
-    let w = l .before .before .before .before in
+    let q = c .before .before in
+    let l = q .before .before .before in
+    let w = begun q in
     let a = entry w in
-    let live : ℕ → ℕ → List ℕ → Bool = λ b n is. allLive (a .args .words .now) (a .args .starts .now) (a .args .members .now) b n is in
-    renewed-held (seeker a)
-    (is-index (l .before .before))
-    (sym
-    (c .before .all-live .ensures
-    ∙ ap₂ (λ (b n : ℕ). live b n (l .load .result)) (base-is w) (each-is w)
-    ∙ ap (live (baseOf a) (a .args .m)) (loaded-is w (l .load .ensures)))
-    ∙ c .if2 .taken)
+    let live : ℕ → ℕ → List ℕ → Bool = λ b n is. allLive (a .args .words .now) (a .args .starts .now) (a .args .members .now) b n is in (
+      renewed-held (seeker a)
+          (is-index (l .before .before))
+          (sym
+          (c .before .all-live .ensures
+          ∙ ap₂ (λ (b n : ℕ). live b n (l .load .result)) (base-is q) (each-is w)
+          ∙ ap (live (a .args .p / a .args .m * a .args .m) (a .args .m)) (loaded-is l))
+          ∙ c .if2 .taken),
+      entered-none (a .args .x) (a .args .sought .now),
+    )
 
-first-support-requires : tie.Need-first-support-requires
-first-support-requires c κs =
-    let b = c .before .before in
-    let w = b .before .before in
-    let a = entry w in
-    (a .pre .0, record { sound = subst SoundSearch (sym (search-is b)) (ready (seeker a)); indexed = a .pre .1 .indexed })
-
-store-requires : tie.Need-store-requires
-store-requires c κs =
-    let w = c .before .before .before .before .before .before .before .before in
-    let a = entry w in
-    (omega (arith, each-is w, inside a), omega (arith, each-is w, sound a .paired .list .few))
+replace-requires : tie.Need-replace-requires
+replace-requires c κs = entry (c .before .before .before .before .before) .pre
 
 returns-2 : tie.Need-returns-2
-returns-2 c =
-    let f = c .before .before .before .before .before .before in
-    let w = f .before .before .before .before .before in
-    let a = entry w in
-    subst (Renewed (G a) (a .args .p) (a .args .x) (a .args .words .now) (a .args .numbers .now) true (a .args .words .now))
-    (sym
-    (c .before .before .store .ensures
-    ∙ ap₂ (λ (at n : ℕ). take at (a .args .numbers .now) ++ take n (f .first-support .result .tuples) ++ drop (at + n) (a .args .numbers .now)) (is-at a) (each-is w)))
-    (renewed-found (seeker a)
-    (f .first-support .result .ok) (f .first-support .result .tuples) (answer-is f) (c .before .before .before .before .before .if3 .taken))
-
-returns-3 : tie.Need-returns-3
-returns-3 c =
-    let l = c .before in
-    let f = l .before .before .before .before in
-    let a = entry (looked l) in
-    subst (λ (ws : List ℕ). Renewed (G a) (a .args .p) (a .args .x) (a .args .words .now) (a .args .numbers .now) false ws (a .args .numbers .now))
-    (sym (c .clear .ensures ∙ ap (λ (g : ℕ). cleared g (a .args .words .now)) (id-is l)))
-    (renewed-none (seeker a)
-    (f .first-support .result .ok) (f .first-support .result .tuples) (answer-is f) (l .before .before .before .if3 .left))
+returns-2 c = c .before .before .replace .ensures
 
 pub renew-spec : {M : Type 1} → statement M
 renew-spec =
     tie.close
     (tie.spec
-    (λ c κs. search needs) (λ c κs. search needs) (λ c. search needs)
-    (λ c. omega (arith, div-mul-le-self (c .wide2 .result) (c .before .wide .result)))
-    (λ c. omega (arith, div-mul-le-self (c .wide2 .result) (c .before .wide .result)))
-    (λ c. search needs)
-    (λ c. let i = inside (entry c) in search needs)
+    (λ c κs. search needs) (λ c. let i = inside (entry c) in search needs)
     (λ c. let a = entry (c .before) in omega (arith, inside a, sound a .paired .list .positive))
     load-requires
+    (λ c κs. search needs)
+    (λ c. let w = begun c in omega (arith, each-is w, sound (entry w) .paired .list .positive))
+    (λ c. omega (arith, div-mul-le-self (c .wide2 .result) (begun c .wide .result)))
     all-live-requires
     (λ c. search needs)
     returns
-    (λ c. omega (arith, place-small (c .before .before)))
-    (λ c. place-small (c .before .before))
-    (λ c. let w = c .before .before .before in omega (arith, div-mul-le-self (w .wide2 .result) (w .before .wide .result)))
-    (λ c. search needs) (λ c. search needs)
-    (λ c. end-is (c .before .before .before))
-    first-support-requires
-    store-requires
+    replace-requires
     (λ c. search needs)
-    returns-2
-    (λ c. search needs)
-    (λ c. let w = c .before .before .before .before .before .before .before .before in omega (arith, pair-is w, in-members (entry w)))
-    (λ c κs. let w = c .before .before .before .before .before .before .before .before in let a = entry w in let h = member-below (sound a .laid .framed) (sound a .paired) (a .args .p) (in-members a) in subst (λ (q : ℕ). getD (a .args .members .now) q 0 < 65) (sym (pair-is w)) (omega arith))
-    (λ c. let a = entry (looked c) in omega (arith, id-below c, tuples-few (sound a .laid .framed)))
-    (λ c κs. let a = entry (looked c) in omega (arith, id-below c, seeker a .working .space .enough))
-    returns-3)
+    returns-2)

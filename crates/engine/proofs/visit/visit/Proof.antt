@@ -9,6 +9,7 @@ use native.Mathlib.Nat.{zero-mul}
 use native.Mathlib.Omega.{arith}
 use lib.ListN.{length, getD}
 use borrow.Author.Needs.{needs}
+use Rattle.spreading.proofs.Numbers.{pair-numbers}
 use borrow.Author.Tests.{not-true, not-false}
 use Rattle.model.specs.Combination.{pairMember}
 use Rattle.model.specs.LiveWords.{isLive}
@@ -17,11 +18,13 @@ use Rattle.worklist.specs.declared.queue.Queue.{Queue}
 use Rattle.layout.specs.Starts.{tupleStart}
 use Rattle.layout.specs.Setting.{Setting, Sound}
 use Rattle.layout.specs.Pairs.{placeOf}
+use Rattle.twins.specs.Twins.{Noted}
+use Rattle.twins.proofs.Sought.{noted-none, noted-more}
 use Rattle.engine.specs.Work.{Working}
 use Rattle.layout.proofs.SoundStarts.{tuples-few}
 use Rattle.layout.proofs.Outline.{supportStart-outline}
 use Rattle.layout.proofs.Pairs.{member-below}
-use Rattle.engine.proofs.Visiting.{VisitOf, going-kept, going-removed, still-waits, requeued-waits}
+use Rattle.engine.proofs.Visiting.{VisitOf, going-kept, going-removed, going-noted, still-waits, requeued-waits}
 use Rattle.engine.proofs.Walking.{WalkAt, come-first, come-end, index-lives, come-more, place-short}
 use Rattle.layout.proofs.Rows.{Row, row-of, row-total, row-asks, row-index, next-ahead}
 use Rattle.engine.proofs.visit.visit.Statement.{statement}
@@ -32,11 +35,12 @@ settingOf variables values starts members m =
     record { lists = record { variables = variables; values = values; starts = starts }; members = members; m = m }
 
 abbrev Inv-loop : tie.InvT-loop
-Inv-loop variables values starts index members m pair-starts words₀ numbers₀ p r first end start waiting₀ shrunk₀ g₀ words numbers waiting shrunk g =
+Inv-loop variables values starts index members m pair-starts words₀ numbers₀ p common steps r first end start sought₀ waiting₀ shrunk₀ g₀ words numbers sought waiting shrunk g =
     WalkAt (settingOf variables values starts members m) p first end (waiting₀ .words) words₀ numbers₀ (waiting .words) words numbers shrunk g
+    × Noted (settingOf variables values starts members m) words p (g - first) sought
 
 abbrev μ-loop : tie.MeasureT-loop
-μ-loop variables values starts index members m pair-starts words₀ numbers₀ p r first end start waiting₀ shrunk₀ g₀ words numbers waiting shrunk g = end - g
+μ-loop variables values starts index members m pair-starts words₀ numbers₀ p common steps r first end start sought₀ waiting₀ shrunk₀ g₀ words numbers sought waiting shrunk g = end - g
 
 -- ---- What it is called on
 
@@ -56,14 +60,14 @@ module _ (a : tie.Start Inv-loop μ-loop) where
 -- ---- The pair's row
 
 -- the relation read is the pair's member
-member-is : (c : tie.After-wide Inv-loop μ-loop) → (let a = c .before .before .before .before .before in getD (a .args .members .now) (c .wide .result) 0 ≡ pairMember (a .args .members .now) (a .args .p))
-member-is c = let a = c .before .before .before .before .before in ap (λ (q : ℕ). getD (a .args .members .now) q 0) (c .wide .ensures .0)
+member-is : (c : tie.After-wide Inv-loop μ-loop) → (let a = c .before .before .before .before .before .before .before in getD (a .args .members .now) (c .wide .result) 0 ≡ pairMember (a .args .members .now) (a .args .p))
+member-is c = let a = c .before .before .before .before .before .before .before in ap (λ (q : ℕ). getD (a .args .members .now) q 0) (c .wide .ensures .0)
 
-member-few : (c : tie.After-wide Inv-loop μ-loop) → getD (c .before .before .before .before .before .args .members .now) (c .wide .result) 0 < 64
-member-few c = let a = c .before .before .before .before .before in omega (arith, member-is c, member-below (sound a .laid .framed) (sound a .paired) (a .args .p) (in-members a))
+member-few : (c : tie.After-wide Inv-loop μ-loop) → getD (c .before .before .before .before .before .before .before .args .members .now) (c .wide .result) 0 < 64
+member-few c = let a = c .before .before .before .before .before .before .before in omega (arith, member-is c, member-below (sound a .laid .framed) (sound a .paired) (a .args .p) (in-members a))
 
 abbrev entry : tie.After-wide3 Inv-loop μ-loop → tie.Start Inv-loop μ-loop
-entry c = c .before .before .before .before .before .before .before .before .before .before .before
+entry c = c .before .before .before .before .before .before .before .before .before .before .before .before .before
 
 abbrev first : tie.After-wide3 Inv-loop μ-loop → ℕ
 first c = c .before .before .before .before .tuple-start .result
@@ -108,18 +112,21 @@ place-small c =
     let b = begun i in
     let a = entry b in
     let l = i .before .loop in
-    omega (arith, place-is c, place-short (row b) (l .inv) (i .loop-test .taken))
+    omega (arith, place-is c, place-short (row b) (l .inv .0) (i .loop-test .taken))
 
 -- ---- After the tuple's renewal
 
 abbrev turning : tie.After-renew Inv-loop μ-loop → tie.In-loop Inv-loop μ-loop
-turning c = c .before .before .before .before .before
+turning c = c .before .before .before .before .before .before
 
 abbrev words-after : tie.After-renew Inv-loop μ-loop → List ℕ
 words-after c = c .renew .last .1 .1 .1 .1 .1 .1 .0
 
 abbrev numbers-after : tie.After-renew Inv-loop μ-loop → List ℕ
 numbers-after c = c .renew .last .1 .1 .1 .1 .1 .1 .1 .0
+
+abbrev sought-after : tie.After-renew Inv-loop μ-loop → List ℕ
+sought-after c = c .renew .last .1 .1 .1 .1 .1 .1 .1 .1 .0
 
 -- the visit under way, once tuple g is done
 abbrev Turned : tie.After-renew Inv-loop μ-loop → Queue → Bool → Type 0
@@ -135,9 +142,9 @@ turned-kept c e =
     let b = begun i in
     let a = entry b in
     let l = i .before .loop in
-    going-kept (sound a) (in-members a) (l .inv .going)
-    (row-index (row b) (l .inv .from-first) (i .loop-test .taken))
-    (c .renew .ensures) e
+    going-kept (sound a) (in-members a) (l .inv .0 .going)
+    (row-index (row b) (l .inv .0 .from-first) (i .loop-test .taken))
+    (c .renew .ensures .0) e
 
 turned-removed : (c : tie.After-renew Inv-loop μ-loop) (waiting : Queue) → c .renew .result ≡ false → (let i = turning c in let a = entry (begun i) in (q : ℕ) → q < length (a .args .members .now) → isLive (waiting .words) q ≡ false → (isLive (i .before .loop .waiting .words) q ≡ false) × (queues (a .args .m) (a .args .members .now) (a .args .p) q ≡ false)) → Turned c waiting true
 turned-removed c waiting e waits =
@@ -145,11 +152,24 @@ turned-removed c waiting e waits =
     let b = begun i in
     let a = entry b in
     let l = i .before .loop in
-    going-removed (sound a) (in-members a) (l .inv .going)
-    (row-index (row b) (l .inv .from-first) (i .loop-test .taken))
-    (c .renew .ensures)
-    (index-lives (row b) (l .inv) (i .loop-test .taken))
+    going-removed (sound a) (in-members a) (l .inv .0 .going)
+    (row-index (row b) (l .inv .0 .from-first) (i .loop-test .taken))
+    (c .renew .ensures .0)
+    (index-lives (row b) (l .inv .0) (i .loop-test .taken))
     (waiting .words) waits e
+
+noted : (c : tie.After-renew Inv-loop μ-loop) → (let i = turning c in let b = begun i in let a = entry b in Noted (G a) (words-after c) (a .args .p) (suc (i .before .loop .g - first b)) (sought-after c))
+noted c =
+    let i = turning c in
+    let b = begun i in
+    let a = entry b in
+    let l = i .before .loop in
+    going-noted (sound a) (in-members a) (l .inv .0 .going)
+    (row-index (row b) (l .inv .0 .from-first) (i .loop-test .taken))
+    (c .renew .ensures .0)
+    (index-lives (row b) (l .inv .0) (i .loop-test .taken))
+    (l .inv .1)
+    (c .renew .ensures .1)
 
 abbrev renewed : tie.Joined1 Inv-loop μ-loop → tie.After-renew Inv-loop μ-loop
 renewed c = c .before .before .before
@@ -170,7 +190,7 @@ turned c =
     let e = not-false (l .shrunk) (w .1 .left) in
     joins (l .waiting) true (w .2) (w .3 ∙ e)
     (turned-removed n (l .waiting) (not-true (n .renew .result) (w .0 .taken))
-    (still-waits (sound a) (in-members a) (l .inv .going) e)))
+    (still-waits (sound a) (in-members a) (l .inv .0 .going) e)))
     (λ w. joins (l .waiting) (l .shrunk) (w .1) (w .2) (turned-kept n (not-false (n .renew .result) (w .0 .left)))))
     (c .if1 .came)
 
@@ -186,33 +206,37 @@ loop-holds : tie.Need-loop-holds Inv-loop μ-loop
 loop-holds c =
     let b = c .before .before .before in
     let a = entry b in
-    subst (WalkAt (G a) (a .args .p) (first b) (end b) (a .args .queue .words) (a .args .words .now) (a .args .numbers .now) (a .args .queue .words) (a .args .words .now) (a .args .numbers .now) false) (sym (c .next .ensures))
-    (come-first (row b) (a .pre .0 .small) (work a))
+    (subst (WalkAt (G a) (a .args .p) (first b) (end b) (a .args .queue .words) (a .args .words .now) (a .args .numbers .now) (a .args .queue .words) (a .args .words .now) (a .args .numbers .now) false) (sym (c .next .ensures)) (come-first (row b) (a .pre .0 .small) (work a)), noted-none (a .args .words .now) (c .next .result - first b))
 
 renew-requires : tie.Need-renew-requires Inv-loop μ-loop
 renew-requires c κs =
-    let w = c .before .before in
+    let w = c .before .before .before in
     let i = w .before .before in
     let b = begun i in
     let a = entry b in
     let l = i .before .loop in (
-      l .inv .going .wide ∙ a .pre .0 .long,
+      l .inv .0 .going .wide ∙ a .pre .0 .long,
       record {
-        seeker = record {
-          sound = sound a;
-          working = l .inv .going .working;
-          pair = in-members a;
-          index = row-index (row b) (l .inv .from-first) (i .loop-test .taken);
-          lives = index-lives (row b) (l .inv) (i .loop-test .taken);
+        seek = record {
+          seeker = record {
+            sound = sound a;
+            working = l .inv .0 .going .working;
+            pair = in-members a;
+            index = row-index (row b) (l .inv .0 .from-first) (i .loop-test .taken);
+            lives = index-lives (row b) (l .inv .0) (i .loop-test .taken);
+          };
+          indexed = a .pre .1 .prepared .indexed;
+          place = place-is w;
         };
-        indexed = a .pre .1 .prepared .indexed;
-        place = place-is w;
+        done = l .inv .0 .going .done;
+        noted = l .inv .1;
+        common = b .before .before .before .before .before .before .before .before .variables-of-others .ensures;
       },
     )
 
 requeue-requires : tie.Need-requeue-requires Inv-loop μ-loop
 requeue-requires c κs =
-    let a = entry (begun (c .before .before .before .before .before .before .before .before .before)) in
+    let a = entry (begun (c .before .before .before .before .before .before .before .before .before .before)) in
     (sound a .paired .list, in-members a)
 
 add-next : tie.Need-add-next Inv-loop μ-loop
@@ -248,15 +272,18 @@ loop-again c =
     let b = begun i in
     let a = entry b in
     let l = i .before .loop in
-    subst (WalkAt (G a) (a .args .p) (first b) (end b) (a .args .queue .words) (a .args .words .now) (a .args .numbers .now) (j .if1 .waiting .words) (words-after n) (numbers-after n) (j .if1 .shrunk)) (sym (c .next2 .ensures))
-    (come-more (row b) (l .inv) (i .loop-test .taken) (turned j))
+    let f = next-ahead (words-after n) (i .loop-test .taken) in (
+      subst (WalkAt (G a) (a .args .p) (first b) (end b) (a .args .queue .words) (a .args .words .now) (a .args .numbers .now) (j .if1 .waiting .words) (words-after n) (numbers-after n) (j .if1 .shrunk)) (sym (c .next2 .ensures))
+          (come-more (row b) (l .inv .0) (i .loop-test .taken) (turned j)),
+      noted-more (omega (arith, f .0, c .next2 .ensures, l .inv .0 .from-first)) (noted n),
+    )
 
 returns : tie.Need-returns Inv-loop μ-loop
 returns c =
     let b = c .before .before .before .before .before in
     let a = entry b in
     let l = c .before .loop in
-    come-end (row b) (l .inv) (c .loop-test .left)
+    come-end (row b) (l .inv .0) (c .loop-test .left)
 
 pub visit-spec : {M : Type 1} → statement M
 visit-spec =
@@ -264,19 +291,21 @@ visit-spec =
     (tie.spec
     Inv-loop
     μ-loop
+    (λ c κs. let a = c .before .before .before .before in record { sound = sound a; pair = in-members a })
+    (λ c κs. let a = c .before .before .before .before .before in pair-numbers (sound a .laid .framed) (sound a .paired) (a .args .p) (in-members a))
     (λ c κs. search needs)
     (λ c. omega (arith, c .wide .ensures .1))
-    (λ c. omega (arith, c .before .wide .ensures .0, in-members (c .before .before .before .before .before .before)))
+    (λ c. omega (arith, c .before .wide .ensures .0, in-members (c .before .before .before .before .before .before .before .before)))
     (λ c κs. omega (arith, member-few (c .before)))
     (λ c. omega (arith, member-few (c .before .before)))
     (λ c κs. omega (arith, member-few (c .before .before)))
     (λ c κs. search needs)
     (λ c. omega (arith, c .wide2 .ensures .1))
-    (λ c. let a = c .before .before .before .before .before .before .before .before .before in omega (arith, c .wide2 .ensures .0, in-members a, sound a .paired .list .short))
+    (λ c. let a = c .before .before .before .before .before .before .before .before .before .before .before in omega (arith, c .wide2 .ensures .0, in-members a, sound a .paired .list .short))
     (λ c κs. search needs)
     next-requires
     loop-holds
-    (λ c. c .before .loop .inv .from-first)
+    (λ c. c .before .loop .inv .0 .from-first)
     (λ c κs. search needs) (λ c κs. search needs)
     (λ c. omega (arith, place-small c))
     (λ c. omega (arith, place-small c))
@@ -286,5 +315,5 @@ visit-spec =
     next-requires-2
     loop-less
     loop-again
-    (λ c. c .before .loop .inv .going .long)
+    (λ c. c .before .loop .inv .0 .going .long)
     returns)

@@ -1,0 +1,34 @@
+-- `class_of` hands `class_in` the parts of the lists where the tuple lies.
+-- From the laws of places.
+use Prim.Native.Nat.{_<_}
+use native.Mathlib.Omega.{arith}
+use Rattle.model.specs.Limits.{maxRelations}
+use Rattle.layout.proofs.Places.{Within, below-limit, place-within, place-lengths}
+use Rattle.twins.proofs.class_of.Statement.{statement}
+use Rattle.twins.proofs.class_of.Tie as tie
+
+few : (s : tie.Start) → s .args .r < maxRelations
+few s = below-limit (s .pre .laid) (s .args .r) (s .args .x) (s .pre .own)
+
+abbrev start : tie.After-place-of → tie.Start
+start c = c .before .before .before
+
+-- the place lies within the lists
+within : (c : tie.After-place-of) → (let s = start c in Within (s .pre .laid) (s .args .r) (s .args .x) (s .pre .own) (c .place-of .result))
+within c = let s = start c in place-within (s .pre .laid) (s .args .r) (s .args .x) (s .pre .own) (c .place-of .result) (c .place-of .ensures)
+
+class-in-requires : tie.Need-class-in-requires
+class-in-requires c κs =
+    let p = c .before .before in
+    let s = start p in
+    place-lengths (s .pre .laid) (s .args .r) (s .args .x) (s .pre .own) (p .place-of .result) (p .place-of .ensures)
+
+pub class-of-spec : {M : Type 1} → statement M
+class-of-spec =
+    tie.close
+    (tie.spec
+    (λ c κs. let s = c .before .before in (s .pre .laid .framed, few s))
+    (λ c. omega (arith, within c)) (λ c. omega (arith, within c)) (λ c. omega (arith, within c)) (λ c. omega (arith, within c))
+    (λ c. omega (arith, within (c .before))) (λ c. omega (arith, within (c .before))) (λ c. omega (arith, within (c .before))) (λ c. omega (arith, within (c .before)))
+    class-in-requires
+    (λ c. c .class-in .ensures))

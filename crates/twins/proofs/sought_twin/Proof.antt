@@ -1,0 +1,74 @@
+-- `sought_twin` meets its contract: the entry of x's class is another tuple with x's values, or x is written there, or nothing is known.
+-- From the contracts of the functions called.
+use mathlib.Core.Path.{refl}
+use Prim.Native.Nat.{_<_}
+use native.Mathlib.Omega.{arith}
+use lib.ListN.{length, getD}
+use borrow.Author.Needs.{needs}
+use borrow.Author.Tests.{not-false}
+use Rattle.twins.proofs.Sought.{entered-none, entered-at}
+use Rattle.twins.proofs.sought_twin.Statement.{statement}
+use Rattle.twins.proofs.sought_twin.Tie as tie
+
+abbrev start : tie.After-class-of → tie.Start
+start c = c .before .before .before
+
+-- the class is one of the table's
+inside : (c : tie.After-class-of) → c .class-of .result < length (start c .args .sought .now)
+inside c = omega (arith, c .class-of .ensures, start c .pre .1)
+
+class-of-requires : tie.Need-class-of-requires
+class-of-requires c κs = c .before .before .pre .0
+
+mul-y : tie.Need-mul-y
+mul-y c = omega (arith, c .class-of .ensures)
+
+element-copy-out-y : tie.Need-element-copy-out-y
+element-copy-out-y c = c .class-of .ensures
+
+mul-sought : tie.Need-mul-sought
+mul-sought c = omega (arith, c .before .before .class-of .ensures)
+
+element-write-sought : tie.Need-element-write-sought
+element-write-sought c = c .before .before .class-of .ensures
+
+returns : tie.Need-returns
+returns c =
+    let k = c .before .before in
+    let s = start k in
+    record { entered = entered-at (s .args .x) (k .class-of .result) (s .args .sought .now) (inside k); entry = λ l. absurd (omega arith); alike = λ l. absurd (omega arith) }
+
+same-values-requires : tie.Need-same-values-requires
+same-values-requires c κs =
+    let k = c .before .before in
+    let s = start k in
+    (s .pre .0, record { laid = s .pre .0 .laid; own = omega (arith, s .pre .0 .own, c .if1 .left) })
+
+returns-2 : tie.Need-returns-2
+returns-2 c =
+    let s = start (c .before .before .before .before) in
+    record { entered = entered-none (s .args .x) (s .args .sought .now); entry = λ l. absurd (omega arith); alike = λ l. absurd (omega arith) }
+
+returns-3 : tie.Need-returns-3
+returns-3 c =
+    let k = c .before .before .before .before in
+    let s = start k in
+    record {
+      entered = entered-none (s .args .x) (s .args .sought .now);
+      entry = λ _. (k .class-of .result, inside k, refl);
+      alike = λ _. c .before .same-values .ensures (not-false (c .before .same-values .result) (c .if2 .left));
+    }
+
+pub sought-twin-spec : {M : Type 1} → statement M
+sought-twin-spec =
+    tie.close
+    (tie.spec
+    class-of-requires
+    mul-y
+    element-copy-out-y
+    mul-sought
+    element-write-sought
+    returns
+    same-values-requires
+    returns-2
+    returns-3)

@@ -1,0 +1,111 @@
+-- Twins: an earlier tuple of the same relation, with the same values under every variable that the other members of the combination have;
+-- which tuples were sought in a visit; and what it asks and gives to take a twin's first support, or to fall where it fell.
+use mathlib.Core.Path.{_≡_}
+use mathlib.Core.Bool.{true, false}
+use mathlib.Core.Logic.{_⊎_}
+use mathlib.Core.List.{List}
+use Prim.Native.Nat.{ℕ, _+_, _*_, _%_, _≤_, _<_}
+use lib.ListN.{length, getD}
+use Rattle.model.specs.Limits.{noSupport, wordBits}
+use Rattle.model.specs.TupleSet.{has}
+use Rattle.model.specs.Network.{size, total, firstId}
+use Rattle.model.specs.Agreement.{agree, cellsOf, under}
+use Rattle.model.specs.Combination.{Covers}
+use Rattle.model.specs.Support.{firstSupport, Partners}
+use Rattle.model.specs.Consistency.{needed}
+use Rattle.model.specs.LiveWords.{isSet}
+use Rattle.layout.specs.Setting.{Lists, networkIn, SoundLists, Setting, network, listed, liveIn, Sound}
+use Rattle.layout.specs.Pairs.{combinationOf, sizeOf, tupleId, placeOf}
+use Rattle.worklist.specs.Supports.{replaced, Supported, Done}
+use Rattle.twins.specs.declared.Twin.{Twin}
+use Rattle.twins.specs.declared.Twin.the-variants as twin
+
+-- How many classes a visit tells apart.
+abbrev pub classes : ℕ
+classes = 2048
+
+-- ---- Two tuples of a relation
+
+-- Tuple x of relation r, in sound lists.
+pub record TupleAt (L : Lists) (r x : ℕ) : Type 0 where
+  pub laid : SoundLists L
+  pub own : x < size (networkIn L) r
+
+-- tuples x and y of relation r have the same values under the variables of the set
+abbrev pub Alike : Lists → ℕ → ℕ → ℕ → ℕ → Type 0
+Alike L set r x y =
+    let N = networkIn L in under (isSet set) (cellsOf N (firstId N r + x)) ≡ under (isSet set) (cellsOf N (firstId N r + y))
+
+-- every entry of the table stays, or is x's index
+abbrev pub Entered : ℕ → List ℕ → List ℕ → Type 0
+Entered x before after = (length after ≡ length before) × ((i : ℕ) → (getD after i 0 ≡ getD before i 0) ⊎ (getD after i 0 ≡ x))
+
+-- An entry y before x has x's values; of the table no other entry changes than one that is x's index now.
+pub record SoughtTwin (L : Lists) (set r x : ℕ) (before : List ℕ) (y : ℕ) (after : List ℕ) : Type 0 where
+  pub entered : Entered x before after
+  pub entry : y < x → (i : ℕ) × (i < length before) × (getD before i 0 ≡ y)
+  pub alike : y < x → Alike L set r x y
+
+-- ---- In a pair's combination
+
+-- Pair p of a sound setting.
+pub record PairAt (G : Setting) (p : ℕ) : Type 0 where
+  pub sound : Sound G
+  pub pair : p < length (G .members)
+
+-- every variable that the other members of its combination have is in the set
+abbrev pub Common : Setting → ℕ → ℕ → Type 0
+Common G p set = Covers (network G) (combinationOf G p) (p % G .m) (isSet set)
+
+-- the tuple whose index stands at j, of the member at j
+abbrev pub besideId : Setting → ℕ → List ℕ → ℕ → ℕ
+besideId G p tuples j = firstId (network G) (getD (combinationOf G p) j 0) + getD tuples j 0
+
+-- Tuple x of the pair's member, beside tuples of all members.
+pub record Beside (G : Setting) (p x : ℕ) (tuples : List ℕ) : Type 0 where
+  pub at : PairAt G p
+  pub index : x < sizeOf G p
+  pub within : (j : ℕ) → j < G .m → getD tuples j 0 < size (network G) (getD (combinationOf G p) j 0)
+
+-- it agrees with those of the other members
+abbrev pub AgreesWith : Setting → ℕ → ℕ → List ℕ → Type 0
+AgreesWith G p x tuples = (j : ℕ) → j < G .m → (j ≡ p % G .m → ⊥) → agree (network G) (tupleId G p x) (besideId G p tuples j) ≡ true
+
+-- ---- The tuples that were sought
+
+-- Tuple y of pair p's member was sought before tuple k: if it is dead, it has no partners.
+pub record WasSought (G : Setting) (words : List ℕ) (p k y : ℕ) : Type 0 where
+  pub before : y < k
+  pub fell : has (liveIn G words) (tupleId G p y) ≡ false → Partners (network G) (liveIn G words) (combinationOf G p) (p % G .m) (tupleId G p y) → ⊥
+
+-- Every entry of the table that is not 65,535 was sought before tuple k.
+pub record Noted (G : Setting) (words : List ℕ) (p k : ℕ) (sought : List ℕ) : Type 0 where
+  pub long : length sought ≡ classes
+  pub entries : (i : ℕ) → i < classes → (getD sought i 0 ≡ noSupport → ⊥) → WasSought G words p k (getD sought i 0)
+
+-- ---- Its first support
+
+-- A live tuple x of pair p's member, before which all are done and noted; where its numbers begin, and the variables that others have.
+pub record TwinAt (G : Setting) (words numbers sought : List ℕ) (p x place set : ℕ) : Type 0 where
+  pub at : PairAt G p
+  pub index : x < sizeOf G p
+  pub lives : has (liveIn G words) (tupleId G p x) ≡ true
+  pub enough : total (network G) ≤ wordBits * length words
+  pub room : needed (network G) (listed G) ≤ length numbers
+  pub done : Done G words numbers p x
+  pub noted : Noted G words p x sought
+  pub begins : place ≡ placeOf G p x
+  pub common : Common G p set
+
+-- x's numbers are its first support; or it has none, and no number changes; or no number changes
+abbrev pub Outcome : Setting → ℕ → ℕ → List ℕ → List ℕ → Twin → List ℕ → Type 0
+Outcome G p x words numbers twin.Taken after =
+    (after ≡ replaced numbers (firstSupport (network G) (liveIn G words) (combinationOf G p) (tupleId G p x)) (placeOf G p x) (G .m))
+    × Supported G (liveIn G words) (combinationOf G p) (tupleId G p x)
+Outcome G p x words numbers twin.Fallen after = (after ≡ numbers) × (Supported G (liveIn G words) (combinationOf G p) (tupleId G p x) → ⊥)
+Outcome G p x words numbers twin.None after = after ≡ numbers
+
+-- What comes of a twin of x; and x may be entered in the table.
+pub record Taken (G : Setting) (p x : ℕ) (words numbers sought : List ℕ) (result : Twin) (numbers′ sought′ : List ℕ) : Type 0 where
+  pub outcome : Outcome G p x words numbers result numbers′
+  pub entered : Entered x sought sought′
