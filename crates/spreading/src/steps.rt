@@ -36,13 +36,14 @@ fn places_with(index: &Index, members: &[u16], bits: u64) -> u64
     places
 }
 
-// Before these steps, those that narrow member j through each of the places `from` that shares a variable with it.
+// Before these steps, those that narrow member j through each of the places `from` behind it that shares a variable with it: a search chooses
+// the members before j before it, and narrows it for them.
 fn steps_to(index: &Index, members: &[u16], from: u64, j: usize, steps: u64) -> u64
     requires { ⌜ Numbers (now members) × (j < length (now members)) ⌝ }
 {
     let bits = scope_bits(index, members[j]);
     let mut steps = steps;
-    let mut i = 0;
+    let mut i = j + 1;
     while i < members.len() {
         if (from >> i) % 2 == 1 {
             if scope_bits(index, members[i]) & bits != 0 {

@@ -1,3 +1,5 @@
+-- `join_between` joins word by word. The loop's invariant: what was live is, and so are the ids of the words passed.
+-- From the laws of a word joined to another.
 use mathlib.Core.Path.{_≡_, _∙_}
 use mathlib.Core.Bool.{true}
 use mathlib.Core.Logic.{⊎-elim}
@@ -10,9 +12,6 @@ use Rattle.spreading.proofs.Joined.{joined, join-keeps, join-adds}
 use borrow.Author.Needs.{needs}
 use Rattle.spreading.proofs.join_between.Statement.{statement}
 use Rattle.spreading.proofs.join_between.Tie as tie
-use Rattle.spreading.proofs.join_between.Reads as reads
-use Rattle.spreading.proofs.join_between.Lts as lts
-use Rattle.live.proofs.words_for.Reads as words-for-reads
 
 abbrev Inv-loop : tie.InvT-loop
 Inv-loop from to₀ start end stop i₀ to i =
@@ -21,47 +20,9 @@ Inv-loop from to₀ start end stop i₀ to i =
 abbrev μ-loop : tie.MeasureT-loop
 μ-loop from to₀ start end stop i₀ to i = stop - i
 
--- src/lib.rt:27:9
-words-for-requires : tie.Need-words-for-requires Inv-loop μ-loop
-words-for-requires c κs = search needs
-
--- src/lib.rt:29:5
 loop-holds : tie.Need-loop-holds Inv-loop μ-loop
 loop-holds c = let s = c .before in (omega arith, (s .pre .1 .0, (λ g e. e, λ g h k e. absurd (omega arith))))
 
--- src/lib.rt:30:17
-mul-to : tie.Need-mul-to Inv-loop μ-loop
-mul-to c = search needs
-
--- src/lib.rt:30:17
-element-copy-out-to : tie.Need-element-copy-out-to Inv-loop μ-loop
-element-copy-out-to c = search needs
-
--- src/lib.rt:30:25
-mul-to-2 : tie.Need-mul-to-2 Inv-loop μ-loop
-mul-to-2 c = search needs
-
--- src/lib.rt:30:25
-element-copy-out-to-2 : tie.Need-element-copy-out-to-2 Inv-loop μ-loop
-element-copy-out-to-2 c = search needs
-
--- src/lib.rt:30:9
-mul-to-3 : tie.Need-mul-to-3 Inv-loop μ-loop
-mul-to-3 c = search needs
-
--- src/lib.rt:30:9
-element-write-to : tie.Need-element-write-to Inv-loop μ-loop
-element-write-to c = search needs
-
--- src/lib.rt:31:9
-add-i : tie.Need-add-i Inv-loop μ-loop
-add-i c = search needs
-
--- src/lib.rt:29:5
-loop-less : tie.Need-loop-less Inv-loop μ-loop
-loop-less c = search needs
-
--- src/lib.rt:29:5
 -- the ids of one word more
 one-more : (c : tie.After-to2 Inv-loop μ-loop) →
     let turn = c .before .before in
@@ -96,7 +57,6 @@ loop-again c =
       ),
     )
 
--- src/lib.rt:23:1
 returns : tie.Need-returns Inv-loop μ-loop
 returns c =
     let l = c .before .loop in
@@ -108,15 +68,9 @@ join-between-spec =
     (tie.spec
     Inv-loop
     μ-loop
-    words-for-requires
+    (λ c κs. search needs)
     loop-holds
-    mul-to
-    element-copy-out-to
-    mul-to-2
-    element-copy-out-to-2
-    mul-to-3
-    element-write-to
-    add-i
-    loop-less
+    (λ c. search needs) (λ c. search needs) (λ c. search needs) (λ c. search needs) (λ c. search needs)
+    (λ c. search needs) (λ c. search needs) (λ c. search needs)
     loop-again
     returns)

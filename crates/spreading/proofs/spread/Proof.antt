@@ -2,7 +2,6 @@
 -- gathered. From what `gather` and `keep` ensure, and the laws of live words.
 use mathlib.Core.Path.{_≡_, refl, sym, _∙_, subst}
 use mathlib.Core.Bool.{true}
-use mathlib.Core.List.{List}
 use Prim.Native.Nat.{ℕ, _+_, _-_, _*_, _≤_, _<_}
 use native.Mathlib.Omega.{arith}
 use lib.ListN.{length}
@@ -13,10 +12,9 @@ use Rattle.model.specs.LiveWords.{isLive, nextLive}
 use Rattle.model.proofs.Bools.{not-both}
 use Rattle.model.proofs.Lists.{First}
 use Rattle.model.proofs.LiveWords.{nextLive-first}
-use Rattle.layout.specs.Setting.{Lists, networkIn}
+use Rattle.layout.specs.Setting.{networkIn}
 use Rattle.layout.proofs.SoundStarts.{tuple-start, tuple-end, ids-few}
 use Rattle.narrowing.proofs.Narrowing.{dead-past}
-use Rattle.spreading.specs.Spread.{Spread}
 use Rattle.spreading.proofs.Relations.{Gathered, gathered-more, spread-kept, spread-none}
 use Rattle.spreading.proofs.spread.Statement.{statement}
 use Rattle.spreading.proofs.spread.Tie as tie

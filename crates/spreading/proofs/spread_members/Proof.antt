@@ -1,10 +1,8 @@
 -- `spread_members` goes step by step. The loop's invariant: what is narrowed so far keeps every support.
 -- From the laws of no step, and of one after the other.
 use mathlib.Core.Path.{_≡_, refl}
-use Prim.Native.Nat.{ℕ, _/_, _<_}
 use native.Mathlib.Omega.{arith}
 use lib.ListN.{length}
-use borrow.Author.Needs.{needs}
 use borrow.Author.Tests.{not-true}
 use Rattle.model.specs.Network.{Network}
 use Rattle.model.proofs.Bools.{not-both}

@@ -2,10 +2,6 @@
 -- From what `spread` ensures, and the law of one step.
 use mathlib.Core.Path.{refl}
 use mathlib.Core.Bool.{true}
-use mathlib.Core.List.{List}
-use Prim.Native.Nat.{ℕ, _<_}
-use native.Mathlib.Omega.{arith}
-use lib.ListN.{length, getD}
 use borrow.Author.Needs.{needs}
 use Rattle.model.specs.Network.{Network}
 use Rattle.model.proofs.Bools.{not-both}
