@@ -2,18 +2,18 @@
 -- From the definitions alone; the laws of `fit` and `clash` are all that code needs to know of when values fit.
 use mathlib.Core.Path.{_≡_, refl, sym, _∙_, ap, ap₂}
 use mathlib.Core.Bool.{Bool, true, false, not, _&&_, _||_, and-false, or-false, false≢true}
-use mathlib.Core.List.{List, [], _∷_, List·Memᴰ}
+use mathlib.Core.List.{List, [], _∷_, List·Memᴰ, Memᴰ·cast}
 use Prim.Native.Nat.{ℕ, zero, suc, _+_, _<_}
 use native.Mathlib.Nat.{le-of-suc-le-suc}
 use native.Mathlib.Omega.{arith}
 use lib.Dec.{eqb}
 use lib.ListN.{length, getD}
 use borrow.Author.Tests.{eq-eqb, eqb-true, not-true, not-false}
-use Rattle.model.specs.Lists.{all, any}
+use Rattle.model.specs.Lists.{all, any, elem, keepIf}
 use Rattle.model.specs.Network.{Network, size, firstId, scopeOf, valuesAt, tupleOf}
-use Rattle.model.specs.Agreement.{Cell, fit, cells, clash, agreeing, cellsOf, agree}
-use Rattle.model.proofs.Bools.{and-intro, iff-eq}
-use Rattle.model.proofs.Lists.{all-at, all-intro, eqb-sym}
+use Rattle.model.specs.Agreement.{Cell, fit, cells, clash, agreeing, under, cellsOf, agree}
+use Rattle.model.proofs.Bools.{and-intro, iff-eq, not-both}
+use Rattle.model.proofs.Lists.{all-at, all-intro, all-select, getD-mem, mem-elem, eqb-sym}
 use Rattle.model.proofs.Network.{relationOf-at, indexOf-at}
 
 -- ---- When values fit
@@ -115,6 +115,20 @@ module _ (xs vs ys ws : List ℕ) where
       cells-false (λ (x : Cell). all (λ (y : Cell). not (clash x y)) (cells ys ws)) xs vs k ex hk
       (cells-false (λ (y : Cell). not (clash (cellAt xs vs k) y)) ys ws l ey hl (ap not e))
 
+-- ---- Cells under some of the variables
+
+-- values that are equal in every column whose variable passes the test
+pub cells-under : (test : ℕ → Bool) (xs vs ws : List ℕ) → length xs ≡ length vs → length xs ≡ length ws → ((k : ℕ) → k < length xs → test (getD xs k 0) ≡ true → getD vs k 0 ≡ getD ws k 0) → under test (cells xs vs) ≡ under test (cells xs ws)
+cells-under test [] vs ws l m f = refl
+cells-under test (x ∷ xs) [] ws l m f = absurd (omega arith)
+cells-under test (x ∷ xs) (v ∷ vs) [] l m f = absurd (omega arith)
+cells-under test (x ∷ xs) (v ∷ vs) (w ∷ ws) l m f =
+    same (test x) (f 0 (omega arith)) ∙ ap (keepIf (test x) (x, w)) (cells-under test xs vs ws (omega arith) (omega arith) (λ k h. f (suc k) (omega arith)))
+  where
+    same : (b : Bool) → (b ≡ true → v ≡ w) → keepIf b (x, v) (under test (cells xs vs)) ≡ keepIf b (x, w) (under test (cells xs vs))
+    same true e = ap {B = List Cell} (λ u. (x, u) ∷ under test (cells xs vs)) (e refl)
+    same false e = refl
+
 -- ---- Agreement of tuples
 
 pub agreeing-intro : (xs ys : List Cell) → ((x y : Cell) → List·Memᴰ x xs → List·Memᴰ y ys → clash x y ≡ false) → agreeing xs ys ≡ true
@@ -137,6 +151,14 @@ agree-sym N g h =
     iff-eq (agreeing (cellsOf N g) (cellsOf N h)) (agreeing (cellsOf N h) (cellsOf N g))
     (agreeing-turned (cellsOf N g) (cellsOf N h)) (agreeing-turned (cellsOf N h) (cellsOf N g))
 
+-- it looks at those cells only whose variable the other tuple has
+pub agreeing-under : (test : ℕ → Bool) (xs : List Cell) (ys ws : List ℕ) → ((v : ℕ) → elem v ys ≡ true → test v ≡ true) → agreeing (under test xs) (cells ys ws) ≡ agreeing xs (cells ys ws)
+unfolding agreeing
+agreeing-under test xs ys ws covers =
+    all-select (λ (x : Cell). test (x .0)) (λ (x : Cell). all (λ (y : Cell). not (clash x y)) (cells ys ws)) xs
+    (λ x e. cells-all (λ (y : Cell). not (clash x y)) ys ws
+    (λ k h. ap not (clash-other-variable x (cellAt ys ws k) (λ q. not-both (covers (x .0) (mem-elem ys (Memᴰ·cast q (getD-mem ys k 0 h)))) e))))
+
 -- the cells of the tuple at index x of relation r
 pub cellsOf-at : (N : Network) (r x : ℕ) → x < size N r → cellsOf N (firstId N r + x) ≡ cells (scopeOf N r) (valuesAt N r x)
 unfolding cellsOf tupleOf
@@ -146,3 +168,14 @@ cellsOf-at N r x h = rw (relationOf-at N r x h, indexOf-at N r x h)
 pub agree-at : (N : Network) (r x s y : ℕ) → x < size N r → y < size N s → agree N (firstId N r + x) (firstId N s + y) ≡ agreeing (cells (scopeOf N r) (valuesAt N r x)) (cells (scopeOf N s) (valuesAt N s y))
 unfolding agree
 agree-at N r x s y hx hy = ap₂ agreeing (cellsOf-at N r x hx) (cellsOf-at N s y hy)
+
+-- tuples with the same values under the variables of relation s agree with the same tuples of it
+pub agree-alike : (N : Network) (test : ℕ → Bool) (g h s z : ℕ) → z < size N s → ((v : ℕ) → elem v (scopeOf N s) ≡ true → test v ≡ true) → under test (cellsOf N g) ≡ under test (cellsOf N h) → agree N g (firstId N s + z) ≡ agree N h (firstId N s + z)
+unfolding agree
+agree-alike N test g h s z l covers same =
+    let zs = cells (scopeOf N s) (valuesAt N s z) in
+    ap (agreeing (cellsOf N g)) (cellsOf-at N s z l)
+    ∙ sym (agreeing-under test (cellsOf N g) (scopeOf N s) (valuesAt N s z) covers)
+    ∙ ap (λ (xs : List Cell). agreeing xs zs) same
+    ∙ agreeing-under test (cellsOf N h) (scopeOf N s) (valuesAt N s z) covers
+    ∙ ap (agreeing (cellsOf N h)) (sym (cellsOf-at N s z l))

@@ -14,6 +14,7 @@ pub mod Narrowing
 pub mod Consistency
 pub mod SupportList
 pub mod Work
+pub mod Twins
 pub mod Solution
 pub mod Locality
 pub mod Reply

@@ -10,7 +10,7 @@ use native.Mathlib.Omega.{arith}
 use native.Mathlib.Decide.{ℕ-discrete, decLt}
 use native.Mathlib.Nat.{add-zero, zero-add, add-suc, suc-add, zero-mul, suc-mul, add-mul, mul-le-mul-right, le-of-suc-le-suc}
 use lib.Dec.{ltb, eqb}
-use lib.ListN.{length, getD, take, drop, length-map, length-drop}
+use lib.ListN.{length, getD, set, take, drop, length-map, length-drop}
 use lib.Seq.{take-at, drop-append-add, drop-append-le, take-append-le, drop-cons}
 use borrow.Author.Tests.{eqb-true, eq-eqb, ltb-true, lt-ltb, ne-eqb, le-ltb}
 use Rattle.model.specs.Lists.{all, any, elem, from, sum, select, keepIf, firstOr, pairwise, choices, prefixed, earlier, each}
@@ -204,6 +204,15 @@ module _ {ℓ} {A : Type ℓ} (p : A → Bool) where
   select-all (x ∷ xs) e =
       ap (λ (b : Bool). keepIf b x (select p xs)) (and-left (p x) (all p xs) e)
       ∙ ap {B = List A} (λ t. x ∷ t) (select-all xs (and-right (p x) (all p xs) e))
+
+  all-keepIf : (q : A → Bool) (x : A) (ys : List A) (b : Bool) → (b ≡ false → q x ≡ true) → all q (keepIf b x ys) ≡ (q x && all q ys)
+  all-keepIf q x ys true f = refl
+  all-keepIf q x ys false f = ap (λ (c : Bool). c && all q ys) (sym (f refl))
+
+  -- all passes a test where all that is selected does, if what is not selected passes it anyway
+  pub all-select : (q : A → Bool) (xs : List A) → ((x : A) → p x ≡ false → q x ≡ true) → all q (select p xs) ≡ all q xs
+  all-select q [] f = refl
+  all-select q (x ∷ xs) f = all-keepIf q x (select p xs) (p x) (f x) ∙ ap (λ (b : Bool). q x && b) (all-select q xs f)
 
   keepIf-mem : (y : A) (xs : List A) {x : A} → (List·Memᴰ x (select p xs) → List·Memᴰ x xs × (p x ≡ true)) → (v : Bool) → p y ≡ v → List·Memᴰ x (keepIf v y (select p xs)) → List·Memᴰ x (y ∷ xs) × (p x ≡ true)
   keepIf-mem y xs f true e m =
@@ -526,6 +535,50 @@ map-places f xs zero i h = refl
 map-places {A = A} f xs (suc n) i h =
     ap {B = List A} (λ t. f (getD xs i 0) ∷ t) (map-places f xs n (suc i) (omega arith))
     ∙ ap (λ (t : List ℕ). map f (take (suc n) t)) (sym (drop-cons xs i 0 (omega arith)))
+
+-- ---- An element put at a place
+
+module _ {ℓ} {A : Type ℓ} where
+  pub set-mem : (xs : List A) (j : ℕ) (a : A) → j < length xs → List·Memᴰ a (set xs j a)
+  set-mem [] j a h = absurd (omega arith)
+  set-mem (x ∷ xs) zero a h = here
+  set-mem (x ∷ xs) (suc j) a h = List·Memᴰ·tail (set-mem xs j a (le-of-suc-le-suc h))
+
+  pub all-set : (p : A → Bool) (xs : List A) (j : ℕ) (a : A) → all p xs ≡ true → p a ≡ true → all p (set xs j a) ≡ true
+  all-set p [] j a e f = refl
+  all-set p (x ∷ xs) zero a e f = and-intro f (and-right (p x) (all p xs) e)
+  all-set p (x ∷ xs) (suc j) a e f = and-intro (and-left (p x) (all p xs) e) (all-set p xs j a (and-right (p x) (all p xs) e) f)
+
+  -- every two elements are in the relation, if the one put in is to each of the others
+  pub pairwise-set : (r : A → A → Bool) (xs : List A) (j : ℕ) (a d : A) → pairwise r xs ≡ true → ((i : ℕ) → i < j → i < length xs → r (getD xs i d) a ≡ true) → ((i : ℕ) → j < i → i < length xs → r a (getD xs i d) ≡ true) → pairwise r (set xs j a) ≡ true
+  pairwise-set r [] j a d p f g = refl
+  pairwise-set r (x ∷ xs) zero a d p f g =
+      and-intro (all-places (r a) xs d (λ i h. g (suc i) (omega arith) (omega arith))) (and-right (all (r x) xs) (pairwise r xs) p)
+    where
+      all-places : (q : A → Bool) (ys : List A) (d : A) → ((i : ℕ) → i < length ys → q (getD ys i d) ≡ true) → all q ys ≡ true
+      all-places q [] d h = refl
+      all-places q (y ∷ ys) d h = and-intro (h 0 (omega arith)) (all-places q ys d (λ i l. h (suc i) (omega arith)))
+  pairwise-set r (x ∷ xs) (suc j) a d p f g =
+      and-intro
+      (all-set (r x) xs j a (and-left (all (r x) xs) (pairwise r xs) p) (f 0 (omega arith) (omega arith)))
+      (pairwise-set r xs j a d (and-right (all (r x) xs) (pairwise r xs) p) (λ i l h. f (suc i) (omega arith) (omega arith)) (λ i l h. g (suc i) (omega arith) (omega arith)))
+
+  pub picks-set : {xss : List (List A)} {t : List A} → Picks xss t → (j : ℕ) (a : A) → List·Memᴰ a (getD xss j []) → Picks xss (set t j a)
+  picks-set done j a k = done
+  picks-set (pick m p) zero a k = pick k p
+  picks-set (pick m p) (suc j) a k = pick m (picks-set p j a k)
+
+pub map-set {ℓ κ} : {A : Type ℓ} {B : Type κ} (f : A → B) (xs : List A) (j : ℕ) (a : A) → map f (set xs j a) ≡ set (map f xs) j (f a)
+map-set f [] j a = refl
+map-set f (x ∷ xs) zero a = refl
+map-set {B = B} f (x ∷ xs) (suc j) a = ap {B = List B} (λ t. f x ∷ t) (map-set f xs j a)
+
+-- two lists stand in the same order, whether both have the one's element at a place or both the other's
+pub earlier-set : (xs ys : List ℕ) (j : ℕ) → j < length xs → j < length ys → earlier xs (set ys j (getD xs j 0)) ≡ earlier (set xs j (getD ys j 0)) ys
+earlier-set [] ys j h l = absurd (omega arith)
+earlier-set (x ∷ xs) [] j h l = absurd (omega arith)
+earlier-set (x ∷ xs) (y ∷ ys) zero h l = earlier-cons x x xs ys refl ∙ sym (earlier-cons y y xs ys refl)
+earlier-set (x ∷ xs) (y ∷ ys) (suc j) h l = ap (λ (b : Bool). ltb x y || (eqb x y && b)) (earlier-set xs ys j (le-of-suc-le-suc h) (le-of-suc-le-suc l))
 
 -- ---- Lists laid end to end
 

@@ -16,7 +16,7 @@ use Rattle.model.specs.Agreement.{agree}
 use Rattle.model.specs.Combination.{Combination}
 use Rattle.model.specs.Support.{candidates, isSupport, supports, firstSupport}
 use Rattle.model.proofs.Bools.{and-left, and-right, and-intro, not-both}
-use Rattle.model.proofs.Lists.{here, all-at, all-intro, all-more, all-map, any-intro, pairwise-after, pairwise-map, elem-mem, mem-elem, select-mem, select-none, Cut, select-cut, Picks, done, pick, choices-picks, picks-choices, picks-length, picks-at, getD-map-in, map-choices, choices-earlier, from-mem, from-rises}
+use Rattle.model.proofs.Lists.{here, all-at, all-intro, all-more, all-map, any-intro, pairwise-after, pairwise-map, elem-mem, mem-elem, select-mem, select-none, Cut, select-cut, Picks, done, pick, choices-picks, picks-choices, picks-length, picks-at, getD-map-in, map-choices, earlier-least, later-earlier, choices-earlier, from-mem, from-rises}
 use Rattle.model.proofs.Network.{relationOf-ids, relationOf-at, indexOf-at}
 
 module _ (N : Network) where
@@ -201,6 +201,17 @@ module _ (N : Network) where
             (List·Memᴰ·cases-cons h))
             (List·Memᴰ·append-cases (k .before) (subst (List·Memᴰ u) (k .whole) m)),
       )
+
+  -- no support is earlier than the first
+  pub firstSupport-earliest : (S : TupleSet) (c : Combination) (g : ℕ) (u : List ℕ) → List·Memᴰ u (candidates N c) → isSupport N S g u ≡ true → earlier (map (indexOf N) u) (firstSupport N S c g) ≡ false
+  firstSupport-earliest S c g u m e =
+      let f = firstSupport-least S c g (u, m, e) in
+      let is = map (indexOf N) u in
+      let first = firstSupport N S c g in
+      ⊎-elim
+      (λ q. ap (earlier is) (f .3 ∙ ap (map (indexOf N)) (sym q)) ∙ earlier-least is is (λ j h. omega arith))
+      (λ l. later-earlier is first (ap (λ (ks : List ℕ). earlier ks is) (f .3) ∙ l))
+      (f .4 u m e)
 
   -- a support than which none is earlier is the first
   pub firstSupport-lowest : (S : TupleSet) (c : Combination) (g : ℕ) (t : List ℕ) → List·Memᴰ t (candidates N c) → isSupport N S g t ≡ true → ((u : List ℕ) → List·Memᴰ u (candidates N c) → isSupport N S g u ≡ true → sooner u t ≡ false) → firstSupport N S c g ≡ map (indexOf N) t

@@ -3,7 +3,7 @@ use mathlib.Core.Bool.{Bool, not, _&&_}
 use mathlib.Core.List.{List, [], _∷_}
 use Prim.Native.Nat.{ℕ}
 use lib.Dec.{eqb}
-use Rattle.model.specs.Lists.{all, any, elem}
+use Rattle.model.specs.Lists.{all, any, elem, select}
 use Rattle.model.specs.Network.{Network, relationOf, scopeOf, tupleOf}
 
 -- Two values fit (document 01: two codes fit only if equal).
@@ -27,6 +27,10 @@ clash x y = eqb (x .0) (y .0) && not (fit (x .1) (y .1))
 -- no cell of the one clashes with a cell of the other, in whatever places they stand
 unfoldable pub agreeing : List Cell → List Cell → Bool
 agreeing xs ys = all (λ (x : Cell). all (λ (y : Cell). not (clash x y)) ys) xs
+
+-- the cells under the variables that pass the test
+abbrev pub under : (ℕ → Bool) → List Cell → List Cell
+under test xs = select (λ (x : Cell). test (x .0)) xs
 
 unfoldable pub cellsOf : Network → ℕ → List Cell
 cellsOf N g = cells (scopeOf N (relationOf N g)) (tupleOf N g)

@@ -1,10 +1,11 @@
 -- Combinations of relations: connected ones, and chains of them.
-use mathlib.Core.Bool.{Bool, _||_}
+use mathlib.Core.Path.{_≡_}
+use mathlib.Core.Bool.{Bool, true, _||_}
 use mathlib.Core.List.{List, [], _∷_, map, List·Memᴰ}
-use Prim.Native.Nat.{ℕ, _*_, _/_}
+use Prim.Native.Nat.{ℕ, _*_, _/_, _<_}
 use lib.ListN.{length, getD, take, drop}
-use Rattle.model.specs.Lists.{from, all, any, empty}
-use Rattle.model.specs.Network.{Network}
+use Rattle.model.specs.Lists.{from, all, any, elem, empty}
+use Rattle.model.specs.Network.{Network, scopeOf}
 use Rattle.model.specs.Agreement.{share}
 
 -- A combination: the numbers of its member relations.
@@ -21,6 +22,10 @@ pairCombination m list p = take m (drop (p / m * m) list)
 
 abbrev pub pairMember : List ℕ → ℕ → ℕ
 pairMember list p = getD list p 0
+
+-- every variable of the members, but for those of the one at place j, passes the test
+abbrev pub Covers : Network → Combination → ℕ → (ℕ → Bool) → Type 0
+Covers N c j test = (i : ℕ) → i < length c → (i ≡ j → ⊥) → (v : ℕ) → elem v (scopeOf N (getD c i 0)) ≡ true → test v ≡ true
 
 -- Two groups.
 abbrev pub Division : Type 0
