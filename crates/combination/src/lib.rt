@@ -33,7 +33,7 @@ use model::refusal;
 type Masks = [u64; MAX_RELATIONS];
 
 // The set of a scope's variables: variable x is bit x.
-fn mask_of(scope: &[u16]) -> u64
+pub fn mask_of(scope: &[u16]) -> u64
     requires { ⌜ all (λ (x : ℕ). ltb x variableCount) (now scope) ≡ true ⌝ }
     ensures { λ w. ⌜ ((x : ℕ) → isSet w x ≡ elem x (entry scope)) ⌝ }
 {

@@ -1,0 +1,2 @@
+-- The laws of doubles.
+pub mod Others
