@@ -1,2 +1,4 @@
 -- The laws of doubles.
 pub mod Others
+pub mod Table
+pub mod Thin
