@@ -2,3 +2,4 @@
 pub mod Others
 pub mod Table
 pub mod Thin
+pub mod Parts

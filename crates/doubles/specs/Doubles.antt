@@ -13,7 +13,7 @@ use Rattle.model.specs.LiveWords.{isLive}
 use Rattle.layout.specs.Starts.{recordsIn}
 use Rattle.layout.specs.Setting.{Lists, networkIn, SoundLists, Setting, network, liveIn}
 use Rattle.layout.specs.Pairs.{combinationOf, sizeOf, tupleId}
-use Rattle.doubles.specs.Alike.{Alike, Common}
+use Rattle.doubles.specs.Alike.{Alike, PairAt, Common}
 
 -- ---- The table
 
@@ -71,6 +71,12 @@ pub record ThinsRelation (L : Lists) (set r : ℕ) (words before after : List �
   pub keeps : (x : ℕ) → x < size (networkIn L) r → isLive before (firstId (networkIn L) r + x) ≡ true → isLive after (firstId (networkIn L) r + x) ≡ false → Repeats L set r words x
 
 -- ---- In a pair's combination
+
+-- Pair q, and words for all tuples.
+pub record MemberAt (G : Setting) (q : ℕ) (words thin : List ℕ) : Type 0 where
+  pub at : PairAt G q
+  pub words-long : length words ≡ 64
+  pub thin-long : length thin ≡ 64
 
 -- The same of pair q's member, under a set of variables that has all of the other members'.
 pub record ThinsMember (G : Setting) (q : ℕ) (words before after : List ℕ) : Type 0 where

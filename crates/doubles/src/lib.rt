@@ -6,7 +6,7 @@ ghost use lib.ListN.{length};
 ghost use Rattle.layout.specs.Loan.{entry, exit};
 ghost use Rattle.layout.specs.Setting.{lists, setting};
 ghost use Rattle.doubles.specs.Alike.{TupleAt, PairAt};
-ghost use Rattle.doubles.specs.Doubles.{places, hashes, Table, Tried, RelationAt, ThinsRelation, ThinsMember, Thinned};
+ghost use Rattle.doubles.specs.Doubles.{places, hashes, Table, Tried, RelationAt, ThinsRelation, MemberAt, ThinsMember, Thinned};
 use alike::has_variable;
 use alike::same_values;
 use alike::variables_of_others;
@@ -132,4 +132,66 @@ fn thin_relation(
         }
         g = next(words, g + 1, end);
     }
+}
+
+// The same of pair q's member, under the variables that the other members of its combination have.
+fn thin_member(
+    variables: &[u16],
+    values: &[Value],
+    starts: &Starts,
+    members: &[u16],
+    m: u16,
+    words: &Words,
+    thin: &mut Words,
+    q: u16,
+)
+    requires { ⌜ MemberAt (setting now variables values starts members m) q (now words) (now thin) ⌝ }
+    ensures { λ _. ⌜ ThinsMember (setting entry variables values starts members m) q (entry words) (entry thin) (exit thin) ⌝ }
+{
+    let common = variables_of_others(variables, values, starts, members, m, q);
+    thin_relation(
+        variables,
+        values,
+        starts,
+        words,
+        thin,
+        members[wide(q)],
+        common,
+    );
+}
+
+// The live words without the doubles of the other members of pair p's combination: the first support of each live tuple of its own member is
+// the same among them.
+pub fn thinned(
+    variables: &[u16],
+    values: &[Value],
+    starts: &Starts,
+    members: &[u16],
+    m: u16,
+    p: u16,
+    words: &Words,
+) -> Words
+    requires { ⌜ PairAt (setting now variables values starts members m) p × (length (now words) ≡ 64) ⌝ }
+    ensures { λ thin. ⌜ Thinned (setting entry variables values starts members m) p (entry words) thin ⌝ }
+{
+    let base = p / m * m;
+    let place = p % m;
+    let mut thin = *words;
+    let mut j = 0;
+    while j < m {
+        if j != place {
+            thin_member(
+                variables,
+                values,
+                starts,
+                members,
+                m,
+                words,
+                &mut thin,
+                base + j,
+            );
+        }
+        j += 1;
+    }
+    thin
 }
