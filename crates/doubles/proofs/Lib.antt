@@ -3,3 +3,4 @@ pub mod Others
 pub mod Table
 pub mod Thin
 pub mod Parts
+pub mod Sought

@@ -1,7 +1,7 @@
 -- Laws of words without doubles of a pair's other members, member by member: none yet, one more, the own one passed over, and all.
 -- From the laws of pairs, and what thinning one member does.
-use mathlib.Core.Path.{_≡_, refl, sym, _∙_, ap, ap₂, subst}
-use mathlib.Core.Bool.{true, false}
+use mathlib.Core.Path.{_≡_, refl, sym, _∙_, ap, subst}
+use mathlib.Core.Bool.{true}
 use mathlib.Core.List.{List}
 use mathlib.Core.Logic.{_⊎_, inl, inr, ⊎-elim}
 use Prim.Native.Nat.{ℕ, _+_, _*_, _/_, _%_, _≤_, _<_}
@@ -21,7 +21,7 @@ use Rattle.model.proofs.Network.{ids-below, ids-apart}
 use Rattle.model.proofs.LiveWords.{living-has}
 use Rattle.layout.specs.Starts.{SoundStarts}
 use Rattle.layout.specs.Setting.{Setting, network, SoundPairs, liveIn}
-use Rattle.layout.specs.Pairs.{combinationOf, tupleId}
+use Rattle.layout.specs.Pairs.{combinationOf}
 use Rattle.layout.proofs.Pairs.{combination-length, combination-rises, place-below, member-at, base-within, member-of}
 use Rattle.doubles.specs.Alike.{PairAt}
 use Rattle.doubles.specs.Doubles.{Repeats, ThinsRelation, ThinsMember, Thinned}
@@ -49,10 +49,11 @@ module _ {G : Setting} {p : ℕ} (A : PairAt G p) where
   many : length c ≡ G .m
   many = combination-length framed paired p (A .pair)
 
+  pub id-below : (j x : ℕ) → x < size N (getD c j 0) → id j x < total N
+  id-below j x h = let r = getD c j 0 in ids-below N r (mem-from (firstId N r) (size N r) (id j x) (omega arith) (omega (arith, h)))
+
   id-live : (words : List ℕ) (j x : ℕ) → x < size N (getD c j 0) → has (liveIn G words) (id j x) ≡ isLive words (id j x)
-  id-live words j x h =
-      let r = getD c j 0 in
-      living-has (total N) words (id j x) (ids-below N r (mem-from (firstId N r) (size N r) (id j x) (omega arith) (omega (arith, h))))
+  id-live words j x h = living-has (total N) words (id j x) (id-below j x h)
 
   -- ---- The pair of another member
 
@@ -76,7 +77,7 @@ module _ {G : Setting} {p : ℕ} (A : PairAt G p) where
     q-member = sym (member-of framed paired p (A .pair) j l)
 
     -- members at two places are two relations
-    members-apart : (i : ℕ) → i < G .m → (i ≡ j → ⊥) → getD c j 0 ≡ getD c i 0 → ⊥
+    pub members-apart : (i : ℕ) → i < G .m → (i ≡ j → ⊥) → getD c j 0 ≡ getD c i 0 → ⊥
     members-apart i h d e = by (decLt i j)
       where
         rises : (a b : ℕ) → a < b → b < G .m → getD c a 0 < getD c b 0

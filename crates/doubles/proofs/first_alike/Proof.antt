@@ -5,8 +5,7 @@ use native.Mathlib.Omega.{arith}
 use lib.ListN.{getD}
 use borrow.Author.Needs.{needs}
 use borrow.Author.Tests.{not-false}
-use Rattle.model.specs.Network.{size}
-use Rattle.layout.specs.Setting.{Lists, networkIn}
+use Rattle.layout.specs.Setting.{Lists}
 use Rattle.doubles.proofs.Table.{tried-none, tried-entered, tried-found}
 use Rattle.doubles.proofs.first_alike.Statement.{statement}
 use Rattle.doubles.proofs.first_alike.Tie as tie

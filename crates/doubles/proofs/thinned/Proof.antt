@@ -3,13 +3,11 @@
 use mathlib.Core.Path.{_≡_, sym, subst}
 use mathlib.Core.List.{List}
 use mathlib.Core.Logic.{⊎-elim}
-use Prim.Native.Nat.{ℕ, _+_, _-_, _*_, _/_, _%_, _≤_, _<_}
+use Prim.Native.Nat.{ℕ, _+_, _-_, _*_, _/_, _≤_}
 use native.Mathlib.Nat.{div-mul-le-self}
 use native.Mathlib.Omega.{arith}
-use lib.ListN.{length}
 use borrow.Author.Needs.{needs}
 use Rattle.layout.specs.Setting.{Setting}
-use Rattle.layout.proofs.Pairs.{base-within}
 use Rattle.doubles.specs.Alike.{PairAt}
 use Rattle.doubles.proofs.Parts.{Part, part-none, part-past, part-more, part-all, pair-beside}
 use Rattle.doubles.proofs.thinned.Statement.{statement}
