@@ -20,9 +20,10 @@ use Rattle.model.proofs.Support.{Supported, firstSupport-dead}
 use Rattle.model.proofs.LiveWords.{living-length, living-has, nextLive-first}
 use Rattle.model.proofs.Work.{filtered-done}
 use Rattle.model.proofs.SupportList.{needed-pairs, supportList-ext}
+use Rattle.sweeping.specs.Shrunk.{Shrunk}
 use Rattle.layout.specs.Setting.{Setting, network, listed, Sound, liveIn}
 use Rattle.layout.specs.Pairs.{combinationOf, sizeOf, tupleId, held}
-use Rattle.engine.specs.Work.{Done, Rest, Shrunk}
+use Rattle.engine.specs.Work.{Done, Rest}
 use Rattle.engine.specs.Blank.{Blanked}
 use Rattle.layout.proofs.Pairs.{combination-length}
 use Rattle.layout.proofs.Pairs.{tuple-below}

@@ -17,20 +17,22 @@ use Rattle.model.specs.TupleSet.{TupleSet, has, count, without, Inside}
 use Rattle.model.specs.Network.{total, size, firstId, indexOf}
 use Rattle.model.specs.Combination.{Combination, pairMember}
 use Rattle.model.specs.Support.{firstSupport}
-use Rattle.model.specs.Consistency.{filtered, needed}
-use Rattle.model.specs.LiveWords.{isLive, cleared, written}
+use Rattle.model.specs.Consistency.{needed}
+use Rattle.model.specs.LiveWords.{isLive, cleared}
 use Rattle.model.proofs.Bools.{not-both}
 use Rattle.model.proofs.Lists.{mem-elem, mem-from, earlier-take, later-earlier}
 use Rattle.model.proofs.TupleSet.{restrict-inside, restrict-test}
 use Rattle.model.proofs.Network.{ids-below}
 use Rattle.model.proofs.Support.{isSupport-self, isSupport-agree, isSupport-mono, firstSupport-least, firstSupport-length}
-use Rattle.model.proofs.LiveWords.{cleared-length, cleared-written, written-living, written-written, living-cleared, cleared-count, living-has}
-use Rattle.model.proofs.Work.{Unused, firstSupport-without, supported-without, unused-unsupported, unused-elsewhere, unused-sibling, filtered-remove}
+use Rattle.model.proofs.LiveWords.{cleared-length, living-cleared, cleared-count, living-has}
+use Rattle.model.proofs.Work.{Unused, firstSupport-without, supported-without, unused-unsupported, unused-elsewhere, unused-sibling}
 use Rattle.worklist.specs.Pairs.{queues}
 use Rattle.worklist.proofs.Stretch.{replaced, replaced-length, replaced-here, replaced-after, replaced-elsewhere}
+use Rattle.sweeping.specs.Shrunk.{Shrunk}
+use Rattle.sweeping.proofs.Shrunk.{shrunk-removed}
 use Rattle.layout.specs.Setting.{Setting, network, listed, Sound, liveIn}
 use Rattle.layout.specs.Pairs.{combinationOf, sizeOf, tupleId, placeOf, held}
-use Rattle.engine.specs.Work.{Supported, Bound, Working, Done, Rest, Shrunk}
+use Rattle.engine.specs.Work.{Supported, Bound, Working, Done, Rest}
 use Rattle.layout.proofs.Pairs.{combination-listed, combination-length, combination-rises, tuple-relation, tuple-in, place-within, places-apart}
 
 -- every word fits in 64 bits
@@ -134,17 +136,7 @@ module _ (G : Setting) (sound : Sound G) where
       pub kept-done : Done G words numbers p x → Done G words after p (suc x)
       kept-done done y l e = kept-tuple y l e done (ℕ-discrete y x)
 
-  -- ---- Words that only shrink
-
-  pub shrunk-refl : (words : List ℕ) → Small words → Shrunk G words words
-  shrunk-refl words small = record { bits = sym (written-living (total (network G)) words small); same = refl }
-
-  pub shrunk-trans : (a b c : List ℕ) → Shrunk G a b → Shrunk G b c → Shrunk G a c
-  shrunk-trans a b c s t =
-      record {
-        bits = t .bits ∙ ap (written (total (network G)) (liveIn G c)) (s .bits) ∙ written-written (total (network G)) (liveIn G c) (liveIn G b) a;
-        same = t .same ∙ s .same;
-      }
+  -- ---- Tuples passed over
 
   -- dead tuples are done
   pub done-skip : (words numbers : List ℕ) (p k k′ : ℕ) → Done G words numbers p k → ((x : ℕ) → k ≤ x → x < k′ → has (liveIn G words) (tupleId G p x) ≡ false) → Done G words numbers p k′
@@ -209,13 +201,7 @@ module _ (G : Setting) (sound : Sound G) where
 
     pub removed-shrunk : Shrunk G words fewer
     removed-shrunk =
-        record {
-          bits = ap (cleared g) (sym (written-living n words small))
-              ∙ cleared-written n before g words below
-              ∙ ap (λ (X : TupleSet). written n X words) (sym left-is);
-          same = ap (filtered (network G) (listed G)) left-is
-              ∙ filtered-remove (network G) (listed G) before g (combinationOf G p) (combination-listed (sound .laid .framed) (sound .paired) p hp) (tuple-in sound p x hp hx) none;
-        }
+        shrunk-removed G words g (combinationOf G p) small (working .space .enough) below (combination-listed (sound .laid .framed) (sound .paired) p hp) (tuple-in sound p x hp hx) none
 
     -- a tuple that is done stays so where g is in none of its supports
     done-stays : (c : Combination) (h : ℕ) (ns : List ℕ) → Unused (network G) before g c h → Supported G before c h × (ns ≡ firstSupport (network G) before c h) → Supported G (liveIn G fewer) c h × (ns ≡ firstSupport (network G) (liveIn G fewer) c h)

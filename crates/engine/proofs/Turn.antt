@@ -4,22 +4,21 @@ use mathlib.Core.Path.{_≡_, sym, _∙_, ap, subst}
 use mathlib.Core.Bool.{Bool, true, not, _&&_, cond, and-true}
 use mathlib.Core.List.{List}
 use mathlib.Core.Logic.{⊎-elim}
-use Prim.Native.Nat.{ℕ, suc, _+_, _*_, _^_, _<_}
+use Prim.Native.Nat.{ℕ, suc, _+_, _*_, _<_}
 use native.Mathlib.Omega.{arith}
 use lib.Dec.{ltb}
-use lib.ListN.{length, getD, drop}
+use lib.ListN.{length, drop}
 use borrow.Author.Tests.{lt-ltb, ne-eqb}
 use Rattle.model.specs.Limits.{maxPairs}
 use Rattle.model.specs.TupleSet.{count}
-use Rattle.model.specs.Network.{total}
 use Rattle.model.specs.Consistency.{needed}
 use Rattle.model.specs.LiveWords.{isLive, living, nextLive, cleared}
-use Rattle.model.proofs.LiveWords.{nextLive-first, written-length, written-below, cleared-count, living-count}
+use Rattle.model.proofs.LiveWords.{nextLive-first, cleared-count, living-count}
 use Rattle.worklist.proofs.Waiting.{Words, take-waits}
+use Rattle.sweeping.specs.Shrunk.{Shrunk}
+use Rattle.sweeping.proofs.Shrunk.{shrunk-trans}
 use Rattle.layout.specs.Setting.{Setting, network, listed, Sound, liveIn}
-use Rattle.live.specs.Words.{WordArray}
-use Rattle.engine.specs.Work.{Working, Rest, Shrunk, Visited}
-use Rattle.engine.proofs.Steps.{shrunk-trans}
+use Rattle.engine.specs.Work.{Working, Rest, Visited}
 
 -- What holds whenever a pair is taken, of the queue, the words and the numbers; words₀ and numbers₀ are those of the start.
 pub record Progress (G : Setting) (words₀ numbers₀ queue words numbers : List ℕ) : Type 0 where
@@ -33,16 +32,6 @@ pub record Progress (G : Setting) (words₀ numbers₀ queue words numbers : Lis
 -- what is left to do: live tuples first, then pairs that wait
 pub weight : Setting → List ℕ → List ℕ → ℕ
 weight G queue words = count (liveIn G words) * 1025 + count (living maxPairs queue)
-
--- an array of words that shrinks is one still
-pub shrunk-array : (G : Setting) (words after : List ℕ) → Shrunk G words after → WordArray words → WordArray after
-shrunk-array G words after s w =
-    let n = total (network G) in
-    let long : length after ≡ length words = ap length (s .bits) ∙ written-length n (liveIn G after) words in
-    record {
-      long = long ∙ w .long;
-      small = λ i h. subst (λ (ws : List ℕ). getD ws i 0 < 2 ^ 64) (sym (s .bits)) (written-below n (liveIn G after) words i (omega (arith, long)));
-    }
 
 module _ (G : Setting) (sound : Sound G) (queue : List ℕ) (sixteen : Words queue) (pair : ℕ) (first : pair ≡ nextLive queue 0 maxPairs) (below : pair < length (G .members)) (rest : List ℕ) (takes : rest ≡ cond (ltb pair maxPairs) (cleared pair queue) queue) where
   few : pair < maxPairs
@@ -92,7 +81,7 @@ module _ (G : Setting) (sound : Sound G) (queue : List ℕ) (sixteen : Words que
         record {
           sixteen = next;
           working = seen .working;
-          shrunk = shrunk-trans G sound words₀ words words′ (u .shrunk) (seen .shrunk);
+          shrunk = shrunk-trans G words₀ words words′ (u .shrunk) (seen .shrunk);
           beyond = seen .beyond ∙ u .beyond;
           long = seen .long ∙ u .long;
           rest = seen .done (taken-rest words numbers (u .rest));

@@ -15,10 +15,12 @@ use Rattle.model.specs.LiveWords.{isLive, cleared}
 use Rattle.model.proofs.Bools.{not-both}
 use Rattle.model.proofs.LiveWords.{cleared-below, cleared-length}
 use Rattle.worklist.specs.Pairs.{queues}
+use Rattle.sweeping.specs.Shrunk.{Shrunk}
+use Rattle.sweeping.proofs.Shrunk.{shrunk-refl, shrunk-trans}
 use Rattle.layout.specs.Setting.{Setting, network, listed, Sound, liveIn}
 use Rattle.layout.specs.Pairs.{sizeOf, tupleId}
-use Rattle.engine.specs.Work.{Working, Done, Rest, Shrunk, Renewed, Visited}
-use Rattle.engine.proofs.Steps.{Small, kept-length, kept-beyond, kept-rest, kept-working, kept-done, shrunk-refl, shrunk-trans, done-skip, removed-count, removed-working, removed-shrunk, removed-rest, removed-done}
+use Rattle.engine.specs.Work.{Working, Done, Rest, Renewed, Visited}
+use Rattle.engine.proofs.Steps.{Small, kept-length, kept-beyond, kept-rest, kept-working, kept-done, done-skip, removed-count, removed-working, removed-shrunk, removed-rest, removed-done}
 
 -- The visit of pair p has done the first k tuples of its member: what it has kept, and what it has made of the queue, words
 -- and numbers that it began with.
@@ -40,7 +42,7 @@ module _ {G : Setting} (sound : Sound G) {p : ℕ} (hp : p < length (G .members)
       record {
         small = small;
         working = work;
-        shrinks = shrunk-refl G sound words small;
+        shrinks = shrunk-refl G words small;
         beyond = refl;
         long = refl;
         wide = refl;
@@ -103,7 +105,7 @@ module _ {G : Setting} (sound : Sound G) {p : ℕ} (hp : p < length (G .members)
             (record {
               small = λ i h. cleared-below (tupleId G p k) words′ (I .small) i (omega (arith, cleared-length (tupleId G p k) words′));
               working = removed-working G sound words′ numbers′ (I .small) p k (I .working) hp hk lives none;
-              shrinks = shrunk-trans G sound words words′ (cleared (tupleId G p k) words′) (I .shrinks) (removed-shrunk G sound words′ numbers′ (I .small) p k (I .working) hp hk lives none);
+              shrinks = shrunk-trans G words words′ (cleared (tupleId G p k) words′) (I .shrinks) (removed-shrunk G sound words′ numbers′ (I .small) p k (I .working) hp hk lives none);
               beyond = I .beyond;
               long = I .long;
               wide = cleared-length (tupleId G p k) words′ ∙ I .wide;

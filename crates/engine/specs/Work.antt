@@ -15,6 +15,7 @@ use Rattle.model.specs.Support.{candidates, isSupport, firstSupport}
 use Rattle.model.specs.Consistency.{filtered, supportList, needed}
 use Rattle.model.specs.LiveWords.{isLive, cleared, written}
 use Rattle.value_index.specs.Index.{Indexed}
+use Rattle.sweeping.specs.Shrunk.{Shrunk}
 use Rattle.worklist.specs.Supports.{SupportsFit, PairsBegin}
 use Rattle.layout.specs.Loan.{Loan, entry, exit}
 use Rattle.layout.specs.Setting.{Setting, network, listed, liveIn, Sound}
@@ -75,11 +76,6 @@ Done G words numbers p k =
 abbrev pub Rest : Setting → List ℕ → List ℕ → List ℕ → (ℕ → Type 0) → Type 0
 Rest G queue words numbers but =
     (q : ℕ) → q < length (G .members) → isLive queue q ≡ false → (but q → ⊥) → Done G words numbers q (sizeOf G q)
-
--- The words change only in tuples removed, and what filtering leaves of them does not change.
-pub record Shrunk (G : Setting) (words after : List ℕ) : Type 0 where
-  pub bits : after ≡ written (total (network G)) (liveIn G after) words
-  pub same : filtered (network G) (listed G) (liveIn G after) ≡ filtered (network G) (listed G) (liveIn G words)
 
 -- ---- One tuple
 

@@ -14,6 +14,7 @@ use live::copied;
 use live::put_back;
 use live::words_for;
 use model::Value;
+use sweeping::sweeps;
 use value_index::INDEX;
 use value_index::Index;
 use value_index::index_all;
@@ -99,6 +100,7 @@ pub fn filter(
     let begins = prepare(variables, values, starts, members, m, &mut index);
     let count = words_for(tuple_count(starts));
     let mut live = copied(words, count);
+    sweeps(variables, values, starts, members, m, &index, &mut live);
     settle(
         variables,
         values,

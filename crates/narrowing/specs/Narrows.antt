@@ -90,6 +90,11 @@ pub record Rowed (index : List ℕ) (s end : ℕ) : Type 0 where
   pub relation : s < maxRelations
   pub within : HasBits index end
 
+-- Sound lists with their index.
+pub record Searchable (L : Lists) (index : List ℕ) : Type 0 where
+  pub laid : SoundLists L
+  pub indexed : Indexed (networkIn L) index
+
 -- Tuple x of relation r, which the words are narrowed for, in sound lists with their index.
 pub record Seeks (L : Lists) (index : List ℕ) (r x : ℕ) : Type 0 where
   pub laid : SoundLists L

@@ -7,7 +7,7 @@ ghost use Rattle.model.specs.Limits.{maxRelations, maxWidth, maxTuples};
 ghost use Rattle.model.specs.LiveWords.{isSet, wordsFor};
 ghost use Rattle.layout.specs.Loan.{entry, exit};
 ghost use Rattle.layout.specs.Setting.{lists, networkIn, SoundLists};
-ghost use Rattle.value_index.specs.Plan.{indexWords, ColumnRows, SoundPlan};
+ghost use Rattle.value_index.specs.Plan.{ColumnRows, SoundPlan};
 ghost use Rattle.value_index.specs.Index.{rowBit, isIndexed};
 ghost use Rattle.narrowing.specs.Narrows.{stays, Kept, KeptIds, Agreeing, Others, Long, HasBits, Rowed, Seeks, NarrowsMember, NarrowsMembers, mayHave};
 ghost use Rattle.narrowing.specs.Columns.{NarrowsBy, NarrowsColumn};
@@ -41,33 +41,33 @@ fn below(base: usize, bound: usize) -> u64
     (1u64 << k) - 1
 }
 
-// The ids of word i, of those from begin on and below stop, whose bit in the index's words from `first` on is 0, are dead,
+// The ids of word i, of those from begin on and below stop, whose bit in the words from `first` on is 0, are dead,
 // and every other bit stays.
-fn keep_word(index: &Index, words: &mut Words, first: usize, i: usize, begin: usize, stop: usize)
-    requires { ⌜ Long (now words) × ((first + i < indexWords) × (i < 64)) ⌝ }
-    ensures { λ _. ⌜ Long (exit words) × Kept (stays (rowBit (entry index) first) begin stop) i (i + 1) (entry words) (exit words) ⌝ }
+fn keep_word(rows: &[u64], words: &mut Words, first: usize, i: usize, begin: usize, stop: usize)
+    requires { ⌜ Long (now words) × ((first + i < length (now rows)) × (i < 64)) ⌝ }
+    ensures { λ _. ⌜ Long (exit words) × Kept (stays (rowBit (entry rows) first) begin stop) i (i + 1) (entry words) (exit words) ⌝ }
 {
     let low = below(i * 64, begin);
     let high = below(i * 64, stop);
-    words[i] = words[i] & (low | (!high | index[first + i]));
+    words[i] = words[i] & (low | (!high | rows[first + i]));
 }
 
 // The same for all ids of the words from `from` on and below `to`.
-fn keep_words(index: &Index, words: &mut Words, first: usize, from: usize, to: usize)
-    requires { ⌜ Long (now words) × ((first + to ≤ indexWords) × ((from ≤ to) × (to ≤ 64))) ⌝ }
-    ensures { λ _. ⌜ Long (exit words) × Kept (rowBit (entry index) first) from to (entry words) (exit words) ⌝ }
+fn keep_words(rows: &[u64], words: &mut Words, first: usize, from: usize, to: usize)
+    requires { ⌜ Long (now words) × ((first + to ≤ length (now rows)) × ((from ≤ to) × (to ≤ 64))) ⌝ }
+    ensures { λ _. ⌜ Long (exit words) × Kept (rowBit (entry rows) first) from to (entry words) (exit words) ⌝ }
 {
     let mut i = from;
     while i < to {
-        words[i] = words[i] & index[first + i];
+        words[i] = words[i] & rows[first + i];
         i += 1;
     }
 }
 
 // Of the ids from start on and below end, those whose bit is 0 in the row that begins at word `first` are dead, and every other bit stays.
-fn keep(index: &Index, words: &mut Words, first: usize, start: u16, end: u16)
-    requires { ⌜ Long (now words) × ((end ≤ maxTuples) × (first + wordsFor end ≤ indexWords)) ⌝ }
-    ensures { λ _. ⌜ Long (exit words) × KeptIds (rowBit (entry index) first) start end (entry words) (exit words) ⌝ }
+pub fn keep(rows: &[u64], words: &mut Words, first: usize, start: u16, end: u16)
+    requires { ⌜ Long (now words) × ((end ≤ maxTuples) × (first + wordsFor end ≤ length (now rows))) ⌝ }
+    ensures { λ _. ⌜ Long (exit words) × KeptIds (rowBit (entry rows) first) start end (entry words) (exit words) ⌝ }
 {
     let begin = wide(start);
     let stop = wide(end);
@@ -76,10 +76,10 @@ fn keep(index: &Index, words: &mut Words, first: usize, start: u16, end: u16)
     }
     let i = begin / 64;
     let last = (stop - 1) / 64;
-    keep_word(index, words, first, i, begin, stop);
+    keep_word(rows, words, first, i, begin, stop);
     if i < last {
-        keep_words(index, words, first, i + 1, last);
-        keep_word(index, words, first, last, begin, stop);
+        keep_words(rows, words, first, i + 1, last);
+        keep_word(rows, words, first, last, begin, stop);
     }
 }
 
@@ -180,7 +180,7 @@ fn narrow_columns(
 
 // Relation s's ids narrowed for tuple x of relation r: under each variable that both scopes have, to those that may have its
 // value.
-fn narrow(
+pub fn narrow(
     variables: &[u16],
     values: &[Value],
     starts: &Starts,
@@ -221,7 +221,7 @@ fn narrow(
 }
 
 // Relation s's ids narrowed for tuple x of relation r. False where none of them is live any more.
-fn narrow_member(
+pub fn narrow_member(
     variables: &[u16],
     values: &[Value],
     starts: &Starts,

@@ -5,6 +5,7 @@ use mathlib.Core.Bool.{_&&_}
 use mathlib.Core.List.{List}
 use Prim.Native.Nat.{ℕ, _+_, _-_, _*_, _/_, _≤_, _<_}
 use native.Mathlib.Omega.{arith}
+use lib.ListN.{length}
 use borrow.Author.Needs.{needs}
 use Rattle.model.specs.LiveWords.{isLive}
 use Rattle.value_index.specs.Index.{rowBit}
@@ -15,7 +16,7 @@ use Rattle.narrowing.proofs.keep.Tie as tie
 
 module _ (w : tie.Else1) where
   abbrev start : tie.Start
-  start = w .before .before .before
+  start = w .before .before .before .before
 
   abbrev begin : ℕ
   begin = w .before .before .wide .result
@@ -28,26 +29,26 @@ module _ (w : tie.Else1) where
   some = w .if1 .left
 
   -- their words have a place in the row
-  inside : start .args .first + ((stop - 1) / 64 + 1) ≤ 9284
+  inside : start .args .first + ((stop - 1) / 64 + 1) ≤ length (start .args .rows .now)
   inside = omega (arith, some, w .before .wide2 .ensures .0, start .pre .1 .1)
 
   short : (stop - 1) / 64 < 64
   short = omega (arith, some, w .before .wide2 .ensures .0, start .pre .1 .0)
 
   -- the words narrowed hold them all
-  done : (n : ℕ) (after : List ℕ) → stop ≤ 64 * n → Kept (stays (rowBit (start .args .index .now) (start .args .first)) begin stop) (begin / 64) n (start .args .words .now) after → KeptIds (rowBit (start .args .index .now) (start .args .first)) (start .args .start) (start .args .end) (start .args .words .now) after
+  done : (n : ℕ) (after : List ℕ) → stop ≤ 64 * n → Kept (stays (rowBit (start .args .rows .now) (start .args .first)) begin stop) (begin / 64) n (start .args .words .now) after → KeptIds (rowBit (start .args .rows .now) (start .args .first)) (start .args .start) (start .args .end) (start .args .words .now) after
   done n after h f g =
       let a = start .args in
       let l : 64 * (begin / 64) ≤ begin = omega arith in
-      kept-stays (a .index .now) (a .first) begin stop (begin / 64) n (a .words .now) after l h f g
-      ∙ ap₂ (λ (x y : ℕ). isLive (a .words .now) g && stays (rowBit (a .index .now) (a .first)) x y g) (w .before .before .wide .ensures .0) (w .before .wide2 .ensures .0)
+      kept-stays (a .rows .now) (a .first) begin stop (begin / 64) n (a .words .now) after l h f g
+      ∙ ap₂ (λ (x y : ℕ). isLive (a .words .now) g && stays (rowBit (a .rows .now) (a .first)) x y g) (w .before .before .wide .ensures .0) (w .before .wide2 .ensures .0)
 
 returns : tie.Need-returns
 returns c =
-    let s = c .before .before .before in
+    let s = c .before .before .before .before in
     let a = s .args in
     let h : a .end ≤ a .start = omega (arith, c .if1 .taken, c .before .wide2 .ensures .0, c .before .before .wide .ensures .0) in
-    (s .pre .0, λ g. stays-none (rowBit (a .index .now) (a .first)) (a .start) (a .end) g h (isLive (a .words .now) g))
+    (s .pre .0, λ g. stays-none (rowBit (a .rows .now) (a .first)) (a .start) (a .end) g h (isLive (a .words .now) g))
 
 returns-2 : tie.Need-returns-2
 returns-2 c =
@@ -66,8 +67,8 @@ returns-2 c =
     let low : begin w ≤ 64 * (i + 1) = omega arith in
     let high : 64 * last ≤ stop w = omega arith in
     let end : stop w ≤ 64 * (last + 1) = omega arith in
-    let test = stays (rowBit (a .index .now) (a .first)) (begin w) (stop w) in
-    let inner = kept-inner (a .index .now) (a .first) (begin w) (stop w) (i + 1) last words₁ words₂ low high (between .keep-words .ensures .1) in
+    let test = stays (rowBit (a .rows .now) (a .first)) (begin w) (stop w) in
+    let inner = kept-inner (a .rows .now) (a .first) (begin w) (stop w) (i + 1) last words₁ words₂ low high (between .keep-words .ensures .1) in
     let l1 : i ≤ i + 1 = omega arith in
     let l2 : i + 1 ≤ last = omega arith in
     let l3 : i ≤ last = omega arith in

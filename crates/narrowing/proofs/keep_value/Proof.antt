@@ -45,7 +45,7 @@ module _ (c : tie.Then1 Inv-loop μ-loop) where
 
 keep-requires : tie.Need-keep-requires Inv-loop μ-loop
 keep-requires c κs =
-    let t = c .before .before in
+    let t = c .before .before .before in
     let s = start t in
     (loop t .loop .inv .1 .1 .0, (s .pre .1 .1 .1 .1, omega (arith, c .row-of .ensures, within t, s .pre .1 .1 .1 .0)))
 
@@ -53,7 +53,7 @@ loop-again : tie.Need-loop-again Inv-loop μ-loop
 loop-again c =
     let k = c .before in
     let r = k .before in
-    let t = r .before .before in
+    let t = r .before .before .before in
     let l = loop t .loop in
     let a = start t .args in
     let new = k .keep .last .1 .0 in
@@ -87,10 +87,10 @@ keep-value-spec =
     (λ c κs. c .pre .1 .0)
     (λ c. (omega arith, (c .hash-of .ensures, (c .before .pre .0, kept-ever (c .before .args .start) (c .before .args .end) (c .before .args .words .now)))))
     (λ c κs. search needs)
-    (λ c κs. let t = c .before in (start t .pre .1 .0, (start t .pre .1 .1 .0, (below t, reached t))))
+    (λ c κs. let t = c .before .before in (start t .pre .1 .0, (start t .pre .1 .1 .0, (below t, reached t))))
     keep-requires
-    (λ c κs. let t = c .before .before .before in (start t .pre .1 .0, below t))
-    (λ c. omega (arith, reached (c .before .before .before .before), start (c .before .before .before .before) .pre .1 .0 .few))
-    (λ c. omega (arith, reached (c .before .before .before .before)))
+    (λ c κs. let t = c .before .before .before .before in (start t .pre .1 .0, below t))
+    (λ c. omega (arith, reached (c .before .before .before .before .before), start (c .before .before .before .before .before) .pre .1 .0 .few))
+    (λ c. omega (arith, reached (c .before .before .before .before .before)))
     loop-again
     returns)

@@ -15,13 +15,13 @@ returns : tie.Need-returns
 returns c =
     let low = c .before .before .before .below in
     let high = c .before .before .below2 in
-    let s = c .before .before .before .before in
+    let s = c .before .before .before .before .before in
     let a = s .args in
     let ws = a .words .now in
     let inside : a .i < length ws = omega (arith, s .pre .0, s .pre .1 .1) in (
       length-set ws (a .i) _ ∙ s .pre .0,
-      kept-word (stays (rowBit (a .index .now) (a .first)) (a .begin) (a .stop)) (a .i) _ ws inside
-          (λ j l. stays-at (a .index .now) (a .first) (a .begin) (a .stop) (a .i) (low .result) (high .result) j (low .ensures .1) (high .ensures .0) (high .ensures .1) l),
+      kept-word (stays (rowBit (a .rows .now) (a .first)) (a .begin) (a .stop)) (a .i) _ ws inside
+          (λ j l. stays-at (a .rows .now) (a .first) (a .begin) (a .stop) (a .i) (low .result) (high .result) j (low .ensures .1) (high .ensures .0) (high .ensures .1) l),
     )
 
 pub keep-word-spec : {M : Type 1} → statement M

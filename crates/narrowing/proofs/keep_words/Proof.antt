@@ -12,17 +12,17 @@ use Rattle.narrowing.proofs.keep_words.Statement.{statement}
 use Rattle.narrowing.proofs.keep_words.Tie as tie
 
 abbrev Inv-loop : tie.InvT-loop
-Inv-loop index words₀ first from to i₀ words i =
-    (from ≤ i) × ((i ≤ to) × ((length words ≡ 64) × Kept (rowBit index first) from i words₀ words))
+Inv-loop rows words₀ first from to i₀ words i =
+    (from ≤ i) × ((i ≤ to) × ((length words ≡ 64) × Kept (rowBit rows first) from i words₀ words))
 
 abbrev μ-loop : tie.MeasureT-loop
-μ-loop index words₀ first from to i₀ words i = to - i
+μ-loop rows words₀ first from to i₀ words i = to - i
 
 loop-holds : tie.Need-loop-holds Inv-loop μ-loop
 loop-holds c =
     let s = c in
     let a = s .args in
-    (omega arith, (s .pre .1 .1 .0, (s .pre .0, kept-none (rowBit (a .index .now) (a .first)) (a .from) (a .words .now))))
+    (omega arith, (s .pre .1 .1 .0, (s .pre .0, kept-none (rowBit (a .rows .now) (a .first)) (a .from) (a .words .now))))
 
 loop-again : tie.Need-loop-again Inv-loop μ-loop
 loop-again c =
@@ -38,8 +38,8 @@ loop-again c =
         omega (arith, turn .loop-test .taken),
         (
           length-set (l .words) (l .i) _ ∙ inv .1 .1 .0,
-          kept-on (rowBit (a .index .now) (a .first)) (a .from) (l .i) (l .i + 1) (a .words .now) (l .words) _ (inv .0) on (inv .1 .1 .1)
-              (kept-word (rowBit (a .index .now) (a .first)) (l .i) _ (l .words) inside (row-at (a .index .now) (a .first) (l .i))),
+          kept-on (rowBit (a .rows .now) (a .first)) (a .from) (l .i) (l .i + 1) (a .words .now) (l .words) _ (inv .0) on (inv .1 .1 .1)
+              (kept-word (rowBit (a .rows .now) (a .first)) (l .i) _ (l .words) inside (row-at (a .rows .now) (a .first) (l .i))),
         ),
       ),
     )
@@ -50,7 +50,7 @@ returns c =
     let a = s .args in
     let l = c .before .loop in
     let e : l .i ≡ a .to = omega (arith, c .loop-test .left, l .inv .1 .0) in
-    (l .inv .1 .1 .0, subst (λ (n : ℕ). Kept (rowBit (a .index .now) (a .first)) (a .from) n (a .words .now) (l .words)) e (l .inv .1 .1 .1))
+    (l .inv .1 .1 .0, subst (λ (n : ℕ). Kept (rowBit (a .rows .now) (a .first)) (a .from) n (a .words .now) (l .words)) e (l .inv .1 .1 .1))
 
 pub keep-words-spec : {M : Type 1} → statement M
 keep-words-spec =

@@ -19,8 +19,8 @@ use Rattle.layout.specs.Setting.{Setting, network, listed, Sound}
 use Rattle.layout.specs.Pairs.{sizeOf}
 use Rattle.engine.specs.Work.{Done}
 use Rattle.engine.proofs.Start.{filled-long, filled-beyond, filled-working, full-rest}
-use Rattle.engine.proofs.Steps.{shrunk-refl}
-use Rattle.engine.proofs.Turn.{Progress, weight, shrunk-array, weight-less, underway}
+use Rattle.sweeping.proofs.Shrunk.{shrunk-refl, shrunk-array}
+use Rattle.engine.proofs.Turn.{Progress, weight, weight-less, underway}
 use Rattle.engine.proofs.End.{all-done, left, words-end, numbers-end}
 use Rattle.engine.proofs.filter.settle.Statement.{statement}
 use Rattle.engine.proofs.filter.settle.Tie as tie
@@ -84,7 +84,7 @@ loop-holds c =
     record {
       sixteen = words-of (c .full .result .words) (search needs) f;
       working = filled-working G (sound s) (a .words .now) (a .numbers .now) (fill .last .0) (s .pre .1) (fills (c .before .before .before));
-      shrunk = shrunk-refl G (sound s) (a .words .now) (s .pre .0 .0 .small);
+      shrunk = shrunk-refl G (a .words .now) (s .pre .0 .0 .small);
       beyond = refl;
       long = refl;
       rest = full-rest G (sound s) (c .full .result .words) (a .words .now) (fill .last .0) (length (a .members .now)) refl (c .full .ensures);

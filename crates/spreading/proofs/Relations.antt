@@ -1,0 +1,59 @@
+-- Laws of one relation narrowed through another: what is gathered of it, tuple by tuple, and what is then kept.
+-- From the laws of words copied, of narrowing, and of ids.
+use mathlib.Core.Path.{_≡_, refl, sym, _∙_, ap, subst}
+use mathlib.Core.Bool.{Bool, true, _&&_, and-true}
+use mathlib.Core.List.{List}
+use mathlib.Core.Logic.{_⊎_, inl, inr, ⊎-elim}
+use Prim.Native.Nat.{ℕ, _+_, _*_, _≤_, _<_}
+use native.Mathlib.Decide.{ℕ-discrete, decLt}
+use native.Mathlib.Omega.{arith}
+use lib.Dec.{ltb, leb}
+use Rattle.model.specs.Network.{Network, size, firstId}
+use Rattle.model.specs.Agreement.{agree}
+use Rattle.model.specs.LiveWords.{isLive}
+use Rattle.model.proofs.Bools.{and-left, and-intro, or-right}
+use Rattle.live.specs.Words.{CopiedBetween}
+use Rattle.live.proofs.Copies.{between-live}
+use Rattle.value_index.specs.Index.{rowBit}
+use Rattle.narrowing.specs.Narrows.{stays, KeptIds, Agreeing}
+use Rattle.narrowing.proofs.Words.{stays-before, stays-behind}
+use Rattle.spreading.specs.Spread.{Joins, Gathers, Spread}
+
+module _ (N : Network) (r s : ℕ) where
+  -- what agrees with tuple x is copied, narrowed and joined
+  pub gathered : (x start end : ℕ) (words scratch₀ scratch₁ scratch₂ before after : List ℕ) → start ≡ firstId N s → end ≡ firstId N s + size N s → CopiedBetween start end words scratch₀ scratch₁ → Agreeing N r x s scratch₁ scratch₂ → Joins start end scratch₂ before after → Gathers N r x s words before after
+  gathered x start end words scratch₀ scratch₁ scratch₂ before after es ee copied narrowed joined =
+      record {
+        keeps = λ z h l. joined (firstId N s + z) (omega arith) (omega arith) (inl l);
+        adds = λ z h a l. joined (firstId N s + z) (omega arith) (omega arith) (inr (narrowed .keeps z h a (between-live copied (firstId N s + z) (omega arith) (omega arith) ∙ l)));
+      }
+
+  -- what agrees with the live tuples of relation r below id g is gathered
+  abbrev pub Gathered : List ℕ → List ℕ → ℕ → Type 0
+  Gathered words sum g =
+      (x z : ℕ) → x < size N r → firstId N r + x < g → isLive words (firstId N r + x) ≡ true → z < size N s → agree N (firstId N r + x) (firstId N s + z) ≡ true → isLive words (firstId N s + z) ≡ true → isLive sum (firstId N s + z) ≡ true
+
+  -- .. with one more of them, behind which the next live one is at h
+  pub gathered-more : (words sum after : List ℕ) (y h : ℕ) → ((k : ℕ) → firstId N r + y + 1 ≤ k → k < h → isLive words k ≡ true → ⊥) → Gathers N r y s words sum after → Gathered words sum (firstId N r + y) → Gathered words after h
+  gathered-more words sum after y h none one so-far x z hx below live hz agrees lives = go (decLt x y) (ℕ-discrete x y)
+    where
+      go : Dec (x < y) → Dec (x ≡ y) → isLive after (firstId N s + z) ≡ true
+      go (yes l) d = one .keeps z hz (so-far x z hx (omega arith) live hz agrees lives)
+      go (no l) (yes e) = one .adds z hz (subst (λ (k : ℕ). agree N (firstId N r + k) (firstId N s + z) ≡ true) e agrees) lives
+      go (no l) (no d) = absurd (none (firstId N r + x) (omega arith) below live)
+
+  -- nothing is narrowed
+  pub spread-none : (words : List ℕ) → Spread N r s words words
+  spread-none words = record { inside = λ g l. l; outside = λ g o. refl; keeps = λ x z hx hz a lx lz. lz }
+
+  -- what is gathered is kept
+  pub spread-kept : (start end g : ℕ) (words sum after : List ℕ) → start ≡ firstId N s → end ≡ firstId N s + size N s → firstId N r + size N r ≤ g → Gathered words sum g → KeptIds (rowBit sum 0) start end words after → Spread N r s words after
+  spread-kept start end g words sum after es ee past all kept =
+      record {
+        inside = λ h l. and-left (isLive words h) (stays (rowBit sum 0) start end h) (sym (kept h) ∙ l);
+        outside = λ h o. kept h ∙ ap (λ (x : Bool). isLive words h && x) (⊎-elim (λ l. stays-before (rowBit sum 0) start end h (omega arith)) (λ l. stays-behind (rowBit sum 0) start end h (omega arith)) o) ∙ and-true (isLive words h);
+        keeps = λ x z hx hz a lx lz.
+            let i = firstId N s + z in
+            let n : 64 * 0 + i ≡ i = omega arith in
+            kept i ∙ and-intro lz (or-right (ltb i start) (or-right (leb end i) (ap (isLive sum) n ∙ all x z hx (omega arith) lx hz a lz)));
+      }

@@ -1,0 +1,77 @@
+-- A relation's live tuples narrowed through those of another, and the members of a combination through each other.
+use mathlib.Core.Path.{_≡_}
+use mathlib.Core.Bool.{Bool, true, false}
+use mathlib.Core.List.{List, List·Memᴰ}
+use mathlib.Core.Logic.{_⊎_}
+use Prim.Native.Nat.{ℕ, _+_, _≤_, _<_}
+use lib.ListN.{length, getD}
+use Rattle.model.specs.Limits.{maxRelations, maxMembers}
+use Rattle.model.specs.Lists.{pairwise}
+use Rattle.model.specs.Network.{Network, size, firstId}
+use Rattle.model.specs.Agreement.{agree}
+use Rattle.model.specs.Combination.{Combination}
+use Rattle.model.specs.Support.{candidates}
+use Rattle.model.specs.LiveWords.{isLive}
+use Rattle.model.specs.Fault.{properMembers}
+use Rattle.layout.specs.Setting.{Lists, networkIn}
+use Rattle.narrowing.specs.Narrows.{Long, Dead, Searchable}
+
+-- ---- Two relations
+
+-- an id from start on and below end that is live in the words, or was, is live
+abbrev pub Joins : ℕ → ℕ → List ℕ → List ℕ → List ℕ → Type 0
+Joins start end words before after =
+    (g : ℕ) → start ≤ g → g < end → (isLive before g ≡ true) ⊎ (isLive words g ≡ true) → isLive after g ≡ true
+
+-- Of relation s, the tuples that were live are, and so are those of the words that agree with tuple x of relation r.
+pub record Gathers (N : Network) (r x s : ℕ) (words before after : List ℕ) : Type 0 where
+  pub keeps : (z : ℕ) → z < size N s → isLive before (firstId N s + z) ≡ true → isLive after (firstId N s + z) ≡ true
+  pub adds : (z : ℕ) → z < size N s → agree N (firstId N r + x) (firstId N s + z) ≡ true → isLive words (firstId N s + z) ≡ true → isLive after (firstId N s + z) ≡ true
+
+-- r and s are numbers of relations
+abbrev pub Two : ℕ → ℕ → Type 0
+Two r s = (r < maxRelations) × (s < maxRelations)
+
+-- No id is raised, the ids outside relation s stay, and so does a tuple of it that agrees with a live one of relation r.
+pub record Spread (N : Network) (r s : ℕ) (before after : List ℕ) : Type 0 where
+  pub inside : (g : ℕ) → isLive after g ≡ true → isLive before g ≡ true
+  pub outside : (g : ℕ) → (g < firstId N s) ⊎ (firstId N s + size N s ≤ g) → isLive after g ≡ isLive before g
+  pub keeps : (x z : ℕ) → x < size N r → z < size N s → agree N (firstId N r + x) (firstId N s + z) ≡ true → isLive before (firstId N r + x) ≡ true → isLive before (firstId N s + z) ≡ true → isLive after (firstId N s + z) ≡ true
+
+-- .. false only where none of s's is live any more
+abbrev pub Spreads : Network → ℕ → ℕ → List ℕ → List ℕ → Bool → Type 0
+Spreads N r s before after found = Long after × (Spread N r s before after × (found ≡ false → Dead N s after))
+
+-- ---- The members of a combination
+
+-- Members that exist and rise, not too many.
+pub record Members (N : Network) (members : Combination) : Type 0 where
+  pub proper : properMembers N members ≡ true
+  pub few : length members ≤ maxMembers
+
+-- not too many numbers of relations
+abbrev pub Numbers : List ℕ → Type 0
+Numbers members = (length members ≤ maxMembers) × ((j : ℕ) → j < length members → getD members j 0 < maxRelations)
+
+-- .. of sound lists with their index
+abbrev pub Spreadable : Lists → List ℕ → Combination → Type 0
+Spreadable L index members = Searchable L index × Members (networkIn L) members
+
+-- all tuples are live
+abbrev pub AllLive : List ℕ → List ℕ → Type 0
+AllLive words t = (g : ℕ) → List·Memᴰ g t → isLive words g ≡ true
+
+-- No id is raised, and live tuples of all members stay of which every two agree.
+pub record KeepsSupports (N : Network) (members : Combination) (before after : List ℕ) : Type 0 where
+  pub inside : (g : ℕ) → isLive after g ≡ true → isLive before g ≡ true
+  pub keeps : (t : List ℕ) → List·Memᴰ t (candidates N members) → pairwise (agree N) t ≡ true → AllLive before t → AllLive after t
+
+-- One of the members has no live tuple left.
+pub record NoneLeft (N : Network) (members : Combination) (words : List ℕ) : Type 0 where
+  pub j : ℕ
+  pub within : j < length members
+  pub dead : Dead N (getD members j 0) words
+
+abbrev pub SpreadsMembers : Network → Combination → List ℕ → List ℕ → Bool → Type 0
+SpreadsMembers N members before after found =
+    Long after × (KeepsSupports N members before after × (found ≡ false → NoneLeft N members after))

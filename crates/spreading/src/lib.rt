@@ -1,0 +1,176 @@
+// Before a search: members that share no variable with the seeking tuple's relation are narrowed through the candidates of a member
+// between, where those are few. The search would try them one by one.
+ghost use Prim.Native.Nat.{_≤_, _<_};
+ghost use Rattle.model.specs.Limits.{maxRelations, maxTuples};
+ghost use Rattle.layout.specs.Loan.{entry, exit};
+ghost use Rattle.layout.specs.Setting.{lists, networkIn};
+ghost use Rattle.narrowing.specs.Narrows.{Long, Searchable, Seeks};
+ghost use Rattle.spreading.specs.Spread.{Joins, Gathers, Two, Spreads, Spreadable, SpreadsMembers};
+use layout::Starts;
+use layout::tuple_start;
+use live::WORDS;
+use live::Words;
+use live::copy_between;
+use live::count;
+use live::next;
+use live::words_for;
+use model::Value;
+use narrowing::keep;
+use narrowing::narrow;
+use value_index::Index;
+
+pub mod steps; // which members are narrowed through which
+
+// Of the ids from start on and below end, those of the one array are live in the other too.
+fn join_between(from: &Words, to: &mut Words, start: u16, end: u16)
+    requires { ⌜ Long (now from) × (Long (now to) × (end ≤ maxTuples)) ⌝ }
+    ensures { λ _. ⌜ Long (exit to) × Joins start end (entry from) (entry to) (exit to) ⌝ }
+{
+    let stop = words_for(end);
+    let mut i = start as usize / 64;
+    while i < stop {
+        to[i] = to[i] | from[i];
+        i += 1;
+    }
+}
+
+// The live tuples of relation s that may agree with tuple x of relation r are live in `sum` too. What is in `scratch` does not matter.
+fn gather(
+    variables: &[u16],
+    values: &[Value],
+    starts: &Starts,
+    index: &Index,
+    words: &Words,
+    sum: &mut Words,
+    scratch: &mut Words,
+    r: u16,
+    x: u16,
+    s: u16,
+)
+    requires { ⌜ Long (now words) × (Long (now sum) × Long (now scratch)) ⌝ }
+    requires { ⌜ Seeks (lists now variables values starts) (now index) r x × (s < maxRelations) ⌝ }
+    ensures { λ _. ⌜ (Long (exit sum) × Long (exit scratch)) × Gathers (networkIn (lists entry variables values starts)) r x s (entry words) (entry sum) (exit sum) ⌝ }
+{
+    let start = tuple_start(starts, s);
+    let end = tuple_start(starts, s + 1);
+    copy_between(words, scratch, start, end);
+    narrow(variables, values, starts, index, scratch, r, x, s);
+    join_between(scratch, sum, start, end);
+}
+
+// Relation s's ids narrowed to those that may agree with a live tuple of relation r, if those are not more than the limit. False where none
+// of s's is live any more.
+pub fn spread(
+    variables: &[u16],
+    values: &[Value],
+    starts: &Starts,
+    index: &Index,
+    words: &mut Words,
+    r: u16,
+    s: u16,
+    limit: u16,
+) -> bool
+    requires { ⌜ Long (now words) × (Searchable (lists now variables values starts) (now index) × Two r s) ⌝ }
+    ensures { λ b. ⌜ Spreads (networkIn (lists entry variables values starts)) r s (entry words) (exit words) b ⌝ }
+{
+    let first = tuple_start(starts, r);
+    let end = tuple_start(starts, r + 1);
+    if limit < count(words, first, end) {
+        return true;
+    }
+    let mut sum = [0u64; WORDS];
+    let mut scratch = [0u64; WORDS];
+    let mut g = next(words, first, end);
+    while g < end {
+        gather(
+            variables,
+            values,
+            starts,
+            index,
+            words,
+            &mut sum,
+            &mut scratch,
+            r,
+            g - first,
+            s,
+        );
+        g = next(words, g + 1, end);
+    }
+    let from = tuple_start(starts, s);
+    let to = tuple_start(starts, s + 1);
+    keep(&sum, words, 0, from, to);
+    next(words, from, to) < to
+}
+
+// Member j narrowed through member i, if these are two places. False where it has no live tuple left.
+fn spread_step(
+    variables: &[u16],
+    values: &[Value],
+    starts: &Starts,
+    index: &Index,
+    words: &mut Words,
+    members: &[u16],
+    i: usize,
+    j: usize,
+    limit: u16,
+) -> bool
+    requires { ⌜ Long (now words) × Spreadable (lists now variables values starts) (now index) (now members) ⌝ }
+    ensures { λ b. ⌜ SpreadsMembers (networkIn (lists entry variables values starts)) (entry members) (entry words) (exit words) b ⌝ }
+{
+    if members.len() <= i {
+        return true;
+    }
+    if members.len() <= j {
+        return true;
+    }
+    if i == j {
+        return true;
+    }
+    spread(
+        variables,
+        values,
+        starts,
+        index,
+        words,
+        members[i],
+        members[j],
+        limit,
+    )
+}
+
+// Members narrowed through others, step by step. Four bits of `steps` are one: the place between, and four times the place that is narrowed.
+// False where a member has no live tuple left.
+pub fn spread_members(
+    variables: &[u16],
+    values: &[Value],
+    starts: &Starts,
+    index: &Index,
+    words: &mut Words,
+    members: &[u16],
+    steps: u64,
+    limit: u16,
+) -> bool
+    requires { ⌜ Long (now words) × Spreadable (lists now variables values starts) (now index) (now members) ⌝ }
+    ensures { λ b. ⌜ SpreadsMembers (networkIn (lists entry variables values starts)) (entry members) (entry words) (exit words) b ⌝ }
+{
+    let mut left = steps;
+    while left != 0 {
+        let i = (left % 4) as usize;
+        let j = (left / 4 % 4) as usize;
+        if !spread_step(
+            variables,
+            values,
+            starts,
+            index,
+            words,
+            members,
+            i,
+            j,
+            limit,
+        ) {
+            return false;
+        }
+        left = left / 16;
+    }
+    true
+}

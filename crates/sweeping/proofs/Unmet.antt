@@ -1,0 +1,84 @@
+-- Laws of tuples that none of a relation's live tuples agrees with: they are found by narrowing, and have no support.
+-- From the model's laws of supports, and the laws of words copied and narrowed.
+use mathlib.Core.Path.{_≡_, sym, _∙_, ap, subst}
+use mathlib.Core.Bool.{true}
+use mathlib.Core.List.{List, List·Memᴰ, Memᴰ·cast}
+use Prim.Native.Nat.{ℕ, _+_, _-_, _<_}
+use native.Mathlib.Omega.{arith}
+use lib.ListN.{getD}
+use Rattle.model.specs.Limits.{maxRelations}
+use Rattle.model.specs.TupleSet.{has}
+use Rattle.model.specs.Network.{Network, size, firstId, total, idsOf, relationOf}
+use Rattle.model.specs.Combination.{Combination}
+use Rattle.model.specs.Agreement.{agree}
+use Rattle.model.specs.LiveWords.{isLive, living, cleared}
+use Rattle.model.proofs.Bools.{not-both}
+use Rattle.model.proofs.Lists.{all-at, pairwise-at, mem-getD, from-mem, mem-from}
+use Rattle.model.proofs.Network.{ids-below, relationOf-ids, relationOf-at}
+use Rattle.model.proofs.Agreement.{agree-sym}
+use Rattle.model.proofs.Support.{Supported, isSupport-self, isSupport-live, isSupport-agree, candidates-at}
+use Rattle.model.proofs.LiveWords.{living-has, cleared-length, cleared-below}
+use Rattle.live.specs.Words.{WordArray, CopiedBetween}
+use Rattle.live.proofs.Copies.{between-live}
+use Rattle.layout.specs.Starts.{SoundStarts}
+use Rattle.layout.specs.Setting.{Lists, networkIn}
+use Rattle.layout.proofs.SoundStarts.{tuples-few}
+use Rattle.narrowing.specs.Narrows.{Agreeing, Dead}
+use Rattle.sweeping.specs.Sweep.{bitOf, Unmet, combining, Revises, Sweeps}
+use Rattle.sweeping.proofs.Shrunk.{shrunk-refl, shrunk-trans, shrunk-removed}
+
+module _ (N : Network) (r x s : ℕ) (words : List ℕ) where
+  -- narrowed in a copy, relation s has no live tuple left
+  pub dead-unmet : {start end : ℕ} {before copy after : List ℕ} → start ≡ firstId N s → end ≡ firstId N s + size N s → CopiedBetween start end words before copy → Agreeing N r x s copy after → Dead N s after → Unmet N words r x s
+  dead-unmet b e c a d z h l g =
+      not-both (a .keeps z h g (between-live c (firstId N s + z) (omega (arith, b)) (omega (arith, e)) ∙ l)) (d z h)
+
+  -- a support would hold a live tuple of relation s that agrees
+  pub unmet-unsupported : (c : Combination) → x < size N r → List·Memᴰ s c → (r ≡ s → ⊥) → Unmet N words r x s → Supported N (living (total N) words) c (firstId N r + x) → ⊥
+  unmet-unsupported c own m d none (t, k, e) =
+      let S = living (total N) words in
+      let g = firstId N r + x in
+      let j = mem-getD c 0 m in
+      let f = candidates-at N c k (j .0) (j .1) in
+      let h = getD t (j .0) 0 in
+      let i : List·Memᴰ h (idsOf N s) = subst (λ (q : ℕ). List·Memᴰ h (idsOf N q)) (j .2) (f .1) in
+      let b = from-mem (firstId N s) (size N s) h i in
+      let z = h - firstId N s in
+      let q : h ≡ firstId N s + z = omega (arith, b) in
+      let other : g ≡ h → ⊥ = λ p. d (sym (relationOf-at N r x own) ∙ ap (λ (y : ℕ). relationOf N y) p ∙ relationOf-ids N s i) in
+      let lives : isLive words h ≡ true = sym (living-has (total N) words h (ids-below N s i)) ∙ all-at (has S) t (isSupport-live N S g t e) (f .0) in
+      let agrees : agree N g h ≡ true = pairwise-at (agree N) (agree-sym N) t (isSupport-agree N S g t e) (isSupport-self N S g t e) (f .0) other in
+      none z (omega (arith, b)) (ap (isLive words) (sym q) ∙ lives) (ap (agree N g) (sym q) ∙ agrees)
+
+-- ---- One removal after the other
+
+module _ (L : Lists) where
+  pub revises-none : (r s : ℕ) {words : List ℕ} → WordArray words → Revises L r s words words
+  revises-none r s {words} w = (w, λ m members _. shrunk-refl (combining L m members) words (w .small))
+
+  -- a tuple of relation r that no live tuple of relation s agrees with is removed
+  pub revises-more : SoundStarts (L .starts) → {r s x : ℕ} {words now : List ℕ} → x < size (networkIn L) r → Unmet (networkIn L) now r x s → Revises L r s words now → Revises L r s words (cleared (firstId (networkIn L) r + x) now)
+  revises-more framed {r} {s} {x} {words} {now} h none (array, shrunk) =
+      let N = networkIn L in
+      let g = firstId N r + x in
+      let below = ids-below N r (mem-from (firstId N r) (size N r) g (omega arith) (omega arith)) in (
+        record { long = cleared-length g now ∙ array .long; small = λ i l. cleared-below g now (array .small) i (omega (arith, cleared-length g now)) },
+        λ m members b.
+            let G = combining L m members in
+            shrunk-trans G words now (cleared g now) (shrunk m members b)
+            (shrunk-removed G now g (b .combination) (array .small) (omega (arith, array .long, tuples-few framed)) below (b .is-listed)
+            (Memᴰ·cast (relationOf-at N r x h) (b .has-r))
+            (unmet-unsupported N r x s now (b .combination) h (b .has-s) (b .apart) none)),
+      )
+
+module _ {L : Lists} {table : List ℕ} where
+  pub sweeps-none : {words : List ℕ} → WordArray words → Sweeps L table words words
+  sweeps-none {words} w = (w, λ m members _. shrunk-refl (combining L m members) words (w .small))
+
+  pub sweeps-then : {words now after : List ℕ} → Sweeps L table words now → Sweeps L table now after → Sweeps L table words after
+  sweeps-then {words} {now} {after} a b =
+      (b .0, λ m members t. shrunk-trans (combining L m members) words now after (a .1 m members t) (b .1 m members t))
+
+  -- two relations that the table has
+  pub revises-sweeps : {words after : List ℕ} (r s : ℕ) → r < maxRelations → s < maxRelations → isLive table (bitOf r s) ≡ true → Revises L r s words after → Sweeps L table words after
+  revises-sweeps r s hr hs e a = (a .0, λ m members t. a .1 m members (t .only r s hr hs e))
