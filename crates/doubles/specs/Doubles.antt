@@ -25,8 +25,8 @@ abbrev pub free : ℕ
 free = 65535
 
 -- hashes lie below
-abbrev pub hashes : ℕ
-hashes = 4294967296
+abbrev pub hashBound : ℕ
+hashBound = 4294967296
 
 -- Every entry is free, or a tuple before x.
 pub record Table (table : List ℕ) (x : ℕ) : Type 0 where

@@ -6,7 +6,7 @@ ghost use lib.ListN.{length};
 ghost use Rattle.layout.specs.Loan.{entry, exit};
 ghost use Rattle.layout.specs.Setting.{lists, setting};
 ghost use Rattle.doubles.specs.Alike.{TupleAt, PairAt};
-ghost use Rattle.doubles.specs.Doubles.{places, hashes, Table, Tried, RelationAt, ThinsRelation, MemberAt, ThinsMember, Thinned};
+ghost use Rattle.doubles.specs.Doubles.{places, hashBound, Table, Tried, RelationAt, ThinsRelation, MemberAt, ThinsMember, Thinned};
 use alike::has_variable;
 use alike::same_values;
 use alike::variables_of_others;
@@ -33,8 +33,8 @@ type Table = [u16; PLACES];
 
 // The hash of the values so far and of one more.
 fn mixed(hash: u64, value: Value) -> u64
-    requires { ⌜ hash < hashes ⌝ }
-    ensures { λ h. ⌜ h < hashes ⌝ }
+    requires { ⌜ hash < hashBound ⌝ }
+    ensures { λ h. ⌜ h < hashBound ⌝ }
 {
     (hash + value as u64) * 1640531527 % 4294967296
 }
@@ -56,7 +56,7 @@ fn hash_in(scope: &[u16], tuple: &[Value], common: u64) -> usize
 }
 
 // The place of tuple x of relation r.
-fn hash_of(
+fn tuple_hash(
     variables: &[u16],
     values: &[Value],
     starts: &Starts,
@@ -93,7 +93,7 @@ fn first_alike(
     requires { ⌜ TupleAt (lists now variables values starts) r x × Table (now table) x ⌝ }
     ensures { λ y. ⌜ Tried (lists entry variables values starts) common r x (entry table) y (exit table) ⌝ }
 {
-    let k = hash_of(variables, values, starts, r, x, common);
+    let k = tuple_hash(variables, values, starts, r, x, common);
     let y = table[k];
     if y == FREE {
         table[k] = x;

@@ -18,13 +18,13 @@ given s = record { variables = s .args .variables .now; values = s .args .values
 
 -- the place, and what it has
 abbrev place : tie.After-y → ℕ
-place c = c .before .hash-of .result
+place c = c .before .tuple-hash .result
 
 abbrev entry : tie.After-y → ℕ
 entry c = getD (start c .args .table .now) (place c) 0
 
 before : (c : tie.Else1) → entry (c .before) < start (c .before) .args .x
-before c = let a = c .before in start a .pre .1 .before (place a) (a .before .hash-of .ensures) (c .if1 .left)
+before c = let a = c .before in start a .pre .1 .before (place a) (a .before .tuple-hash .ensures) (c .if1 .left)
 
 same-values-requires : tie.Need-same-values-requires
 same-values-requires c κs =
@@ -38,9 +38,9 @@ first-alike-spec =
     (λ c κs. search needs)
     (λ c. search needs) (λ c. search needs)
     (λ c. search needs) (λ c. search needs)
-    (λ c. let a = c .before in tried-entered (start a .pre .1) (place a) (a .before .hash-of .ensures))
+    (λ c. let a = c .before in tried-entered (start a .pre .1) (place a) (a .before .tuple-hash .ensures))
     same-values-requires
     (λ c. tried-none (start (c .before .before .before) .pre .1))
     (λ c.
     let a = c .before .before .before in
-    tried-found (start a .pre .1) (place a) (a .before .hash-of .ensures) (c .before .before .if1 .left) (c .before .same-values .ensures (not-false (c .before .same-values .result) (c .if2 .left)))))
+    tried-found (start a .pre .1) (place a) (a .before .tuple-hash .ensures) (c .before .before .if1 .left) (c .before .same-values .ensures (not-false (c .before .same-values .result) (c .if2 .left)))))

@@ -1,12 +1,12 @@
--- `hash_of` hands `hash_in` the parts of the lists where the tuple lies.
+-- `tuple_hash` hands `hash_in` the parts of the lists where the tuple lies.
 -- From the laws of places.
 use Prim.Native.Nat.{_<_}
 use native.Mathlib.Omega.{arith}
 use borrow.Author.Needs.{needs}
 use Rattle.model.specs.Limits.{maxRelations}
 use Rattle.layout.proofs.Places.{Within, below-limit, place-within, place-lengths}
-use Rattle.doubles.proofs.hash_of.Statement.{statement}
-use Rattle.doubles.proofs.hash_of.Tie as tie
+use Rattle.doubles.proofs.tuple_hash.Statement.{statement}
+use Rattle.doubles.proofs.tuple_hash.Tie as tie
 
 few : (s : tie.Start) → s .args .r < maxRelations
 few s = below-limit (s .pre .laid) (s .args .r) (s .args .x) (s .pre .own)
@@ -24,8 +24,8 @@ hash-in-requires c κs =
     let s = start p in
     place-lengths (s .pre .laid) (s .args .r) (s .args .x) (s .pre .own) (p .place-of .result) (p .place-of .ensures)
 
-pub hash-of-spec : {M : Type 1} → statement M
-hash-of-spec =
+pub tuple-hash-spec : {M : Type 1} → statement M
+tuple-hash-spec =
     tie.close
     (tie.spec
     (λ c κs. let s = c .before .before in (s .pre .laid .framed, few s))
