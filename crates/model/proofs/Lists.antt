@@ -455,6 +455,12 @@ earlier-above k x [] h l = absurd (omega arith)
 earlier-above zero x (y ∷ ys) h l = or-left (eqb y x && earlier ys []) (lt-ltb y x l)
 earlier-above (suc k) x (y ∷ ys) h l = earlier-cons y y ys (take k ys ++ (x ∷ [])) refl ∙ earlier-above k x ys (le-of-suc-le-suc h) l
 
+-- a list with a lower element put at a place is earlier
+pub earlier-lower : (ys : List ℕ) (j x : ℕ) → j < length ys → x < getD ys j 0 → earlier (set ys j x) ys ≡ true
+earlier-lower [] j x h l = absurd (omega arith)
+earlier-lower (y ∷ ys) zero x h l = earlier-less x y ys ys l
+earlier-lower (y ∷ ys) (suc j) x h l = earlier-same y (set ys j x) ys (earlier-lower ys j x (le-of-suc-le-suc h) l)
+
 -- the order looks no further than the first list's length
 pub earlier-within : (xs ys : List ℕ) → earlier xs ys ≡ earlier xs (take (length xs) ys)
 earlier-within [] ys = refl

@@ -133,12 +133,17 @@ module _ (N : Network) where
   abbrev pub Supported : TupleSet → Combination → ℕ → Type 0
   Supported S c g = (t : List ℕ) × List·Memᴰ t (candidates N c) × (isSupport N S g t ≡ true)
 
+  -- where there is none, 65,535 for each member
+  pub firstSupport-none : (S : TupleSet) (c : Combination) (g : ℕ) → (Supported S c g → ⊥) → firstSupport N S c g ≡ replicate (length c) noSupport
+  unfolding firstSupport supports
+  firstSupport-none S c g none =
+      ap (λ (ts : List (List ℕ)). firstOr (replicate (length c) noSupport) (map (map (indexOf N)) ts))
+      (select-none (isSupport N S g) (candidates N c) (λ t m k. none (t, m, k)))
+
   -- a dead tuple has none
   pub firstSupport-dead : (S : TupleSet) (c : Combination) (g : ℕ) → has S g ≡ false → firstSupport N S c g ≡ replicate (length c) noSupport
-  unfolding firstSupport supports
   firstSupport-dead S c g e =
-      ap (λ (ts : List (List ℕ)). firstOr (replicate (length c) noSupport) (map (map (indexOf N)) ts))
-      (select-none (isSupport N S g) (candidates N c) (λ t m k. not-both (all-at (has S) t (isSupport-live S g t k) (isSupport-self S g t k)) e))
+      firstSupport-none S c g (λ s. not-both (all-at (has S) (s .0) (isSupport-live S g (s .0) (s .2)) (isSupport-self S g (s .0) (s .2))) e)
 
   -- where there is a support, the first is the first candidate that is one
   pub firstSupport-first : (S : TupleSet) (c : Combination) (g : ℕ) → Supported S c g → (k : Cut (isSupport N S g) (candidates N c)) × (firstSupport N S c g ≡ map (indexOf N) (k .at))

@@ -47,7 +47,7 @@ module _ {N : Network} {c : Combination} {j g : ℕ} where
 
 module _ (N : Network) (S : TupleSet) (c : Combination) (rises : pairwise ltb c ≡ true) (j : ℕ) (inside : j < length c) where
   -- the tuple at index x of the member at j
-  abbrev id : ℕ → ℕ
+  abbrev pub id : ℕ → ℕ
   id x = firstId N (getD c j 0) + x
 
   -- ---- One tuple put in for another
@@ -63,7 +63,7 @@ module _ (N : Network) (S : TupleSet) (c : Combination) (rises : pairwise ltb c 
       long : length t ≡ length c
       long = candidates-length N c m
 
-      put-candidate : List·Memᴰ (set t j (id y)) (candidates N c)
+      pub put-candidate : List·Memᴰ (set t j (id y)) (candidates N c)
       put-candidate =
           picks-candidates N c
           (picks-set (candidates-picks N c m) j (id y)
@@ -75,14 +75,14 @@ module _ (N : Network) (S : TupleSet) (c : Combination) (rises : pairwise ltb c 
           (λ i l h. agree-sym N (getD t i 0) (id y) ∙ agrees i (omega (arith, long)) (λ q. omega arith))
           (λ i l h. agrees i (omega (arith, long)) (λ q. omega arith))
 
-      put-support : has S (id y) ≡ true → ((i : ℕ) → i < length c → (i ≡ j → ⊥) → agree N (id y) (getD t i 0) ≡ true) → isSupport N S (id y) (set t j (id y)) ≡ true
+      pub put-support : has S (id y) ≡ true → ((i : ℕ) → i < length c → (i ≡ j → ⊥) → agree N (id y) (getD t i 0) ≡ true) → isSupport N S (id y) (set t j (id y)) ≡ true
       put-support lives agrees =
           isSupport-intro N S (id y) (set t j (id y)) (set-mem t j (id y) (omega (arith, long)))
           (all-set (has S) t j (id y) (isSupport-live N S (id x) t e) lives)
           (put-agreeing agrees)
 
       -- it agrees with the others
-      own-agrees : (i : ℕ) → i < length c → (i ≡ j → ⊥) → agree N (id x) (getD t i 0) ≡ true
+      pub own-agrees : (i : ℕ) → i < length c → (i ≡ j → ⊥) → agree N (id x) (getD t i 0) ≡ true
       own-agrees i h d = ap (λ (g : ℕ). agree N g (getD t i 0)) (sym own) ∙ go (decLt i j)
         where
           agreeing : pairwise (agree N) t ≡ true
@@ -92,14 +92,14 @@ module _ (N : Network) (S : TupleSet) (c : Combination) (rises : pairwise ltb c 
           go (yes l) = agree-sym N (getD t j 0) (getD t i 0) ∙ pairwise-getD (agree N) t i j 0 agreeing l (omega (arith, long))
           go (no l) = pairwise-getD (agree N) t j i 0 agreeing (omega arith) (omega (arith, long))
 
-      put-indices : map (indexOf N) (set t j (id y)) ≡ set (map (indexOf N) t) j y
+      pub put-indices : map (indexOf N) (set t j (id y)) ≡ set (map (indexOf N) t) j y
       put-indices = map-set (indexOf N) t j (id y) ∙ ap (set (map (indexOf N) t) j) (indexOf-at N (getD c j 0) y y-in)
 
   -- ---- The first support
 
   module _ (test : ℕ → Bool) (covers : Covers N c j test) (x y : ℕ) (x-in : x < size N (getD c j 0)) (y-in : y < size N (getD c j 0)) (alike : under test (cellsOf N (id x)) ≡ under test (cellsOf N (id y))) where
     -- twins agree with the same tuples of the other members
-    twin-agrees : (t : List ℕ) → List·Memᴰ t (candidates N c) → (i : ℕ) → i < length c → (i ≡ j → ⊥) → agree N (id x) (getD t i 0) ≡ agree N (id y) (getD t i 0)
+    pub twin-agrees : (t : List ℕ) → List·Memᴰ t (candidates N c) → (i : ℕ) → i < length c → (i ≡ j → ⊥) → agree N (id x) (getD t i 0) ≡ agree N (id y) (getD t i 0)
     twin-agrees t m i h d =
         let z = getD (map (indexOf N) t) i 0 in
         subst (λ (g : ℕ). agree N (id x) g ≡ agree N (id y) g) (candidates-id N c m i h)

@@ -1,5 +1,6 @@
 -- `spread_step` narrows where the places are two, and otherwise changes nothing.
 -- From what `spread` ensures, and the law of one step.
+use native.Mathlib.Omega.{arith}
 use mathlib.Core.Path.{refl}
 use mathlib.Core.Bool.{true}
 use borrow.Author.Needs.{needs}

@@ -1,0 +1,3 @@
+-- What the contracts cite.
+pub mod Alike
+pub mod Doubles
