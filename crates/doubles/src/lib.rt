@@ -22,7 +22,7 @@ use model::Value;
 pub mod alike; // which tuples have the same values
 
 // The entries of the table, and one that no tuple has.
-const PLACES: usize = 2048;
+pub const PLACES: usize = 2048;
 
 const FREE: u16 = 65535;
 
@@ -56,7 +56,7 @@ fn hash_in(scope: &[u16], tuple: &[Value], common: u64) -> usize
 }
 
 // The place of tuple x of relation r.
-fn tuple_hash(
+pub fn tuple_hash(
     variables: &[u16],
     values: &[Value],
     starts: &Starts,

@@ -17,7 +17,8 @@ use Rattle.model.specs.LiveWords.{isLive, cleared, written}
 use Rattle.value_index.specs.Index.{Indexed}
 use Rattle.sweeping.specs.Shrunk.{Shrunk}
 use Rattle.worklist.specs.Supports.{SupportsFit, PairsBegin, Supported, Done}
-use Rattle.twins.specs.Twins.{Noted, Common}
+use Rattle.doubles.specs.Alike.{Common}
+use Rattle.twins.specs.Twins.{Noted}
 use Rattle.layout.specs.Loan.{Loan, entry, exit}
 use Rattle.layout.specs.Setting.{Setting, network, listed, liveIn, Sound}
 use Rattle.layout.specs.Pairs.{combinationOf, sizeOf, tupleId, placeOf, held}

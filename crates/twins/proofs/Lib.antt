@@ -1,4 +1,3 @@
 -- The laws of twins.
-pub mod Others
 pub mod Sought
 pub mod Taking

@@ -16,7 +16,8 @@ use Rattle.model.proofs.Twins.{partners-more, partners-supported}
 use Rattle.layout.specs.Setting.{Setting, network, liveIn}
 use Rattle.layout.specs.Pairs.{combinationOf, sizeOf, tupleId}
 use Rattle.worklist.specs.Supports.{Supported}
-use Rattle.twins.specs.Twins.{classes, Entered, WasSought, Noted}
+use Rattle.doubles.specs.Doubles.{places}
+use Rattle.twins.specs.Twins.{Entered, WasSought, Noted}
 
 -- ---- One entered
 
@@ -34,9 +35,9 @@ entered-at x k sought h = (length-set sought k x, λ i. go i (ℕ-discrete i k))
 
 module _ {G : Setting} {p : ℕ} where
   -- none is there at the start
-  pub noted-none : (words : List ℕ) (k : ℕ) → Noted G words p k (replicate classes noSupport)
+  pub noted-none : (words : List ℕ) (k : ℕ) → Noted G words p k (replicate places noSupport)
   noted-none words k =
-      record { long = length-replicate classes noSupport; entries = λ i h d. absurd (d (getD-replicate classes i noSupport 0 h)) }
+      record { long = length-replicate places noSupport; entries = λ i h d. absurd (d (getD-replicate places i noSupport 0 h)) }
 
   -- what was sought before a tuple was sought before a later one
   pub noted-more : {words sought : List ℕ} {k k′ : ℕ} → k ≤ k′ → Noted G words p k sought → Noted G words p k′ sought

@@ -25,7 +25,8 @@ use Rattle.layout.proofs.SoundStarts.{tuple-start, tuples-few}
 use Rattle.layout.proofs.Pairs.{combination-length, combination-rises, place-below, member-at, member-below, tuple-below, place-within}
 use Rattle.worklist.specs.Supports.{replaced, Supported}
 use Rattle.twins.specs.declared.Twin.the-variants as twin
-use Rattle.twins.specs.Twins.{Alike, WasSought, AgreesWith, TwinAt, Outcome}
+use Rattle.doubles.specs.Alike.{Alike}
+use Rattle.twins.specs.Twins.{WasSought, AgreesWith, TwinAt, Outcome}
 
 module _ {G : Setting} {words numbers sought : List ℕ} {p x place common : ℕ} (A : TwinAt G words numbers sought p x place common) where
   abbrev N : Network

@@ -9,32 +9,18 @@ use lib.ListN.{length, getD}
 use Rattle.model.specs.Limits.{noSupport, wordBits}
 use Rattle.model.specs.TupleSet.{has}
 use Rattle.model.specs.Network.{size, total, firstId}
-use Rattle.model.specs.Agreement.{agree, cellsOf, under}
-use Rattle.model.specs.Combination.{Covers}
+use Rattle.model.specs.Agreement.{agree}
 use Rattle.model.specs.Support.{firstSupport, Partners}
 use Rattle.model.specs.Consistency.{needed}
-use Rattle.model.specs.LiveWords.{isSet}
-use Rattle.layout.specs.Setting.{Lists, networkIn, SoundLists, Setting, network, listed, liveIn, Sound}
+use Rattle.layout.specs.Setting.{Lists, Setting, network, listed, liveIn}
 use Rattle.layout.specs.Pairs.{combinationOf, sizeOf, tupleId, placeOf}
 use Rattle.worklist.specs.Supports.{replaced, Supported, Done}
+use Rattle.doubles.specs.Alike.{Alike, PairAt, Common}
+use Rattle.doubles.specs.Doubles.{places}
 use Rattle.twins.specs.declared.Twin.{Twin}
 use Rattle.twins.specs.declared.Twin.the-variants as twin
 
--- How many classes a visit tells apart.
-abbrev pub classes : ℕ
-classes = 2048
-
--- ---- Two tuples of a relation
-
--- Tuple x of relation r, in sound lists.
-pub record TupleAt (L : Lists) (r x : ℕ) : Type 0 where
-  pub laid : SoundLists L
-  pub own : x < size (networkIn L) r
-
--- tuples x and y of relation r have the same values under the variables of the set
-abbrev pub Alike : Lists → ℕ → ℕ → ℕ → ℕ → Type 0
-Alike L set r x y =
-    let N = networkIn L in under (isSet set) (cellsOf N (firstId N r + x)) ≡ under (isSet set) (cellsOf N (firstId N r + y))
+-- ---- The table of the tuples that were sought
 
 -- every entry of the table stays, or is x's index
 abbrev pub Entered : ℕ → List ℕ → List ℕ → Type 0
@@ -47,15 +33,6 @@ pub record SoughtTwin (L : Lists) (set r x : ℕ) (before : List ℕ) (y : ℕ) 
   pub alike : y < x → Alike L set r x y
 
 -- ---- In a pair's combination
-
--- Pair p of a sound setting.
-pub record PairAt (G : Setting) (p : ℕ) : Type 0 where
-  pub sound : Sound G
-  pub pair : p < length (G .members)
-
--- every variable that the other members of its combination have is in the set
-abbrev pub Common : Setting → ℕ → ℕ → Type 0
-Common G p set = Covers (network G) (combinationOf G p) (p % G .m) (isSet set)
 
 -- the tuple whose index stands at j, of the member at j
 abbrev pub besideId : Setting → ℕ → List ℕ → ℕ → ℕ
@@ -80,8 +57,8 @@ pub record WasSought (G : Setting) (words : List ℕ) (p k y : ℕ) : Type 0 whe
 
 -- Every entry of the table that is not 65,535 was sought before tuple k.
 pub record Noted (G : Setting) (words : List ℕ) (p k : ℕ) (sought : List ℕ) : Type 0 where
-  pub long : length sought ≡ classes
-  pub entries : (i : ℕ) → i < classes → (getD sought i 0 ≡ noSupport → ⊥) → WasSought G words p k (getD sought i 0)
+  pub long : length sought ≡ places
+  pub entries : (i : ℕ) → i < places → (getD sought i 0 ≡ noSupport → ⊥) → WasSought G words p k (getD sought i 0)
 
 -- ---- Its first support
 

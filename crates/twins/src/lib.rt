@@ -2,41 +2,30 @@
 // combination have, takes that one's first support with itself put in, or falls where that one fell.
 ghost use mathlib.Core.Path.{_≡_};
 ghost use mathlib.Core.Bool.{true};
-ghost use Prim.Native.Nat.{ℕ, _<_};
+ghost use Prim.Native.Nat.{_<_};
 ghost use lib.ListN.{length};
-ghost use Rattle.model.specs.Lists.{elem};
-ghost use Rattle.model.specs.Network.{scopeOf};
-ghost use Rattle.model.specs.Agreement.{cells, under};
-ghost use Rattle.model.specs.LiveWords.{isSet};
+ghost use Rattle.model.specs.Agreement.{under};
 ghost use Rattle.layout.specs.Loan.{entry, exit};
-ghost use Rattle.layout.specs.Starts.{recordsIn};
-ghost use Rattle.layout.specs.Setting.{lists, networkIn, setting, SoundLists};
-ghost use Rattle.twins.specs.Twins.{classes, TupleAt, Alike, SoughtTwin, PairAt, Common, Beside, AgreesWith, TwinAt, Taken};
-use combination::mask_of;
+ghost use Rattle.layout.specs.Setting.{lists, setting};
+ghost use Rattle.doubles.specs.Alike.{TupleAt};
+ghost use Rattle.doubles.specs.Doubles.{places};
+ghost use Rattle.twins.specs.Twins.{SoughtTwin, Beside, AgreesWith, TwinAt, Taken};
+use doubles::PLACES;
+use doubles::alike::same_values;
+use doubles::tuple_hash;
 use layout::Starts;
-use layout::place_of;
 use layout::tuple_start;
-use layout::variable_start;
 use layout::wide;
 use live::Words;
 use live::is_live;
-use model::VARIABLES;
 use model::Value;
 use network::agreement::tuples_agree;
 use worklist::list::Indices;
 use worklist::list::load;
 use worklist::list::store;
 
-// Tuples are sought in classes, by their values.
-pub const CLASSES: usize = 2048;
-
-// Values are spread over so many numbers, by a factor that is the golden section of them.
-const RANGE: usize = 4294967296;
-
-const FACTOR: usize = 2654435761;
-
-// For each class the index of the first tuple of it that was sought in the visit, or 65,535.
-pub type Sought = [u16; CLASSES];
+// By the hash of its values, the index of the first tuple that was sought in the visit, or 65,535.
+pub type Sought = [u16; PLACES];
 
 // What comes of a twin: its support is taken, or it fell and so does the tuple, or there is none.
 pub enum Twin {
@@ -45,147 +34,10 @@ pub enum Twin {
     None,
 }
 
-// ---- The variables that the other members have
-
-// Whether variable v is in the set.
-fn has_variable(set: u64, v: u16) -> bool
-    ensures { λ b. ⌜ b ≡ isSet set v ⌝ }
-{
-    if VARIABLES <= wide(v) {
-        return false;
-    }
-    (set >> v) % 2 == 1
-}
-
-// The set of relation r's variables.
-fn variables_of(variables: &[u16], values: &[Value], starts: &Starts, r: u16) -> u64
-    requires { ⌜ SoundLists (lists now variables values starts) × (r < length (recordsIn (now starts))) ⌝ }
-    ensures { λ w. ⌜ ((v : ℕ) → isSet w v ≡ elem v (scopeOf (networkIn (lists entry variables values starts)) r)) ⌝ }
-{
-    let scope = variable_start(starts, r);
-    let scope_end = variable_start(starts, r + 1);
-    mask_of(&variables[scope..scope_end])
-}
-
-// The set of all variables that the members of pair p's combination have, but for its own member.
-pub fn variables_of_others(
-    variables: &[u16],
-    values: &[Value],
-    starts: &Starts,
-    members: &[u16],
-    m: u16,
-    p: u16,
-) -> u64
-    requires { ⌜ PairAt (setting now variables values starts members m) p ⌝ }
-    ensures { λ w. ⌜ Common (setting entry variables values starts members m) p w ⌝ }
-{
-    let each = wide(m);
-    let pair = wide(p);
-    let base = pair / each * each;
-    let place = pair % each;
-    let mut common: u64 = 0;
-    let mut j = 0;
-    while j < each {
-        if j != place {
-            common = common | variables_of(variables, values, starts, members[base + j]);
-        }
-        j += 1;
-    }
-    common
-}
-
-// ---- The class of a tuple
-
-// A number below 2,048 that depends on the values in the columns whose variable is in the set.
-fn class_in(scope: &[u16], tuple: &[Value], common: u64) -> usize
-    requires { ⌜ length (now scope) ≡ length (now tuple) ⌝ }
-    ensures { λ r. ⌜ r < classes ⌝ }
-{
-    let mut spread: usize = 0;
-    let mut c = 0;
-    while c < scope.len() {
-        if has_variable(common, scope[c]) {
-            spread = (spread + wide(tuple[c])) * FACTOR % RANGE;
-        }
-        c += 1;
-    }
-    spread / (RANGE / CLASSES)
-}
-
-// The class of tuple x of relation r, by its values under the variables of the set.
-fn class_of(
-    variables: &[u16],
-    values: &[Value],
-    starts: &Starts,
-    r: u16,
-    x: u16,
-    common: u64,
-) -> usize
-    requires { ⌜ TupleAt (lists now variables values starts) r x ⌝ }
-    ensures { λ k. ⌜ k < classes ⌝ }
-{
-    let p = place_of(starts, r, x);
-    let scope = p.scope;
-    let scope_end = p.scope_end;
-    let tuple = p.tuple;
-    let tuple_end = p.tuple_end;
-    class_in(
-        &variables[scope..scope_end],
-        &values[tuple..tuple_end],
-        common,
-    )
-}
-
 // ---- An earlier tuple with the same values
 
-// Whether two tuples have equal values in every column whose variable is in the set.
-fn equal_in(scope: &[u16], a: &[Value], b: &[Value], common: u64) -> bool
-    requires { ⌜ (length (now scope) ≡ length (now a)) × (length (now scope) ≡ length (now b)) ⌝ }
-    ensures { λ r. ⌜ (r ≡ true → under (isSet common) (cells (entry scope) (entry a)) ≡ under (isSet common) (cells (entry scope) (entry b))) ⌝ }
-{
-    let mut c = 0;
-    while c < scope.len() {
-        if has_variable(common, scope[c]) {
-            if a[c] != b[c] {
-                return false;
-            }
-        }
-        c += 1;
-    }
-    true
-}
-
-// Whether tuples x and y of relation r have equal values under every variable of the set.
-fn same_values(
-    variables: &[u16],
-    values: &[Value],
-    starts: &Starts,
-    r: u16,
-    x: u16,
-    y: u16,
-    common: u64,
-) -> bool
-    requires { ⌜ TupleAt (lists now variables values starts) r x × TupleAt (lists now variables values starts) r y ⌝ }
-    ensures { λ b. ⌜ (b ≡ true → Alike (lists entry variables values starts) common r x y) ⌝ }
-{
-    let p = place_of(starts, r, x);
-    let q = place_of(starts, r, y);
-    let scope = p.scope;
-    let scope_end = p.scope_end;
-    let a = p.tuple;
-    let a_end = p.tuple_end;
-    let b = q.tuple;
-    let b_end = q.tuple_end;
-    equal_in(
-        &variables[scope..scope_end],
-        &values[a..a_end],
-        &values[b..b_end],
-        common,
-    )
-}
-
 // The tuple before x that was sought and has x's values under the variables of the set; x if there is none, and x is sought now if no
-// other tuple of its class was.
+// other tuple with its hash was.
 fn sought_twin(
     variables: &[u16],
     values: &[Value],
@@ -195,10 +47,10 @@ fn sought_twin(
     x: u16,
     common: u64,
 ) -> u16
-    requires { ⌜ TupleAt (lists now variables values starts) r x × (length (now sought) ≡ classes) ⌝ }
+    requires { ⌜ TupleAt (lists now variables values starts) r x × (length (now sought) ≡ places) ⌝ }
     ensures { λ y. ⌜ SoughtTwin (lists entry variables values starts) common r x (entry sought) y (exit sought) ⌝ }
 {
-    let class = class_of(variables, values, starts, r, x, common);
+    let class = tuple_hash(variables, values, starts, r, x, common);
     let y = sought[class];
     if x <= y {
         sought[class] = x;

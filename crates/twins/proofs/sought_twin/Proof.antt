@@ -10,33 +10,33 @@ use Rattle.twins.proofs.Sought.{entered-none, entered-at}
 use Rattle.twins.proofs.sought_twin.Statement.{statement}
 use Rattle.twins.proofs.sought_twin.Tie as tie
 
-abbrev start : tie.After-class-of → tie.Start
+abbrev start : tie.After-tuple-hash → tie.Start
 start c = c .before .before .before
 
 -- the class is one of the table's
-inside : (c : tie.After-class-of) → c .class-of .result < length (start c .args .sought .now)
-inside c = omega (arith, c .class-of .ensures, start c .pre .1)
+inside : (c : tie.After-tuple-hash) → c .tuple-hash .result < length (start c .args .sought .now)
+inside c = omega (arith, c .tuple-hash .ensures, start c .pre .1)
 
-class-of-requires : tie.Need-class-of-requires
-class-of-requires c κs = c .before .before .pre .0
+tuple-hash-requires : tie.Need-tuple-hash-requires
+tuple-hash-requires c κs = c .before .before .pre .0
 
 mul-y : tie.Need-mul-y
-mul-y c = omega (arith, c .class-of .ensures)
+mul-y c = omega (arith, c .tuple-hash .ensures)
 
 element-copy-out-y : tie.Need-element-copy-out-y
-element-copy-out-y c = c .class-of .ensures
+element-copy-out-y c = c .tuple-hash .ensures
 
 mul-sought : tie.Need-mul-sought
-mul-sought c = omega (arith, c .before .before .class-of .ensures)
+mul-sought c = omega (arith, c .before .before .tuple-hash .ensures)
 
 element-write-sought : tie.Need-element-write-sought
-element-write-sought c = c .before .before .class-of .ensures
+element-write-sought c = c .before .before .tuple-hash .ensures
 
 returns : tie.Need-returns
 returns c =
     let k = c .before .before in
     let s = start k in
-    record { entered = entered-at (s .args .x) (k .class-of .result) (s .args .sought .now) (inside k); entry = λ l. absurd (omega arith); alike = λ l. absurd (omega arith) }
+    record { entered = entered-at (s .args .x) (k .tuple-hash .result) (s .args .sought .now) (inside k); entry = λ l. absurd (omega arith); alike = λ l. absurd (omega arith) }
 
 same-values-requires : tie.Need-same-values-requires
 same-values-requires c κs =
@@ -55,7 +55,7 @@ returns-3 c =
     let s = start k in
     record {
       entered = entered-none (s .args .x) (s .args .sought .now);
-      entry = λ _. (k .class-of .result, inside k, refl);
+      entry = λ _. (k .tuple-hash .result, inside k, refl);
       alike = λ _. c .before .same-values .ensures (not-false (c .before .same-values .result) (c .if2 .left));
     }
 
@@ -63,7 +63,7 @@ pub sought-twin-spec : {M : Type 1} → statement M
 sought-twin-spec =
     tie.close
     (tie.spec
-    class-of-requires
+    tuple-hash-requires
     mul-y
     element-copy-out-y
     mul-sought

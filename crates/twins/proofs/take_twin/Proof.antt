@@ -20,7 +20,8 @@ use Rattle.layout.proofs.SoundStarts.{tuples-few}
 use Rattle.layout.proofs.Pairs.{member-below}
 use Rattle.worklist.specs.Supports.{replaced}
 use Rattle.twins.specs.declared.Twin.the-variants as twin
-use Rattle.twins.specs.Twins.{TupleAt, Alike, Beside, AgreesWith, TwinAt, Outcome}
+use Rattle.doubles.specs.Alike.{TupleAt, Alike}
+use Rattle.twins.specs.Twins.{Beside, AgreesWith, TwinAt, Outcome}
 use Rattle.twins.proofs.Taking.{numbers-within, earlier-in, place-back, back-within, loaded, id-inside, fallen-twin, loaded-within, taken-twin}
 use Rattle.twins.proofs.take_twin.Statement.{statement}
 use Rattle.twins.proofs.take_twin.Tie as tie
