@@ -11,7 +11,7 @@ ghost use Rattle.model.specs.LiveWords.{isSet};
 ghost use Rattle.layout.specs.Loan.{entry, exit};
 ghost use Rattle.layout.specs.Starts.{recordsIn};
 ghost use Rattle.layout.specs.Setting.{lists, networkIn, setting, SoundLists};
-ghost use Rattle.twins.specs.Twins.{classes, TupleAt, Alike, SoughtTwin, PairAt, Common, Beside, AgreesWith, TwinAt, Taken};
+ghost use Rattle.twins.specs.Twins.{classes, TupleAt, Alike, Entered, SoughtTwin, PairAt, Common, Beside, AgreesWith, TwinAt, Outcome};
 use combination::mask_of;
 use layout::Starts;
 use layout::place_of;
@@ -268,7 +268,8 @@ pub fn take_twin(
     common: u64,
 ) -> Twin
     requires { ⌜ TwinAt (setting now variables values starts members m) (now words) (now numbers) (now sought) p x at common ⌝ }
-    ensures { λ t. ⌜ Taken (setting entry variables values starts members m) p x (entry words) (entry numbers) (entry sought) t (exit numbers) (exit sought) ⌝ }
+    ensures { λ t. ⌜ Outcome (setting entry variables values starts members m) p x (entry words) (entry numbers) t (exit numbers) ⌝ }
+    ensures { λ _. ⌜ Entered x (entry sought) (exit sought) ⌝ }
 {
     let r = members[wide(p)];
     let y = sought_twin(variables, values, starts, sought, r, x, common);

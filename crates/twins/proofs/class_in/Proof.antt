@@ -1,7 +1,7 @@
 -- `class_in` meets its contract. The loop's invariant: what is spread is below its range.
 -- From arithmetic.
 use mathlib.Core.Logic.{⊎-elim}
-use Prim.Native.Nat.{ℕ, _-_, _≤_, _<_}
+use Prim.Native.Nat.{_-_, _≤_, _<_}
 use native.Mathlib.Omega.{arith}
 use lib.ListN.{length}
 use borrow.Author.Needs.{needs}
@@ -14,12 +14,6 @@ Inv-loop scope tuple common spread₀ c₀ spread c = (c ≤ length scope) × (s
 abbrev μ-loop : tie.MeasureT-loop
 μ-loop scope tuple common spread₀ c₀ spread c = length scope - c
 
-add-spread : tie.Need-add-spread Inv-loop μ-loop
-add-spread c = omega (arith, c .wide .ensures .1, c .before .before .before .before .before .before .loop .inv .1)
-
-mul-spread : tie.Need-mul-spread Inv-loop μ-loop
-mul-spread c = omega (arith, c .wide .ensures .1, c .before .before .before .before .before .before .loop .inv .1)
-
 loop-again : tie.Need-loop-again Inv-loop μ-loop
 loop-again c =
     let i = c .before .before .before in (
@@ -31,9 +25,6 @@ loop-again c =
           (c .if1 .came),
     )
 
-returns : tie.Need-returns Inv-loop μ-loop
-returns c = omega (arith, c .before .loop .inv .1)
-
 pub class-in-spec : {M : Type 1} → statement M
 class-in-spec =
     tie.close
@@ -42,9 +33,9 @@ class-in-spec =
     μ-loop
     (λ c. search needs) (λ c. search needs) (λ c. search needs) (λ c κs. search needs)
     (λ c. search needs) (λ c. search needs) (λ c κs. search needs)
-    add-spread
-    mul-spread
+    (λ c. omega (arith, c .wide .ensures .1, c .before .before .before .before .before .before .loop .inv .1))
+    (λ c. omega (arith, c .wide .ensures .1, c .before .before .before .before .before .before .loop .inv .1))
     (λ c. search needs) (λ c. search needs)
     loop-again
     (λ c. search needs)
-    returns)
+    (λ c. omega (arith, c .before .loop .inv .1)))

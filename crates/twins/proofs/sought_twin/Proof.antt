@@ -3,8 +3,7 @@
 use mathlib.Core.Path.{refl}
 use Prim.Native.Nat.{_<_}
 use native.Mathlib.Omega.{arith}
-use lib.ListN.{length, getD}
-use borrow.Author.Needs.{needs}
+use lib.ListN.{length}
 use borrow.Author.Tests.{not-false}
 use Rattle.twins.proofs.Sought.{entered-none, entered-at}
 use Rattle.twins.proofs.sought_twin.Statement.{statement}
@@ -16,21 +15,6 @@ start c = c .before .before .before
 -- the class is one of the table's
 inside : (c : tie.After-class-of) → c .class-of .result < length (start c .args .sought .now)
 inside c = omega (arith, c .class-of .ensures, start c .pre .1)
-
-class-of-requires : tie.Need-class-of-requires
-class-of-requires c κs = c .before .before .pre .0
-
-mul-y : tie.Need-mul-y
-mul-y c = omega (arith, c .class-of .ensures)
-
-element-copy-out-y : tie.Need-element-copy-out-y
-element-copy-out-y c = c .class-of .ensures
-
-mul-sought : tie.Need-mul-sought
-mul-sought c = omega (arith, c .before .before .class-of .ensures)
-
-element-write-sought : tie.Need-element-write-sought
-element-write-sought c = c .before .before .class-of .ensures
 
 returns : tie.Need-returns
 returns c =
@@ -63,11 +47,11 @@ pub sought-twin-spec : {M : Type 1} → statement M
 sought-twin-spec =
     tie.close
     (tie.spec
-    class-of-requires
-    mul-y
-    element-copy-out-y
-    mul-sought
-    element-write-sought
+    (λ c κs. c .before .before .pre .0)
+    (λ c. omega (arith, c .class-of .ensures))
+    (λ c. c .class-of .ensures)
+    (λ c. omega (arith, c .before .before .class-of .ensures))
+    (λ c. c .before .before .class-of .ensures)
     returns
     same-values-requires
     returns-2
