@@ -27,15 +27,16 @@ use worklist::list::Indices;
 use worklist::list::load;
 use worklist::list::store;
 
-// Tuples are sought in classes, by their values.
+// A tuple's class is a number below this one, made of its values.
 pub const CLASSES: usize = 2048;
 
-// Values are spread over so many numbers, by a factor that is the golden section of them.
+// The values are first made one number below this one.
 const RANGE: usize = 4294967296;
 
+// The golden section of the range: products with it spread near values over all of it.
 const FACTOR: usize = 2654435761;
 
-// For each class the index of the first tuple of it that was sought in the visit, or 65,535.
+// For each class the index of its first tuple that was sought in the visit, or 65,535.
 pub type Sought = [u16; CLASSES];
 
 // What comes of a twin: its support is taken, or it fell and so does the tuple, or there is none.
@@ -184,8 +185,8 @@ fn same_values(
     )
 }
 
-// The tuple before x that was sought and has x's values under the variables of the set; x if there is none, and x is sought now if no
-// other tuple of its class was.
+// The tuple before x that is entered for x's class, if it has x's values under the variables of the set; x otherwise, which is entered if
+// no other tuple is.
 fn sought_twin(
     variables: &[u16],
     values: &[Value],
