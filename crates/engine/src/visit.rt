@@ -105,7 +105,8 @@ fn replace(
     common: u64,
     steps: u64,
 ) -> bool
-    requires { ⌜ Long (now words) × RenewAt (setting now variables values starts members m) (now index) (now words) (now numbers) (now sought) p x at common ⌝ }
+    requires { ⌜ Long (now words) ⌝ }
+    requires { ⌜ RenewAt (setting now variables values starts members m) (now index) (now words) (now numbers) (now sought) p x at common ⌝ }
     ensures { λ r. ⌜ Renewed (setting entry variables values starts members m) p x (entry words) (entry numbers) r (exit words) (exit numbers) ⌝ }
     ensures { λ _. ⌜ Entered x (entry sought) (exit sought) ⌝ }
 {
@@ -164,7 +165,8 @@ pub fn renew(
     common: u64,
     steps: u64,
 ) -> bool
-    requires { ⌜ Long (now words) × RenewAt (setting now variables values starts members m) (now index) (now words) (now numbers) (now sought) p x at common ⌝ }
+    requires { ⌜ Long (now words) ⌝ }
+    requires { ⌜ RenewAt (setting now variables values starts members m) (now index) (now words) (now numbers) (now sought) p x at common ⌝ }
     ensures { λ r. ⌜ Renewed (setting entry variables values starts members m) p x (entry words) (entry numbers) r (exit words) (exit numbers) ⌝ }
     ensures { λ _. ⌜ Entered x (entry sought) (exit sought) ⌝ }
 {

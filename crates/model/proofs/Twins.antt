@@ -9,7 +9,7 @@ use native.Mathlib.Omega.{arith}
 use lib.Dec.{ltb}
 use lib.ListN.{length, getD, set, length-map}
 use lib.Seq.{getD-set-same, getD-set-other}
-use Rattle.model.specs.Lists.{pairwise, earlier}
+use Rattle.model.specs.Lists.{all, pairwise, earlier}
 use Rattle.model.specs.TupleSet.{TupleSet, has, Inside}
 use Rattle.model.specs.Network.{Network, size, firstId, idsOf, indexOf}
 use Rattle.model.specs.Agreement.{under, cellsOf, agree}
@@ -33,11 +33,12 @@ module _ {N : Network} {c : Combination} {j g : ℕ} where
   partners-supported {S} inside lives P =
       let t = P .tuples in
       let m = P .candidate in
-      let n = candidates-length N c m in (
-        t,
-        m,
-        isSupport-intro N S g t (subst (λ (h : ℕ). List·Memᴰ h t) (P .own) (getD-mem t j 0 (omega (arith, n)))) (all-intro (has S) t (λ h k. let q = mem-getD t 0 k in subst (λ (h : ℕ). has S h ≡ true) (q .2) (at (q .0) (omega (arith, n, q .1)) (ℕ-discrete (q .0) j)))) (P .agreeing),
-      )
+      let n = candidates-length N c m in
+      let own : List·Memᴰ g t = subst (λ (h : ℕ). List·Memᴰ h t) (P .own) (getD-mem t j 0 (omega (arith, n))) in
+      let live : all (has S) t ≡ true =
+      all-intro (has S) t (λ h k. let q = mem-getD t 0 k in subst (λ (h : ℕ). has S h ≡ true) (q .2) (at (q .0) (omega (arith, n, q .1)) (ℕ-discrete (q .0) j)))
+      in
+      (t, m, isSupport-intro N S g t own live (P .agreeing))
     where
       at : (i : ℕ) → i < length c → Dec (i ≡ j) → has S (getD (P .tuples) i 0) ≡ true
       at i h (yes q) = ap (λ (k : ℕ). has S (getD (P .tuples) k 0)) q ∙ ap (has S) (P .own) ∙ lives

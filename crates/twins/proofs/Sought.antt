@@ -1,10 +1,10 @@
 -- Laws of the table of tuples sought in a visit: how one is entered, and what is known of an entry.
 -- From the laws of lists and of partners.
 use mathlib.Core.Path.{_≡_, refl, sym, _∙_, ap, subst}
-use mathlib.Core.Bool.{true, false, true≢false}
+use mathlib.Core.Bool.{false}
 use mathlib.Core.Logic.{_⊎_, inl, inr, ⊎-elim}
 use mathlib.Core.List.{List}
-use Prim.Native.Nat.{ℕ, suc, _+_, _%_, _≤_, _<_}
+use Prim.Native.Nat.{ℕ, suc, _%_, _≤_, _<_}
 use native.Mathlib.Decide.{ℕ-discrete}
 use native.Mathlib.Omega.{arith}
 use lib.ListN.{length, getD, set, replicate, length-set, length-replicate, getD-replicate}
@@ -12,10 +12,9 @@ use lib.Seq.{getD-set-same, getD-set-other}
 use Rattle.model.specs.Limits.{noSupport}
 use Rattle.model.specs.TupleSet.{has, Inside}
 use Rattle.model.specs.Support.{Partners}
-use Rattle.model.proofs.Twins.{partners-more, partners-supported}
+use Rattle.model.proofs.Twins.{partners-more}
 use Rattle.layout.specs.Setting.{Setting, network, liveIn}
-use Rattle.layout.specs.Pairs.{combinationOf, sizeOf, tupleId}
-use Rattle.worklist.specs.Supports.{Supported}
+use Rattle.layout.specs.Pairs.{combinationOf, tupleId}
 use Rattle.doubles.specs.Doubles.{places}
 use Rattle.twins.specs.Twins.{Entered, WasSought, Noted}
 

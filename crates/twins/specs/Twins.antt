@@ -74,15 +74,10 @@ pub record TwinAt (G : Setting) (words numbers sought : List ℕ) (p x place set
   pub begins : place ≡ placeOf G p x
   pub common : Common G p set
 
--- x's numbers are its first support; or it has none, and no number changes; or no number changes
+-- What comes of a twin of x: x's numbers are its first support; or it has none, and no number changes; or no number changes.
 abbrev pub Outcome : Setting → ℕ → ℕ → List ℕ → List ℕ → Twin → List ℕ → Type 0
 Outcome G p x words numbers twin.Taken after =
     (after ≡ replaced numbers (firstSupport (network G) (liveIn G words) (combinationOf G p) (tupleId G p x)) (placeOf G p x) (G .m))
     × Supported G (liveIn G words) (combinationOf G p) (tupleId G p x)
 Outcome G p x words numbers twin.Fallen after = (after ≡ numbers) × (Supported G (liveIn G words) (combinationOf G p) (tupleId G p x) → ⊥)
 Outcome G p x words numbers twin.None after = after ≡ numbers
-
--- What comes of a twin of x; and x may be entered in the table.
-pub record Taken (G : Setting) (p x : ℕ) (words numbers sought : List ℕ) (result : Twin) (numbers′ sought′ : List ℕ) : Type 0 where
-  pub outcome : Outcome G p x words numbers result numbers′
-  pub entered : Entered x sought sought′

@@ -9,7 +9,7 @@ ghost use Rattle.layout.specs.Loan.{entry, exit};
 ghost use Rattle.layout.specs.Setting.{lists, setting};
 ghost use Rattle.doubles.specs.Alike.{TupleAt};
 ghost use Rattle.doubles.specs.Doubles.{places};
-ghost use Rattle.twins.specs.Twins.{SoughtTwin, Beside, AgreesWith, TwinAt, Taken};
+ghost use Rattle.twins.specs.Twins.{Entered, SoughtTwin, Beside, AgreesWith, TwinAt, Outcome};
 use doubles::PLACES;
 use doubles::alike::same_values;
 use doubles::tuple_hash;
@@ -36,8 +36,8 @@ pub enum Twin {
 
 // ---- An earlier tuple with the same values
 
-// The tuple before x that was sought and has x's values under the variables of the set; x if there is none, and x is sought now if no
-// other tuple with its hash was.
+// The tuple before x that is entered for the hash of x's values, if it has x's values under the variables of the set; x otherwise, which is
+// entered if no other tuple is.
 fn sought_twin(
     variables: &[u16],
     values: &[Value],
@@ -120,7 +120,8 @@ pub fn take_twin(
     common: u64,
 ) -> Twin
     requires { ⌜ TwinAt (setting now variables values starts members m) (now words) (now numbers) (now sought) p x at common ⌝ }
-    ensures { λ t. ⌜ Taken (setting entry variables values starts members m) p x (entry words) (entry numbers) (entry sought) t (exit numbers) (exit sought) ⌝ }
+    ensures { λ t. ⌜ Outcome (setting entry variables values starts members m) p x (entry words) (entry numbers) t (exit numbers) ⌝ }
+    ensures { λ _. ⌜ Entered x (entry sought) (exit sought) ⌝ }
 {
     let r = members[wide(p)];
     let y = sought_twin(variables, values, starts, sought, r, x, common);

@@ -3,8 +3,7 @@
 use mathlib.Core.Path.{refl}
 use Prim.Native.Nat.{_<_}
 use native.Mathlib.Omega.{arith}
-use lib.ListN.{length, getD}
-use borrow.Author.Needs.{needs}
+use lib.ListN.{length}
 use borrow.Author.Tests.{not-false}
 use Rattle.twins.proofs.Sought.{entered-none, entered-at}
 use Rattle.twins.proofs.sought_twin.Statement.{statement}
@@ -16,21 +15,6 @@ start c = c .before .before .before
 -- the class is one of the table's
 inside : (c : tie.After-tuple-hash) → c .tuple-hash .result < length (start c .args .sought .now)
 inside c = omega (arith, c .tuple-hash .ensures, start c .pre .1)
-
-tuple-hash-requires : tie.Need-tuple-hash-requires
-tuple-hash-requires c κs = c .before .before .pre .0
-
-mul-y : tie.Need-mul-y
-mul-y c = omega (arith, c .tuple-hash .ensures)
-
-element-copy-out-y : tie.Need-element-copy-out-y
-element-copy-out-y c = c .tuple-hash .ensures
-
-mul-sought : tie.Need-mul-sought
-mul-sought c = omega (arith, c .before .before .tuple-hash .ensures)
-
-element-write-sought : tie.Need-element-write-sought
-element-write-sought c = c .before .before .tuple-hash .ensures
 
 returns : tie.Need-returns
 returns c =
@@ -63,11 +47,11 @@ pub sought-twin-spec : {M : Type 1} → statement M
 sought-twin-spec =
     tie.close
     (tie.spec
-    tuple-hash-requires
-    mul-y
-    element-copy-out-y
-    mul-sought
-    element-write-sought
+    (λ c κs. c .before .before .pre .0)
+    (λ c. omega (arith, c .tuple-hash .ensures))
+    (λ c. c .tuple-hash .ensures)
+    (λ c. omega (arith, c .before .before .tuple-hash .ensures))
+    (λ c. c .before .before .tuple-hash .ensures)
     returns
     same-values-requires
     returns-2

@@ -1,7 +1,7 @@
 -- `take_twin` meets its contract: the entry of x's class that is a twin and fell leaves x no support; one that lives, with whose support x
 -- agrees, gives x its first support. From the laws of such a tuple, and the contracts of the functions called.
 use mathlib.Core.Path.{_≡_, refl, sym, _∙_, ap, ap₂, subst}
-use mathlib.Core.Bool.{Bool, true, false}
+use mathlib.Core.Bool.{true}
 use mathlib.Core.List.{List, _++_}
 use Prim.Native.Nat.{ℕ, _+_, _-_, _*_, _%_, _<_}
 use native.Mathlib.Nat.{mod-lt}
@@ -159,11 +159,10 @@ returns-2 c =
     let e = c .before .before .before .before in
     let s = start e in
     let twin = e .before .sought-twin .ensures in
-    let at = twin .entry (before e) in
-    record {
-      outcome = (refl, fallen-twin (ready s) (y e) (before e) (at .0) (at .1) (at .2) (lives-is (c .before) ∙ not-true (c .before .is-live .result) (c .if2 .taken)) (alike e));
-      entered = twin .entered;
-    }
+    let at = twin .entry (before e) in (
+      (refl, fallen-twin (ready s) (y e) (before e) (at .0) (at .1) (at .2) (lives-is (c .before) ∙ not-true (c .before .is-live .result) (c .if2 .taken)) (alike e)),
+      twin .entered,
+    )
 
 returns-4 : tie.Need-returns-4
 returns-4 c =
@@ -173,17 +172,16 @@ returns-4 c =
     let e = earlier w in
     let s = start e in
     let a = s .args in
-    let agreed = t .before .before .before .before in
-    record {
-      outcome = subst (Outcome (G s) (a .p) (a .x) (a .words .now) (a .numbers .now) twin.Taken)
+    let agreed = t .before .before .before .before in (
+      subst (Outcome (G s) (a .p) (a .x) (a .words .now) (a .numbers .now) twin.Taken)
           (sym
           (t .store .ensures
           ∙ ap₂ (λ (k i : ℕ). replaced (a .numbers .now) (take k (set (l .load .result) (i % k) (a .x))) (a .at) k) (each-is (w .before .before)) (t .before .before .wide4 .ensures .0)
           ∙ ap (λ (is : List ℕ). replaced (a .numbers .now) (take (a .m) (set is (a .p % a .m) (a .x))) (a .at) (a .m)) (loaded-is l)))
           (taken-twin (ready s) (y e) (before e) (alive (w .before .before .before)) (alike e)
-          (subst (AgreesWith (G s) (a .p) (a .x)) (loaded-is l) (agreed .agrees-with .ensures (not-false (agreed .agrees-with .result) (t .before .before .before .if3 .left)))));
-      entered = e .before .sought-twin .ensures .entered;
-    }
+          (subst (AgreesWith (G s) (a .p) (a .x)) (loaded-is l) (agreed .agrees-with .ensures (not-false (agreed .agrees-with .result) (t .before .before .before .if3 .left))))),
+      e .before .sought-twin .ensures .entered,
+    )
 
 pub take-twin-spec : {M : Type 1} → statement M
 take-twin-spec =
@@ -193,7 +191,7 @@ take-twin-spec =
     (λ c. omega (arith, c .wide .ensures .1))
     (λ c. omega (arith, c .before .wide .ensures .0, ready (entry c) .at .pair))
     (λ c κs. let k = c .before in let s = entry k in (tuple-at k (s .args .x) (ready s .index), ready s .noted .long))
-    (λ c. record { outcome = refl; entered = c .before .sought-twin .ensures .entered })
+    (λ c. (refl, c .before .sought-twin .ensures .entered))
     (λ c κs. let e = c .before in omega (arith, member-is (looked e), member-below (sound (start e) .laid .framed) (sound (start e) .paired) (start e .args .p) (ready (start e) .at .pair)))
     (λ c. omega (arith, id-below c, tuples-few (sound (start (c .before .before)) .laid .framed)))
     (λ c κs. omega (arith, id-below c, ready (start (c .before .before)) .enough))
@@ -206,7 +204,7 @@ take-twin-spec =
     load-requires
     agrees-with-requires
     (λ c. search needs)
-    (λ c. record { outcome = refl; entered = earlier (c .before .before .before) .before .sought-twin .ensures .entered })
+    (λ c. (refl, earlier (c .before .before .before) .before .sought-twin .ensures .entered))
     (λ c κs. search needs)
     (λ c. let w = c .before .before .before .before .before .before in omega (arith, each-is w, sound (start (w .before .before .before .before .before)) .paired .list .positive))
     (λ c. omega (arith, place-below c))

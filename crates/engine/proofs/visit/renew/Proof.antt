@@ -1,7 +1,7 @@
 -- `visit::renew` meets its contract: what is held lives and is the first support, or it is replaced.
 -- From the laws of the numbers held for a tuple, and the contracts of the functions called.
-use mathlib.Core.Path.{_≡_, refl, sym, _∙_, ap, ap₂, subst}
-use mathlib.Core.Bool.{Bool, true, true≢false}
+use mathlib.Core.Path.{_≡_, sym, _∙_, ap, ap₂, subst}
+use mathlib.Core.Bool.{Bool}
 use mathlib.Core.List.{List, _++_}
 use Prim.Native.Nat.{ℕ, _+_, _-_, _*_, _/_, _≤_}
 use native.Mathlib.Nat.{div-mul-le-self}
@@ -12,7 +12,7 @@ use Rattle.model.specs.Limits.{maxMembers, noSupport}
 use Rattle.worklist.specs.Supports.{Chosen, allLive}
 use Rattle.layout.specs.Setting.{Setting, Sound}
 use Rattle.twins.proofs.Sought.{entered-none}
-use Rattle.engine.specs.Work.{Seeker, SeekAt, Renewed}
+use Rattle.engine.specs.Work.{Seeker}
 use Rattle.engine.proofs.Bounds.{held-inside, loaded, lead, chosen, renewed-held}
 use Rattle.engine.proofs.visit.renew.Statement.{statement}
 use Rattle.engine.proofs.visit.renew.Tie as tie
@@ -100,12 +100,6 @@ returns c =
       entered-none (a .args .x) (a .args .sought .now),
     )
 
-replace-requires : tie.Need-replace-requires
-replace-requires c κs = entry (c .before .before .before .before .before) .pre
-
-returns-2 : tie.Need-returns-2
-returns-2 c = c .before .before .replace .ensures
-
 pub renew-spec : {M : Type 1} → statement M
 renew-spec =
     tie.close
@@ -119,6 +113,6 @@ renew-spec =
     all-live-requires
     (λ c. search needs)
     returns
-    replace-requires
+    (λ c κs. entry (c .before .before .before .before .before) .pre)
     (λ c. search needs)
-    returns-2)
+    (λ c. c .before .before .replace .ensures))

@@ -5,7 +5,7 @@ use mathlib.Core.Bool.{true, false, true≢false}
 use mathlib.Core.List.{List}
 use Prim.Native.Nat.{ℕ, _+_, _<_}
 use native.Mathlib.Omega.{arith}
-use lib.ListN.{length, getD}
+use lib.ListN.{getD}
 use borrow.Author.Needs.{needs}
 use Rattle.model.specs.Network.{total}
 use Rattle.model.specs.Combination.{pairMember}
@@ -71,7 +71,7 @@ numbers-after c = c .before .before .take-twin .last .1 .1 .1 .1 .1 .1 .0
 came : (c : tie.After-slice-known2) (t : Twin) → c .before .before .take-twin .result ≡ t → (let a = start c in Outcome (G a) (a .args .p) (a .args .x) (a .args .words .now) (a .args .numbers .now) t (numbers-after c))
 came c t e =
     let a = start c in
-    subst (λ (t : Twin). Outcome (G a) (a .args .p) (a .args .x) (a .args .words .now) (a .args .numbers .now) t (numbers-after c)) e (c .before .before .take-twin .ensures .outcome)
+    subst (λ (t : Twin). Outcome (G a) (a .args .p) (a .args .x) (a .args .words .now) (a .args .numbers .now) t (numbers-after c)) e (c .before .before .take-twin .ensures .0)
 
 -- ---- It is taken
 
@@ -79,7 +79,7 @@ returns : tie.Need-returns
 returns c =
     let k = c .before .before in
     let t = came k twin.Taken (c .enum-told .given .1) in
-    (record { kept = λ _. (refl, t .0, t .1); removed = λ q. absurd (true≢false q) }, k .before .before .take-twin .ensures .entered)
+    (record { kept = λ _. (refl, t .0, t .1); removed = λ q. absurd (true≢false q) }, k .before .before .take-twin .ensures .1)
 
 -- ---- It fell
 
@@ -98,6 +98,12 @@ id-is c =
 id-below : (c : tie.After-tuple-start) → (let a = start (fell c) in c .tuple-start .result + a .args .x < total (network (G a)))
 id-below c = let a = start (fell c) in omega (arith, id-is c, tuple-below (sound a) (a .args .p) (a .args .x) (seeker a .pair) (seeker a .index))
 
+tuple-start-requires : tie.Need-tuple-start-requires
+tuple-start-requires c κs =
+    let a = start (c .before .before .before .before .before) in
+    let h = member-below (sound a .laid .framed) (sound a .paired) (a .args .p) (seeker a .pair) in
+    subst (λ (q : ℕ). getD (a .args .members .now) q 0 < 65) (sym (c .before .wide .ensures .0)) (omega arith)
+
 returns-2 : tie.Need-returns-2
 returns-2 c =
     let l = c .before in
@@ -108,7 +114,7 @@ returns-2 c =
         kept = λ q. absurd (true≢false (sym q));
         removed = λ _. (c .clear .ensures ∙ ap (λ (g : ℕ). cleared g (a .args .words .now)) (id-is l), t .0, t .1);
       },
-      k .before .before .take-twin .ensures .entered,
+      k .before .before .take-twin .ensures .1,
     )
 
 -- ---- There is none
@@ -130,26 +136,8 @@ returns-3 c =
     let k = e .before .before in
     let a = start k in (
       subst (λ (ns : List ℕ). Renewed (G a) (a .args .p) (a .args .x) (a .args .words .now) ns (s .seek .result) (s .seek .last .1 .1 .1 .1 .1 .1 .0) (s .seek .last .1 .1 .1 .1 .1 .1 .1 .0)) (same e) (s .seek .ensures),
-      k .before .before .take-twin .ensures .entered,
+      k .before .before .take-twin .ensures .1,
     )
-
-mul-tuple-start : tie.Need-mul-tuple-start
-mul-tuple-start c = omega (arith, c .wide .ensures .1)
-
-shared-slice-read-tuple-start : tie.Need-shared-slice-read-tuple-start
-shared-slice-read-tuple-start c = omega (arith, c .before .wide .ensures .0, seeker (start (c .before .before .before .before .before)) .pair)
-
-tuple-start-requires : tie.Need-tuple-start-requires
-tuple-start-requires c κs =
-    let a = start (c .before .before .before .before .before) in
-    let h = member-below (sound a .laid .framed) (sound a .paired) (a .args .p) (seeker a .pair) in
-    subst (λ (q : ℕ). getD (a .args .members .now) q 0 < 65) (sym (c .before .wide .ensures .0)) (omega arith)
-
-add-clear : tie.Need-add-clear
-add-clear c = omega (arith, id-below c, tuples-few (sound (start (fell c)) .laid .framed))
-
-clear-requires : tie.Need-clear-requires
-clear-requires c κs = omega (arith, id-below c, seeker (start (fell c)) .working .space .enough)
 
 pub replace-spec : {M : Type 1} → statement M
 replace-spec =
@@ -157,11 +145,11 @@ replace-spec =
     (tie.spec
     take-twin-requires
     (λ c. search needs) (λ c. search needs) (λ c κs. search needs)
-    mul-tuple-start
-    shared-slice-read-tuple-start
+    (λ c. omega (arith, c .wide .ensures .1))
+    (λ c. omega (arith, c .before .wide .ensures .0, seeker (start (c .before .before .before .before .before)) .pair))
     tuple-start-requires
-    add-clear
-    clear-requires
+    (λ c. omega (arith, id-below c, tuples-few (sound (start (fell c)) .laid .framed)))
+    (λ c κs. omega (arith, id-below c, seeker (start (fell c)) .working .space .enough))
     (λ c. search needs)
     seek-requires
     (λ c. search needs)
