@@ -27,6 +27,8 @@ void add_relation(network *, const uint16_t *scope, size_t width, size_t tuples)
 /* Whether there was room for a combination more. */
 bool add_combination(network *, const uint16_t *members);
 bool is_connected(const network *, const uint16_t *members);
+/* The next m relations that rise, in the order of the first, then the second, and so on; false behind the last. */
+bool next_choice(const network *, uint16_t *members);
 size_t width_of(const network *, size_t relation);
 size_t size_of(const network *, size_t relation);
 size_t tuple_count(const network *);
@@ -52,6 +54,10 @@ extern const size_t suite_count, growth_count;
 enum { NAME_SIZE = 64 };
 void name_network(const description *, char name[NAME_SIZE]);
 void draw_network(network *, const description *);
+/* The scope of one of so many relations of a shape, and its width. */
+size_t shape_scope(network_shape, size_t relations, size_t relation, uint16_t *scope);
+/* The code of a value; different ones have different codes. */
+uint16_t code_of(const description *, unsigned value);
 
 bool bench_agree(const uint16_t *, size_t, const uint16_t *, size_t, const uint16_t *, size_t, const uint16_t *, size_t);
 uint16_t bench_next(const uint64_t *, size_t, uint16_t, uint16_t);

@@ -200,19 +200,18 @@ static size_t chain_scope(size_t variables, size_t width, size_t r, uint16_t *sc
     return width;
 }
 
-static size_t scope_of(const description *d, size_t r, uint16_t *scope) {
-    switch (d->shape) {
+size_t shape_scope(network_shape shape, size_t relations, size_t r, uint16_t *scope) {
+    switch (shape) {
     case NEIGHBOURS: return chain_scope(MAX_RELATIONS, 3, r, scope);
     case PATH: return chain_scope(MAX_RELATIONS, 2, r, scope);
-    case RING: return chain_scope(d->relations, 2, r, scope);
-    case STAR: return star_scope(d->relations, r, scope);
-    case CLIQUE: return clique_scope(d->relations, r, scope);
+    case RING: return chain_scope(relations, 2, r, scope);
+    case STAR: return star_scope(relations, r, scope);
+    case CLIQUE: return clique_scope(relations, r, scope);
     default: return catalogue_scope(r, scope);
     }
 }
 
-/* Different values get different codes. */
-static uint16_t code_of(const description *d, unsigned value) {
+uint16_t code_of(const description *d, unsigned value) {
     if (d->codes == MULTIPLES) return (uint16_t)(value * d->factor);
     if (d->codes == TOPMOST) return (uint16_t)(65535 - value);
     value = (value * 24029 + 12345) & 65535; /* odd factors, and a shift that the upper bits undo: one to one */
@@ -237,8 +236,7 @@ static void draw_values(network *n, const description *d, size_t r) {
         }
 }
 
-/* The next rising choice of m relations, in the order of the first, then the second, and so on; false behind the last. */
-static bool next_choice(const network *n, uint16_t *members) {
+bool next_choice(const network *n, uint16_t *members) {
     size_t j = n->m;
     while (j > 0 && members[j - 1] == n->relations - (n->m - j) - 1) j--;
     if (j == 0) return false;
@@ -262,7 +260,7 @@ void draw_network(network *n, const description *d) {
     seed = 7 + d->m * 1000 + d->relations * 10 + d->values;
     clear_network(n, d->m);
     for (size_t r = 0; r < d->relations; r++) {
-        size_t width = scope_of(d, r, scope);
+        size_t width = shape_scope(d->shape, d->relations, r, scope);
         add_relation(n, scope, width, d->tuples);
     }
     for (size_t r = 0; r < d->relations; r++) draw_values(n, d, r);
