@@ -32,8 +32,9 @@ bool next_choice(const network *, uint16_t *members);
 size_t width_of(const network *, size_t relation);
 size_t size_of(const network *, size_t relation);
 size_t tuple_count(const network *);
-/* In the desk's text form, docs/TEXT.md. */
+/* In the desk's text form, docs/TEXT.md. Reading is for texts that were written so; false where a number lacks or is too large. */
 void write_network(const network *, FILE *);
+bool read_network(network *, FILE *);
 
 /* The suite. `networks.c` says what each shape and each kind of codes is. */
 typedef enum { NEIGHBOURS, PATH, STAR, RING, CLIQUE, CATALOGUE } network_shape;

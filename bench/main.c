@@ -1,9 +1,10 @@
 /* Times the proved library's functions and the same in C, each in turn, and prints the ratios of the least times over some
  * rounds. Both must give the same results.
- *     main [--skip PATTERN]... DIRECTORY
- * Each network goes to DIRECTORY/NAME.txt in the desk's text form, and its times to DIRECTORY/times.txt: lines of kind (network or
- * growth), name, m, tuples, left, and the two times in seconds. Of networks whose name has the pattern (*, ? and [] as in a shell),
- * the library's filter is left out; its time is then 0. */
+ *     main [--skip PATTERN]... DIRECTORY [NAME]...
+ * Each network goes to DIRECTORY/NAME.txt in the desk's text form, and its times to DIRECTORY/times.txt: lines of kind (network,
+ * growth or other), name, m, tuples, left, and the two times in seconds. Further names are those of other networks, whose texts are
+ * there already. Of networks whose name has the pattern (*, ? and [] as in a shell), the library's filter is left out; its time is
+ * then 0. */
 #include "bench.h"
 #include <fnmatch.h>
 #include <stdlib.h>
@@ -108,10 +109,10 @@ static unsigned left(const uint64_t *ws) {
 }
 
 static const char *directory;
-static FILE *open_in_directory(const char *name) {
+static FILE *open_text(const char *name, const char *mode) {
     char path[4096];
     snprintf(path, sizeof path, "%s/%s.txt", directory, name);
-    FILE *file = fopen(path, "w");
+    FILE *file = fopen(path, mode);
     if (!file) perror(path), exit(1);
     return file;
 }
@@ -133,45 +134,62 @@ static double seconds(void (*filter)(uint64_t *, uint16_t *), uint64_t *live, ui
 
 static FILE *times;
 
-/* Filters one network, both ways unless the library's is to be left out. */
-static void filters(const char *kind, const description *d, bool both) {
+static char **skipped;
+static int skipped_count;
+static bool is_skipped(const char *name) {
+    for (int i = 0; i < skipped_count; i++)
+        if (!fnmatch(skipped[2 * i + 1], name, 0)) return true;
+    return false;
+}
+
+/* Filters the network, both ways unless the library's is to be left out. */
+static void filters(const char *kind, const char *name) {
+    bool both = !is_skipped(name);
     double best_r = both ? 1e9 : 0, best_c = 1e9, start = now();
-    char name[NAME_SIZE], what[NAME_SIZE + 16];
-    draw_network(&n, d);
-    name_network(d, name);
-    FILE *text = open_in_directory(name);
-    write_network(&n, text);
-    fclose(text);
     for (int k = 0; k < FILTERINGS && (k == 0 || now() - start < ENOUGH); k++) {
         if (both) best_r = least(best_r, seconds(rattle_filter, live_r, numbers_r));
         best_c = least(best_c, seconds(plain_filter, live_c, numbers_c));
     }
     fprintf(times, "%s %s %zu %zu %u %.9f %.9f\n", kind, name, n.m, tuple_count(&n), left(live_c), best_r, best_c);
+    char what[NAME_SIZE + 16];
     snprintf(what, sizeof what, "%-33s %4u left", name, left(live_c));
     bool same = !memcmp(live_r, live_c, sizeof live_r) && !memcmp(numbers_r, numbers_c, n.needed * sizeof *numbers_r);
     report(what, best_r, best_c, same || !both);
 }
 
-static bool is_skipped(const description *d, char **patterns, int count) {
-    char name[NAME_SIZE];
-    name_network(d, name);
-    for (int i = 0; i < count; i++)
-        if (!fnmatch(patterns[i], name, 0)) return true;
-    return false;
+static void filters_described(const char *kind, const description *networks, size_t count) {
+    for (size_t i = 0; i < count; i++) {
+        char name[NAME_SIZE];
+        name_network(networks + i, name);
+        draw_network(&n, networks + i);
+        FILE *text = open_text(name, "w");
+        write_network(&n, text);
+        fclose(text);
+        filters(kind, name);
+    }
+}
+
+static void filters_text(const char *name) {
+    FILE *text = open_text(name, "r");
+    bool whole = read_network(&n, text);
+    fclose(text);
+    if (!whole) fprintf(stderr, "%s is no network's text\n", name), exit(1);
+    filters("other", name);
 }
 
 int main(int argc, char **argv) {
-    char *skipped[64];
-    int count = 0, at = 1;
-    for (; at + 1 < argc && !strcmp(argv[at], "--skip") && count < 64; at += 2) skipped[count++] = argv[at + 1];
-    if (at + 1 != argc) return fputs("usage: main [--skip PATTERN]... DIRECTORY\n", stderr), 2;
-    directory = argv[at];
-    times = open_in_directory("times");
+    int at = 1;
+    skipped = argv + at;
+    for (; at + 1 < argc && !strcmp(argv[at], "--skip"); at += 2) skipped_count++;
+    if (at == argc) return fputs("usage: main [--skip PATTERN]... DIRECTORY [NAME]...\n", stderr), 2;
+    directory = argv[at++];
+    times = open_text("times", "w");
     printf("%-44s %12s %12s   ratio\n", "", "Rattle", "C -O2");
     leaves();
-    for (size_t i = 0; i < suite_count; i++) filters("network", suite + i, !is_skipped(suite + i, skipped, count));
+    filters_described("network", suite, suite_count);
     puts("growth:");
-    for (size_t i = 0; i < growth_count; i++) filters("growth", growth + i, !is_skipped(growth + i, skipped, count));
+    filters_described("growth", growth, growth_count);
+    for (; at < argc; at++) filters_text(argv[at]);
     fclose(times);
     return failures != 0;
 }

@@ -67,6 +67,38 @@ void write_network(const network *n, FILE *out) {
     for (size_t p = 0; p < n->pairs; p += n->m) write_numbers(n->members + p, n->m, out);
 }
 
+/* A number and the comma or line end behind it; none is 65,536. */
+static unsigned read_number(FILE *in) {
+    unsigned number;
+    return fscanf(in, "%u", &number) == 1 && getc(in) != EOF && number < 65536 ? number : 65536;
+}
+
+static bool read_numbers(uint16_t *numbers, size_t count, FILE *in) {
+    unsigned number = 0;
+    for (size_t i = 0; i < count && number < 65536; i++) number = read_number(in), numbers[i] = (uint16_t)number;
+    return number < 65536;
+}
+
+static bool read_relation(network *n, FILE *in) {
+    uint16_t scope[MAX_WIDTH];
+    size_t width = read_number(in), tuples = read_number(in), at = n->value_count;
+    if (width > MAX_WIDTH || tuple_count(n) + tuples > MAX_TUPLES || !read_numbers(scope, width, in)) return false;
+    add_relation(n, scope, width, tuples);
+    return read_numbers(n->values + at, width * tuples, in);
+}
+
+bool read_network(network *n, FILE *in) {
+    uint16_t members[MAX_MEMBERS];
+    size_t relations = read_number(in), m = read_number(in), combinations = read_number(in);
+    if (relations > MAX_RELATIONS || m > MAX_MEMBERS || combinations > MAX_COMBINATIONS) return false;
+    clear_network(n, m);
+    for (size_t r = 0; r < relations; r++)
+        if (!read_relation(n, in)) return false;
+    for (size_t i = 0; i < combinations; i++)
+        if (!read_numbers(members, m, in) || !add_combination(n, members)) return false;
+    return true;
+}
+
 /* ---- The suite. */
 
 #define TODAY(codes, factor)                              \
