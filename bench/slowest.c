@@ -65,13 +65,16 @@ static size_t scope_of(const plan *p, size_t r, uint16_t *scope) {
     return 1 + draw(p->width);
 }
 
+static bool has_joker(const plan *p, const uint16_t *scope, size_t width, const uint16_t *row) {
+    for (size_t c = 0; c < width; c++)
+        if (p->jokers && row[c] + 1u == p->values[scope[c]]) return true;
+    return false;
+}
+
 static bool keeps_rule(const plan *p, const uint16_t *scope, size_t width, unsigned r, const uint16_t *row) {
     unsigned sum = 0;
-    for (size_t c = 0; c < width; c++) {
-        if (p->jokers && row[c] + 1u == p->values[scope[c]]) return true;
-        sum += row[c];
-    }
-    return !p->ruled[r] || sum % p->modulus == p->classes[r];
+    for (size_t c = 0; c < width; c++) sum += row[c];
+    return !p->ruled[r] || sum % p->modulus == p->classes[r] || has_joker(p, scope, width, row);
 }
 
 /* A drawn row that keeps the rule, if one is found soon. */
@@ -82,13 +85,19 @@ static void draw_row(const plan *p, const uint16_t *scope, size_t width, unsigne
     }
 }
 
-/* The row behind this one in the order of the first value, then the second, and so on, that keeps the rule, if one comes soon. */
-static void next_row(const plan *p, const uint16_t *scope, size_t width, unsigned r, uint16_t *row) {
-    for (int k = 0; k < 64; k++) {
-        size_t c = width;
-        while (c > 0 && row[c - 1] + 1u >= p->values[scope[c - 1]]) row[--c] = 0;
-        if (c > 0) row[c - 1]++;
-        if (keeps_rule(p, scope, width, r, row)) return;
+/* The row behind this one in the order of the first value, then the second, and so on; false where that is the first again. */
+static bool step(const plan *p, const uint16_t *scope, size_t width, uint16_t *row) {
+    size_t c = width;
+    while (c > 0 && row[c - 1] + 1u >= p->values[scope[c - 1]]) row[--c] = 0;
+    if (c > 0) row[c - 1]++;
+    return c > 0;
+}
+
+/* The next row that keeps the rule, if one comes soon; those with a joker come behind all others. */
+static void next_row(const plan *p, const uint16_t *scope, size_t width, unsigned r, uint16_t *row, bool *joker) {
+    for (int k = 0; k < 4096; k++) {
+        if (!step(p, scope, width, row)) *joker = !*joker && p->jokers;
+        if (keeps_rule(p, scope, width, r, row) && has_joker(p, scope, width, row) == *joker) return;
     }
 }
 
@@ -105,11 +114,12 @@ static void fill_relation(const plan *p, network *n, size_t r) {
     size_t width = width_of(n, r), size = size_of(n, r), different = size / p->alike[s] + 1;
     const uint16_t *scope = n->variables + n->variable_starts[r];
     uint16_t *rows = n->values + n->value_starts[r], last[MAX_WIDTH] = {0};
-    if (!keeps_rule(p, scope, width, s, last)) next_row(p, scope, width, s, last);
+    bool joker = false;
+    if (!keeps_rule(p, scope, width, s, last)) next_row(p, scope, width, s, last, &joker);
     for (size_t x = 0; x < size; x++) {
         uint16_t *row = rows + x * width;
         if (x >= different && x + p->late < size) memcpy(row, row - different * width, width * sizeof *row);
-        else if (p->ways[s] == ALL && x + p->late < size) memcpy(row, last, width * sizeof *row), next_row(p, scope, width, s, last);
+        else if (p->ways[s] == ALL && x + p->late < size) memcpy(row, last, width * sizeof *row), next_row(p, scope, width, s, last, &joker);
         else draw_row(p, scope, width, s, row, x + p->late < size);
     }
     compared_width = width;
