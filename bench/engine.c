@@ -315,8 +315,11 @@ static bool spread(const visit *v, uint64_t *words, int i, int j) {
     uint64_t sum[WORDS], any = 0;
     if (count_of(words, r) > FEW) return true;
     for (int w = s->word; w < s->last; w++) sum[w] = outside[w];
-    for (int g = next_of(words, r, r->first); g < r->end; g = next_of(words, r, g + 1))
-        gather(sum, rows, rows_of_tuple(v->f, rows, tuple_of(r, g - r->first), s, &v->shared[i][j]), s);
+    for (int w = r->word; w < r->last; w++)
+        for (uint64_t rest = words[w] & inside(r, w); rest; rest &= rest - 1) {
+            const uint16_t *tuple = tuple_of(r, w * 64 + __builtin_ctzll(rest) - r->first);
+            gather(sum, rows, rows_of_tuple(v->f, rows, tuple, s, &v->shared[i][j]), s);
+        }
     for (int w = s->word; w < s->last; w++) any |= (words[w] &= sum[w]) & ~outside[w];
     return any;
 }
