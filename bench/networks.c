@@ -119,7 +119,7 @@ bool read_network(network *n, FILE *in) {
     {STAR, 4, 4, 1024, 120, codes, factor, 1, 1, 0},   \
     {RING, 4, 4, 1024, 180, codes, factor, 1, 1, 0},   \
     {CLIQUE, 4, 4, 1024, 30, codes, factor, 1, 1, 0},  \
-    {PATH, 4, 4, 1024, 9, codes, factor, 1, 1, 1}
+    {PATH, 4, 4, 1024, 10, codes, factor, 1, 1, 1}
 
 /* Four relations of so many tuples. */
 #define SMALLER(tuples, path, ring, clique)              \
