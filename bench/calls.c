@@ -10,21 +10,21 @@
 #define BOOK const uint16_t *, size_t, const uint16_t *, size_t, const uint16_t *, size_t
 void plain_filter(BOOK, uint16_t, const uint16_t *, size_t, uint64_t *, size_t, uint16_t *, size_t, uint16_t *);
 
-enum { ROUNDS = 15, WORDS = 64, NUMBERS = 32768, STACK = 1 << 20, PAINT = 0xa5 };
+enum { ROUNDS = 15, STACK = 1 << 20, PAINT = 0xa5 };
 
 /* The lists of one network; on this machine they are their own little-endian bytes. */
 static network n;
-static uint16_t records[128], supports[NUMBERS], row;
+static uint16_t records[2 * MAX_RELATIONS], supports[MAX_NUMBERS], row;
 static uint64_t marks[WORDS];
 
 static void all_living(void) {
     memset(marks, 0, sizeof marks);
-    for (size_t g = 0; g < n.tuple_starts[64]; g++) marks[g / 64] |= 1ull << (g % 64);
+    for (size_t g = 0; g < tuple_count(&n); g++) marks[g / 64] |= 1ull << (g % 64);
 }
 
-static void draw_lists(size_t m, size_t relations, size_t tuples, unsigned values, size_t step) {
-    draw_network(&n, m, relations, tuples, values, 1, step);
-    for (size_t r = 0; r < relations; r++) records[2 * r] = 3, records[2 * r + 1] = (uint16_t)tuples;
+static void draw_lists(const description *d) {
+    draw_network(&n, d);
+    for (size_t r = 0; r < n.relations; r++) records[2 * r] = (uint16_t)width_of(&n, r), records[2 * r + 1] = (uint16_t)size_of(&n, r);
 }
 
 #define BYTES(at, count) (const uint8_t *)(at), 2 * (count)
@@ -40,10 +40,12 @@ static double now(void) {
 static double least(double a, double b) { return a < b ? a : b; }
 
 /* The least times of filter on bytes and on lists, in turn. */
-static void cost(size_t m, size_t relations, size_t tuples, unsigned values, size_t step) {
+static void cost(const description *d) {
     double bytes = 1e9, lists = 1e9;
     uint16_t out[5];
-    draw_lists(m, relations, tuples, values, step);
+    char name[NAME_SIZE];
+    draw_lists(d);
+    name_network(d, name);
     for (int k = 0; k < ROUNDS; k++) {
         all_living();
         double t = now();
@@ -51,10 +53,10 @@ static void cost(size_t m, size_t relations, size_t tuples, unsigned values, siz
         bytes = least(bytes, now() - t);
         all_living();
         t = now();
-        plain_filter(records, 2 * n.relations, n.variables, n.variable_count, n.values, n.value_count, (uint16_t)m, n.members, n.pairs, marks, WORDS, supports, NUMBERS, out);
+        plain_filter(records, 2 * n.relations, n.variables, n.variable_count, n.values, n.value_count, (uint16_t)n.m, n.members, n.pairs, marks, WORDS, supports, MAX_NUMBERS, out);
         lists = least(lists, now() - t);
     }
-    printf("m = %zu, %4zu tuples %19.3f ms %9.3f ms   %.2f\n", m, relations * tuples, bytes * 1e3, lists * 1e3, bytes / lists);
+    printf("%-36s %7.3f ms %9.3f ms   %.2f\n", name, bytes * 1e3, lists * 1e3, bytes / lists);
 }
 
 static void *nothing(void *arg) { return arg; }
@@ -82,12 +84,12 @@ static size_t stack_of(void *(*call)(void *)) {
 }
 
 static int stacks(void) {
-    static const size_t steps[] = {1, 1, 2};
     static void *(*const calls[])(void *) = {call_filter, call_withdraw, call_choose, call_test, call_compare};
     size_t most = 0, base = stack_of(nothing);
-    for (size_t m = 2; m <= 4; m++) {
-        draw_lists(m, 16, 250, 4, steps[m - 2]);
-        printf("m = %zu, 4000 tuples:", m);
+    for (size_t k = 0; k < growth_count; k++) {
+        if (growth[k].tuples * growth[k].relations < 4000) continue;
+        draw_lists(growth + k);
+        printf("m = %zu, 4000 tuples:", n.m);
         for (int i = 0; i < 5; i++) {
             size_t used = stack_of(calls[i]) - base;
             printf(" %zu", used);
@@ -101,8 +103,9 @@ static int stacks(void) {
 
 int main(void) {
     printf("\n%-36s %10s %12s   ratio\n", "filter", "bytes", "lists");
-    cost(2, 8, 75, 6, 1), cost(2, 16, 256, 9, 1), cost(3, 8, 150, 6, 1), cost(3, 12, 200, 12, 1), cost(4, 6, 150, 5, 1);
-    for (size_t m = 2; m <= 4; m++) cost(m, 16, 250, 4, m == 4 ? 2 : 1);
+    for (size_t i = 0; i < suite_count; i++)
+        if (suite[i].shape == NEIGHBOURS && suite[i].factor == 1) cost(suite + i);
+    for (size_t i = 0; i < growth_count; i++) cost(growth + i);
     puts("stack of filter, withdraw, choose, test, compare:");
     return stacks();
 }

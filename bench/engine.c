@@ -1,150 +1,433 @@
-/* The filter in plain C, by the same algorithm as the proved engine: a queue of pairs of combination and member, the seeking tuple
- * tried first, the members still to come narrowed after each choice, each search resumed at the fallen support. */
+/* The filter in plain C, by the same algorithm as the proved engine: an index of values by digits, sweeps, a queue of pairs of
+ * combination and member; in a visit twins, the seeking tuple tried first, members spread to and narrowed, each search resumed at the
+ * fallen support. Tuples are known by id, so that candidates of all relations are one array of words. */
 #include "leaves.h"
 #include <string.h>
 
-enum { NO_SUPPORT = 65535, MAX_PAIRS = 1024, WORDS = 64, BUCKETS = 17, MAX_WIDTH = 8 };
+enum { TABLE = 8704, MAX_DIGITS = 4, MAX_ROWS = 1024, MAX_SWEEPS = 2, FEW = 8 };
+enum { MAX_SHARED = MAX_WIDTH, MAX_KEPT = MAX_SHARED * MAX_DIGITS };
 
-/* For each column and bucket of values, the ids of the tuples that have such a value there. */
-typedef uint64_t marks[MAX_WIDTH][BUCKETS][WORDS];
+/* A relation: its tuples have the ids from first on and below end; these are in the words from word on and below last. */
+typedef struct {
+    const uint16_t *scope, *values;
+    int width, first, end, word, last;
+    int slots[MAX_WIDTH]; /* which row of rows a shared column has in the index; -1 for the others */
+    uint64_t variables;
+} relation;
 
-static bool live_at(const uint64_t *words, size_t g) { return words[g / 64] >> (g % 64) & 1; }
+/* Columns of equal variables of two relations. */
+typedef struct {
+    int count;
+    uint8_t from[MAX_SHARED], to[MAX_SHARED];
+} columns;
 
-static bool agree_at(const network *n, size_t r, size_t x, size_t s, size_t y) {
-    size_t wr = n->variable_starts[r + 1] - n->variable_starts[r], ws = n->variable_starts[s + 1] - n->variable_starts[s];
-    return agree(n->variables + n->variable_starts[r], wr, n->values + n->value_starts[r] + x * wr, wr,
-                   n->variables + n->variable_starts[s], ws, n->values + n->value_starts[s] + y * ws, ws);
-}
+/* For each shared column and each value of each digit, the ids of the tuples that have it there. */
+typedef struct {
+    unsigned digits, factor, rows, parts[MAX_DIGITS], begins[MAX_DIGITS];
+    uint64_t table[TABLE];
+} value_index;
 
+/* What a filtering knows. */
 typedef struct {
     const network *n;
-    const marks *table;
-    const uint64_t *words;
-    const uint16_t *members;
-    size_t place, own;
-    const uint16_t *low;
-} search_for;
+    uint64_t *live;
+    int words;
+    relation relations[MAX_RELATIONS];
+    value_index index;
+} filtering;
 
-static bool fits(const search_for *q, size_t k, const uint16_t *chosen, size_t x) {
-    size_t r = q->members[k];
-    if (!agree_at(q->n, q->members[q->place], q->own, r, x)) return false;
-    for (size_t j = 0; j < k; j++)
-        if (j != q->place && !agree_at(q->n, q->members[j], chosen[j], r, x)) return false;
+/* What a visit of a combination and member knows. */
+typedef struct {
+    const filtering *f;
+    const relation *members[MAX_MEMBERS];
+    int m, place, own; /* the seeking tuple's member, and the tuple */
+    bool bare;         /* a member has no live tuple */
+    uint64_t common;   /* the variables of the other members */
+    uint64_t outside[MAX_MEMBERS][WORDS];
+    columns shared[MAX_MEMBERS][MAX_MEMBERS];
+    int steps, nearer[MAX_MEMBERS], farther[MAX_MEMBERS]; /* which members are spread to, through which */
+    uint16_t low[MAX_MEMBERS];                            /* where the search resumes */
+} visit;
+
+static inline bool is_live(const uint64_t *words, int g) { return words[g / 64] >> g % 64 & 1; }
+static inline void put(uint64_t *words, int g) { words[g / 64] |= 1ull << g % 64; }
+static inline void take(uint64_t *words, int g) { words[g / 64] &= ~(1ull << g % 64); }
+
+/* The first live id of the relation from g on, or its end. */
+static inline int next_of(const uint64_t *words, const relation *r, int g) { return next(words, 0, (uint16_t)g, (uint16_t)r->end); }
+static bool is_empty(const uint64_t *words, const relation *r) { return next_of(words, r, r->first) == r->end; }
+static inline const uint16_t *tuple_of(const relation *r, int x) { return r->values + x * r->width; }
+
+static bool agree_at(const relation *r, int x, const relation *s, int y) {
+    return agree(r->scope, r->width, tuple_of(r, x), r->width, s->scope, s->width, tuple_of(s, y), s->width);
+}
+
+/* Of the relation's word i, the bits of its own ids. */
+static inline uint64_t inside(const relation *r, int i) {
+    int over = (i + 1) * 64 - r->end;
+    return (i == r->word ? ~0ull << r->first % 64 : ~0ull) & (over > 0 ? ~0ull >> over : ~0ull);
+}
+
+static columns share(const relation *r, const relation *s) {
+    columns e = {0};
+    for (int i = 0; i < r->width; i++)
+        for (int j = 0; j < s->width; j++)
+            if (r->scope[i] == s->scope[j]) e.from[e.count] = (uint8_t)i, e.to[e.count++] = (uint8_t)j;
+    return e;
+}
+
+/* ---- The index. */
+
+static void find_relations(filtering *f) {
+    const network *n = f->n;
+    for (int k = 0; k < n->relations; k++) {
+        relation *r = f->relations + k;
+        r->scope = n->variables + n->variable_starts[k], r->values = n->values + n->value_starts[k];
+        r->width = n->variable_starts[k + 1] - n->variable_starts[k];
+        r->first = n->tuple_starts[k], r->end = n->tuple_starts[k + 1];
+        r->word = r->first / 64, r->last = r->first < r->end ? (r->end + 63) / 64 : r->word;
+        r->variables = 0;
+        for (int c = 0; c < r->width; c++) r->variables |= 1ull << r->scope[c];
+    }
+}
+
+/* For each relation, the variables of those beside it, which are in a combination with it. */
+static void find_seen(const filtering *f, uint64_t *seen) {
+    const network *n = f->n;
+    for (size_t p = 0; p < n->pairs; p++)
+        for (size_t j = p - p % n->m; j < p - p % n->m + n->m; j++)
+            if (j != p) seen[n->members[p]] |= f->relations[n->members[j]].variables;
+}
+
+/* The columns that a relation beside shares get slots; the most of any relation. */
+static int find_slots(filtering *f) {
+    uint64_t seen[MAX_RELATIONS] = {0};
+    int most = 1;
+    find_seen(f, seen);
+    for (int k = 0; k < f->n->relations; k++) {
+        relation *r = f->relations + k;
+        int slots = 0;
+        for (int c = 0; c < r->width; c++) r->slots[c] = seen[k] >> r->scope[c] & 1 ? slots++ : -1;
+        if (most < slots) most = slots;
+    }
+    return most;
+}
+
+/* So many digits among the rows; how many values they tell apart. */
+static uint64_t divide_rows(value_index *index, unsigned digits) {
+    uint64_t classes = 1;
+    unsigned begin = 0;
+    index->digits = digits;
+    for (unsigned i = 0; i < digits; i++) {
+        index->begins[i] = begin, index->parts[i] = (index->rows - begin) / (digits - i);
+        begin += index->parts[i], classes *= index->parts[i];
+    }
+    return classes;
+}
+
+/* As few digits as tell all values apart; where four do not, those of a product that spreads them. Any choice is sound. */
+static void choose_digits(value_index *index, const uint16_t *values, size_t count) {
+    unsigned bound = 1;
+    for (size_t i = 0; i < count; i++)
+        if (values[i] >= bound) bound = values[i] + 1u;
+    index->factor = 65536 / bound;
+    for (unsigned digits = 1; digits <= MAX_DIGITS; digits++)
+        if (divide_rows(index, digits) * index->factor >= 65536) return;
+    index->factor = 40503;
+}
+
+/* The rows that a value has in the relation's column, one for each digit. */
+static inline unsigned rows_of(const filtering *f, const uint64_t **rows, const relation *r, int column, uint16_t value) {
+    const value_index *index = &f->index;
+    const unsigned slot = (unsigned)r->slots[column] * index->rows;
+    unsigned h = value * index->factor & 65535;
+    for (unsigned i = 0; i < index->digits; i++) {
+        h *= index->parts[i];
+        rows[i] = index->table + (slot + index->begins[i] + (h >> 16)) * f->words;
+        h &= 65535;
+    }
+    return index->digits;
+}
+
+static void mark_relation(filtering *f, const relation *r) {
+    const uint64_t *rows[MAX_DIGITS];
+    const uint16_t *tuple = r->values;
+    for (int g = r->first; g < r->end; g++, tuple += r->width)
+        for (int c = 0; c < r->width; c++) {
+            if (r->slots[c] < 0) continue;
+            for (unsigned i = rows_of(f, rows, r, c, tuple[c]); i-- > 0;) put((uint64_t *)rows[i], g);
+        }
+}
+
+static void make_index(filtering *f) {
+    find_relations(f);
+    int cells = find_slots(f) * f->words;
+    unsigned rows = cells ? TABLE / cells : MAX_DIGITS;
+    f->index.rows = rows < MAX_ROWS ? rows : MAX_ROWS;
+    choose_digits(&f->index, f->n->values, f->n->value_count);
+    memset(f->index.table, 0, sizeof f->index.table);
+    for (int k = 0; k < f->n->relations; k++) mark_relation(f, f->relations + k);
+}
+
+/* The rows that a tuple's values have in the columns that another relation shares. */
+static inline unsigned rows_of_tuple(const filtering *f, const uint64_t **rows, const uint16_t *tuple, const relation *s, const columns *e) {
+    unsigned count = 0;
+    for (int i = 0; i < e->count; i++) count += rows_of(f, rows + count, s, e->to[i], tuple[e->from[i]]);
+    return count;
+}
+
+/* ---- Sweeps. */
+
+/* Whether some id is in all these words; at least one row. */
+static inline bool meet(const uint64_t *words, const uint64_t **rows, unsigned count, const relation *s) {
+    uint64_t any = 0;
+    if (count == 1)
+        for (int w = s->word; w < s->last; w++) any |= words[w] & rows[0][w];
+    else if (count == 2)
+        for (int w = s->word; w < s->last; w++) any |= words[w] & rows[0][w] & rows[1][w];
+    else
+        for (int w = s->word; w < s->last && !any; w++) {
+            any = words[w] & rows[0][w] & rows[1][w];
+            if (any)
+                for (unsigned i = 2; i < count; i++) any &= rows[i][w];
+        }
+    return any;
+}
+
+/* The tuples of r that no live one of s may agree with fall; whether one did. */
+static bool revise(const filtering *f, const relation *r, const relation *s) {
+    const columns e = share(r, s);
+    const uint64_t *rows[MAX_KEPT];
+    uint64_t alive[WORDS];
+    bool fell = false;
+    if (e.count == 0) return false;
+    for (int w = s->word; w < s->last; w++) alive[w] = f->live[w] & inside(s, w);
+    for (int g = next_of(f->live, r, r->first); g < r->end; g = next_of(f->live, r, g + 1)) {
+        unsigned count = rows_of_tuple(f, rows, tuple_of(r, g - r->first), s, &e);
+        if (!meet(alive, rows, count, s)) take(f->live, g), fell = true;
+    }
+    return fell;
+}
+
+static bool sweep(const filtering *f, const uint64_t *beside) {
+    bool fell = false;
+    for (int r = 0; r < f->n->relations; r++)
+        for (uint64_t rest = beside[r]; rest; rest &= rest - 1)
+            fell |= revise(f, f->relations + r, f->relations + __builtin_ctzll(rest));
+    return fell;
+}
+
+/* A tuple falls that no live tuple of some relation beside its own may agree with. */
+static void sweeps(const filtering *f) {
+    const network *n = f->n;
+    uint64_t beside[MAX_RELATIONS] = {0};
+    for (size_t p = 0; p < n->pairs; p++)
+        for (size_t j = p - p % n->m; j < p - p % n->m + n->m; j++)
+            if (j != p) beside[n->members[p]] |= 1ull << n->members[j];
+    for (int i = 0; i < MAX_SWEEPS && sweep(f, beside); i++) {}
+}
+
+/* ---- A visit. */
+
+/* Members that share no variable with the seeking tuple's are spread to, nearest first. Any list is sound. */
+static void find_steps(visit *v) {
+    unsigned reached = 1u << v->place, before = 0;
+    for (int j = 0; j < v->m; j++)
+        if (j != v->place && v->shared[v->place][j].count) reached |= 1u << j;
+    for (v->steps = 0; before != reached;) {
+        before = reached;
+        for (int j = 0; j < v->m; j++)
+            for (int i = 0; i < v->m; i++) {
+                if (before >> j & 1 || !(before >> i & 1) || i == v->place || !v->shared[i][j].count || v->steps == MAX_MEMBERS) continue;
+                v->nearer[v->steps] = i, v->farther[v->steps++] = j;
+                reached |= 1u << j;
+            }
+    }
+}
+
+static void plan(visit *v, const filtering *f, size_t p) {
+    const network *n = f->n;
+    v->f = f, v->m = (int)n->m, v->place = (int)(p % n->m), v->common = 0, v->bare = false;
+    for (int j = 0; j < v->m; j++) {
+        const relation *r = v->members[j] = f->relations + n->members[p - p % n->m + (size_t)j];
+        v->bare |= is_empty(f->live, r);
+        if (j != v->place) v->common |= r->variables;
+        for (int w = r->word; w < r->last; w++) v->outside[j][w] = ~inside(r, w);
+    }
+    for (int i = 0; i < v->m; i++)
+        for (int j = 0; j < v->m; j++)
+            if (i != j) v->shared[i][j] = share(v->members[i], v->members[j]);
+    find_steps(v);
+}
+
+/* ---- The search. */
+
+/* Member j's candidates narrowed to those that may agree with tuple x of member i; whether one is left. */
+static inline bool narrow(const visit *v, uint64_t *words, int i, int x, int j) {
+    const relation *s = v->members[j];
+    const columns *e = &v->shared[i][j];
+    const uint16_t *tuple = tuple_of(v->members[i], x);
+    const uint64_t *outside = v->outside[j], *rows[MAX_DIGITS];
+    uint64_t any = 1;
+    for (int k = 0; k < e->count; k++) {
+        unsigned digits = rows_of(v->f, rows, s, e->to[k], tuple[e->from[k]]);
+        any = 0;
+        if (digits == 1)
+            for (int w = s->word; w < s->last; w++) any |= (words[w] &= rows[0][w] | outside[w]) & ~outside[w];
+        else
+            for (int w = s->word; w < s->last; w++) {
+                uint64_t kept = rows[0][w] & rows[1][w];
+                for (unsigned d = 2; d < digits; d++) kept &= rows[d][w];
+                any |= (words[w] &= kept | outside[w]) & ~outside[w];
+            }
+    }
+    return any;
+}
+
+static bool narrow_members(const visit *v, uint64_t *words, int i, int x, int j) {
+    for (; j < v->m; j++)
+        if (j != v->place && v->shared[i][j].count && !narrow(v, words, i, x, j)) return false;
     return true;
 }
 
-static void mark_all(const network *n, marks table) {
-    for (size_t r = 0; r < 64; r++) {
-        size_t width = n->variable_starts[r + 1] - n->variable_starts[r];
-        const uint16_t *tuple = n->values + n->value_starts[r];
-        for (size_t g = n->tuple_starts[r]; g < n->tuple_starts[r + 1]; g++, tuple += width)
-            for (size_t c = 0; c < width; c++) table[c][tuple[c] % BUCKETS][g / 64] |= 1ull << (g % 64);
-    }
+static int count_of(const uint64_t *words, const relation *r) {
+    int k = 0;
+    for (int w = r->word; w < r->last; w++) k += __builtin_popcountll(words[w] & inside(r, w));
+    return k;
 }
 
-/* The bits of word i that stand for ids below the bound. */
-static uint64_t below(size_t i, size_t bound) {
-    if (bound <= i * 64) return 0;
-    return bound - i * 64 < 64 ? (1ull << (bound - i * 64)) - 1 : ~0ull;
+/* The ids in all these rows, at least one, are put to the sum. */
+static inline void gather(uint64_t *sum, const uint64_t **rows, unsigned count, const relation *s) {
+    if (count == 1)
+        for (int w = s->word; w < s->last; w++) sum[w] |= rows[0][w];
+    else
+        for (int w = s->word; w < s->last; w++) {
+            uint64_t kept = rows[0][w] & rows[1][w];
+            for (unsigned i = 2; i < count; i++) kept &= rows[i][w];
+            sum[w] |= kept;
+        }
 }
 
-/* Of the ids from begin on and below end, only those marked stay. */
-static void keep(uint64_t *words, const uint64_t *marked, size_t begin, size_t end) {
-    size_t i = begin / 64, last = end / 64;
-    if (begin >= end) return;
-    words[i] &= marked[i] | below(i, begin) | ~below(i, end);
-    for (i++; i < last; i++) words[i] &= marked[i];
-    if (i * 64 < end) words[i] &= marked[i] | ~below(i, end);
+/* Member j's candidates narrowed to those that may agree with a candidate of member i, if those are few; whether one is left. */
+static bool spread(const visit *v, uint64_t *words, int i, int j) {
+    const relation *r = v->members[i], *s = v->members[j];
+    const uint64_t *rows[MAX_KEPT], *outside = v->outside[j];
+    uint64_t sum[WORDS], any = 0;
+    if (count_of(words, r) > FEW) return true;
+    for (int w = s->word; w < s->last; w++) sum[w] = outside[w];
+    for (int w = r->word; w < r->last; w++)
+        for (uint64_t rest = words[w] & inside(r, w); rest; rest &= rest - 1) {
+            const uint16_t *tuple = tuple_of(r, w * 64 + __builtin_ctzll(rest) - r->first);
+            gather(sum, rows, rows_of_tuple(v->f, rows, tuple, s, &v->shared[i][j]), s);
+        }
+    for (int w = s->word; w < s->last; w++) any |= (words[w] &= sum[w]) & ~outside[w];
+    return any;
 }
 
-static size_t column_of(const uint16_t *scope, size_t width, uint16_t x) {
-    size_t i = 0;
-    while (i < width && scope[i] != x) i++;
-    return i;
-}
-
-/* The ids of relation s narrowed to those that may agree with tuple x of relation r. */
-static void narrow(const network *n, const marks *table, uint64_t *words, size_t r, size_t x, size_t s) {
-    size_t wr = n->variable_starts[r + 1] - n->variable_starts[r], ws = n->variable_starts[s + 1] - n->variable_starts[s];
-    const uint16_t *scope_a = n->variables + n->variable_starts[r], *scope_b = n->variables + n->variable_starts[s];
-    const uint16_t *a = n->values + n->value_starts[r] + x * wr;
-    for (size_t j = 0; j < ws; j++) {
-        size_t i = column_of(scope_a, wr, scope_b[j]);
-        if (i < wr) keep(words, (*table)[j][a[i] % BUCKETS], n->tuple_starts[s], n->tuple_starts[s + 1]);
-    }
-}
-
-/* The members from k on, but the seeking tuple's own, narrowed for tuple x of relation r; false where one has no tuple left. */
-static bool narrow_members(const search_for *q, uint64_t *words, size_t k, size_t r, size_t x) {
-    const network *n = q->n;
-    for (size_t j = k; j < n->m; j++) {
-        if (j == q->place) continue;
-        size_t s = q->members[j];
-        narrow(n, q->table, words, r, x, s);
-        if (next(words, 0, n->tuple_starts[s], n->tuple_starts[s + 1]) >= n->tuple_starts[s + 1]) return false;
-    }
+static bool fits(const visit *v, int j, const uint16_t *chosen, int x) {
+    const relation *r = v->members[j];
+    if (!agree_at(v->members[v->place], v->own, r, x)) return false;
+    for (int i = 0; i < j; i++)
+        if (i != v->place && !agree_at(v->members[i], chosen[i], r, x)) return false;
     return true;
 }
 
-/* The member whose turn it is from k on; at its own member the seeking tuple is chosen. */
-static size_t past_own(const search_for *q, size_t k, uint16_t *chosen) {
-    if (k != q->place) return k;
-    chosen[k] = (uint16_t)q->own;
-    return k + 1;
-}
-
-static bool search(const search_for *q, const uint64_t *words, size_t k, bool resumes, uint16_t *chosen) {
-    const network *n = q->n;
-    size_t r = q->members[k], first = n->tuple_starts[r], end = n->tuple_starts[r + 1];
-    size_t g = next(words, 0, (uint16_t)(resumes ? first + q->low[k] : first), (uint16_t)end);
-    for (; g < end; g = next(words, 0, (uint16_t)(g + 1), (uint16_t)end)) {
-        size_t x = g - first;
-        if (!fits(q, k, chosen, x)) continue;
-        chosen[k] = (uint16_t)x;
-        size_t on = past_own(q, k + 1, chosen);
-        if (on == n->m) return true;
+static bool search(const visit *v, const uint64_t *words, int j, bool resumes, uint16_t *chosen) {
+    const relation *r = v->members[j];
+    int on = j + 1 == v->place ? j + 2 : j + 1;
+    int g = next_of(words, r, resumes ? r->first + v->low[j] : r->first);
+    for (; g < r->end; g = next_of(words, r, g + 1)) {
+        int x = g - r->first;
+        if (!fits(v, j, chosen, x)) continue;
+        chosen[j] = (uint16_t)x;
+        if (on == v->m) return true;
         uint64_t fewer[WORDS];
-        memcpy(fewer, words, sizeof fewer);
-        if (narrow_members(q, fewer, on, r, x) && search(q, fewer, on, resumes && x == q->low[k], chosen)) return true;
+        memcpy(fewer, words, (size_t)v->f->words * sizeof *words);
+        if (narrow_members(v, fewer, j, x, on) && search(v, fewer, on, resumes && x == v->low[j], chosen)) return true;
     }
     return false;
 }
 
-static bool first_support(const search_for *q, uint16_t *chosen) {
-    size_t r = q->members[q->place];
-    if (!live_at(q->words, q->n->tuple_starts[r] + q->own)) return false;
+static bool first_support(const visit *v, uint16_t *chosen) {
     uint64_t candidates[WORDS];
-    memcpy(candidates, q->words, sizeof candidates);
-    if (!narrow_members(q, candidates, 0, r, q->own)) return false;
-    size_t k = past_own(q, 0, chosen);
-    return k == q->n->m || search(q, candidates, k, true, chosen);
+    if (v->bare) return false;
+    memcpy(candidates, v->f->live, (size_t)v->f->words * sizeof *candidates);
+    if (!narrow_members(v, candidates, v->place, v->own, 0)) return false;
+    for (int i = 0; i < v->steps; i++)
+        if (!spread(v, candidates, v->nearer[i], v->farther[i])) return false;
+    chosen[v->place] = (uint16_t)v->own;
+    return search(v, candidates, v->place == 0, true, chosen);
 }
 
-static bool all_live(const network *n, const uint64_t *words, const uint16_t *members, const uint16_t *held) {
-    for (size_t j = 0; j < n->m; j++)
-        if (!live_at(words, n->tuple_starts[members[j]] + held[j])) return false;
+/* ---- Twins. */
+
+static bool is_twin(const visit *v, const uint16_t *a, const uint16_t *b) {
+    const relation *r = v->members[v->place];
+    for (int c = 0; c < r->width; c++)
+        if (v->common >> r->scope[c] & 1 && a[c] != b[c]) return false;
     return true;
 }
 
-/* The tuple's first support is in the list, or the tuple is dead. */
-static bool renew(const network *n, const marks *table, uint64_t *words, uint16_t *held, size_t p, size_t x) {
-    size_t m = n->m, place = p % m;
-    const uint16_t *members = n->members + p / m * m;
-    uint16_t low[4] = {0}, chosen[4];
-    if (held[0] != NO_SUPPORT) {
-        if (all_live(n, words, members, held)) return true;
-        for (size_t j = 0; j < m; j++) low[j] = held[j];
-    } else {
-        low[place] = (uint16_t)x;
+/* The rows of the seeking tuple's own values that the other members share. */
+static unsigned own_rows(const visit *v, const uint64_t **rows) {
+    const relation *r = v->members[v->place];
+    const uint16_t *tuple = tuple_of(r, v->own);
+    unsigned count = 0;
+    for (int c = 0; c < r->width; c++)
+        if (v->common >> r->scope[c] & 1) count += rows_of(v->f, rows + count, r, c, tuple[c]);
+    return count;
+}
+
+/* An earlier live tuple with the seeking one's values under the others' variables; itself if the first that may be one is not. */
+static int twin(const visit *v) {
+    const relation *r = v->members[v->place];
+    const uint64_t *rows[MAX_KEPT];
+    unsigned count = own_rows(v, rows);
+    for (int g = r->first, end = r->first + v->own; g < end; g = (g | 63) + 1) {
+        uint64_t alike = v->f->live[g / 64];
+        for (unsigned i = 0; i < count; i++) alike &= rows[i][g / 64];
+        alike >>= g % 64;
+        if (!alike) continue;
+        g += __builtin_ctzll(alike);
+        return g < end && is_twin(v, tuple_of(r, v->own), tuple_of(r, g - r->first)) ? g - r->first : v->own;
     }
-    search_for q = {n, table, words, members, place, x, low};
-    if (first_support(&q, chosen)) {
-        for (size_t j = 0; j < m; j++) held[j] = chosen[j];
-        return true;
-    }
-    size_t g = n->tuple_starts[n->members[p]] + x;
-    words[g / 64] &= ~(1ull << (g % 64));
-    return false;
+    return v->own;
+}
+
+static bool agrees_with(const visit *v, const uint16_t *others) {
+    for (int j = 0; j < v->m; j++)
+        if (j != v->place && !agree_at(v->members[v->place], v->own, v->members[j], others[j])) return false;
+    return true;
+}
+
+/* A twin's support, with the seeking tuple put in, becomes its own; false where there is none. */
+static bool take_twins(const visit *v, uint16_t *held) {
+    int x = twin(v);
+    const uint16_t *twins = held - (v->own - x) * v->m;
+    if (x == v->own || !agrees_with(v, twins)) return false;
+    memcpy(held, twins, (size_t)v->m * sizeof *held);
+    held[v->place] = (uint16_t)v->own;
+    return true;
+}
+
+/* ---- The filter. */
+
+static bool all_live(const visit *v, const uint16_t *held) {
+    for (int j = 0; j < v->m; j++)
+        if (!is_live(v->f->live, v->members[j]->first + held[j])) return false;
+    return true;
+}
+
+/* The seeking tuple's first support is in the list, or it has none. */
+static bool renew(visit *v, uint16_t *held) {
+    uint16_t chosen[MAX_MEMBERS];
+    bool fresh = held[0] == NO_SUPPORT;
+    if (!fresh && all_live(v, held)) return true;
+    for (int j = 0; j < v->m; j++) v->low[j] = fresh ? 0 : held[j];
+    if (take_twins(v, held)) return true;
+    if (!first_support(v, chosen)) return false;
+    memcpy(held, chosen, (size_t)v->m * sizeof *held);
+    return true;
 }
 
 static bool holds(const network *n, size_t base, uint16_t r) {
@@ -162,30 +445,41 @@ static void requeue(const network *n, uint64_t *queue, size_t p) {
     }
 }
 
-static void visit(const network *n, const marks *table, uint64_t *queue, uint64_t *words, uint16_t *numbers, size_t p) {
-    size_t r = n->members[p], first = n->tuple_starts[r], end = n->tuple_starts[r + 1];
-    bool shrunk = false;
-    for (size_t g = next(words, 0, (uint16_t)first, (uint16_t)end); g < end; g = next(words, 0, (uint16_t)(g + 1), (uint16_t)end))
-        if (!renew(n, table, words, numbers + n->pair_starts[p] + (g - first) * n->m, p, g - first) && !shrunk) {
-            requeue(n, queue, p);
-            shrunk = true;
-        }
+static void visit_pair(const filtering *f, uint64_t *queue, uint16_t *numbers, size_t p) {
+    const relation *r = f->relations + f->n->members[p];
+    visit v;
+    bool fell = false;
+    int g = next_of(f->live, r, r->first);
+    if (g == r->end) return;
+    plan(&v, f, p);
+    for (; g < r->end; g = next_of(f->live, r, g + 1)) {
+        v.own = g - r->first;
+        if (!renew(&v, numbers + f->n->pair_starts[p] + (size_t)(v.own * v.m))) take(f->live, g), fell = true;
+    }
+    if (fell) requeue(f->n, queue, p);
+}
+
+static void clear_dead(const network *n, const uint64_t *live, uint16_t *numbers) {
+    for (size_t p = 0; p < n->pairs; p++) {
+        int first = n->tuple_starts[n->members[p]], end = n->tuple_starts[n->members[p] + 1];
+        uint16_t *held = numbers + n->pair_starts[p];
+        for (int g = first; g < end; g++, held += n->m)
+            if (!is_live(live, g))
+                for (size_t j = 0; j < n->m; j++) held[j] = NO_SUPPORT;
+    }
 }
 
 void c_filter(const network *n, uint64_t *words, uint16_t *numbers) {
+    static filtering f;
     uint64_t queue[MAX_PAIRS / 64] = {0};
-    marks table = {{{0}}};
-    mark_all(n, table);
+    f.n = n, f.live = words, f.words = (n->tuple_starts[MAX_RELATIONS] + 63) / 64;
+    make_index(&f);
     for (size_t i = 0; i < n->needed; i++) numbers[i] = NO_SUPPORT;
-    for (size_t p = 0; p < n->pairs; p++) queue[p / 64] |= 1ull << (p % 64);
+    for (size_t p = 0; p < n->pairs; p++) put(queue, (int)p);
+    sweeps(&f);
     for (size_t p; (p = next(queue, 0, 0, MAX_PAIRS)) < MAX_PAIRS;) {
-        queue[p / 64] &= ~(1ull << (p % 64));
-        visit(n, &table, queue, words, numbers, p);
+        take(queue, (int)p);
+        visit_pair(&f, queue, numbers, p);
     }
-    for (size_t p = 0; p < n->pairs; p++) {
-        size_t r = n->members[p], first = n->tuple_starts[r];
-        for (size_t g = first; g < n->tuple_starts[r + 1]; g++)
-            if (!live_at(words, g))
-                for (size_t j = 0; j < n->m; j++) numbers[n->pair_starts[p] + (g - first) * n->m + j] = NO_SUPPORT;
-    }
+    clear_dead(n, words, numbers);
 }

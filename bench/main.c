@@ -1,14 +1,20 @@
 /* Times the proved library's functions and the same in C, each in turn, and prints the ratios of the least times over some
- * rounds. Both must give the same results. The times of whole networks also go to the file named: lines of kind (network or
- * growth), m, relations, tuples, values, step, left, and the two times in seconds. */
+ * rounds. Both must give the same results.
+ *     main [--skip PATTERN]... DIRECTORY [NAME]...
+ * Each network goes to DIRECTORY/NAME.txt in the desk's text form, and its times to DIRECTORY/times.txt: lines of kind (network,
+ * growth or other), name, m, tuples, left, and the two times in seconds. Further names are those of other networks, whose texts are
+ * there already. Of networks whose name has the pattern (*, ? and [] as in a shell), the library's filter is left out; its time is
+ * then 0. */
 #include "bench.h"
-#include <stdio.h>
+#include <fnmatch.h>
+#include <stdlib.h>
 #include <string.h>
 #include <time.h>
 
-enum { ROUNDS = 21, TUPLES = 1000, WIDTH = 8, WORDS = 64, IDS = 4096, NUMBERS = 32768 };
+enum { ROUNDS = 21, FILTERINGS = 15, TUPLES = 1000 };
+static const double ENOUGH = 0.5; /* seconds after which a network is filtered no more */
 
-static uint16_t scope_a[WIDTH], scope_b[WIDTH], a[TUPLES * WIDTH], b[TUPLES * WIDTH];
+static uint16_t scope_a[MAX_WIDTH], scope_b[MAX_WIDTH], a[TUPLES * MAX_WIDTH], b[TUPLES * MAX_WIDTH];
 static uint64_t words[3][WORDS]; /* dense, sparse, nearly empty */
 
 static double now(void) {
@@ -29,21 +35,21 @@ typedef uint16_t (*range_fn)(const uint64_t *, size_t, uint16_t, uint16_t);
 static long agree_all(agree_fn f, size_t wa, size_t wb) {
     long n = 0;
     for (size_t i = 0; i < TUPLES; i++)
-        for (size_t j = 0; j < TUPLES; j++) n += f(scope_a, wa, a + i * WIDTH, wa, scope_b, wb, b + j * WIDTH, wb);
+        for (size_t j = 0; j < TUPLES; j++) n += f(scope_a, wa, a + i * MAX_WIDTH, wa, scope_b, wb, b + j * MAX_WIDTH, wb);
     return n;
 }
 
 static long next_all(range_fn f, const uint64_t *ws) {
     long n = 0;
     for (int round = 0; round < 300; round++)
-        for (uint16_t g = f(ws, WORDS, 0, IDS); g < IDS; g = f(ws, WORDS, (uint16_t)(g + 1), IDS)) n += g;
+        for (uint16_t g = f(ws, WORDS, 0, MAX_TUPLES); g < MAX_TUPLES; g = f(ws, WORDS, (uint16_t)(g + 1), MAX_TUPLES)) n += g;
     return n;
 }
 
 static long count_all(range_fn f, const uint64_t *ws, uint16_t length) {
     long n = 0;
     for (int round = 0; round < 200000; round++) {
-        uint16_t start = (uint16_t)(round * 37 % (IDS - length));
+        uint16_t start = (uint16_t)(round * 37 % (MAX_TUPLES - length));
         n += f(ws, WORDS, start, (uint16_t)(start + length));
     }
     return n;
@@ -52,7 +58,8 @@ static long count_all(range_fn f, const uint64_t *ws, uint16_t length) {
 static int failures = 0;
 
 static void report(const char *what, double rattle, double c, bool same) {
-    printf("%-34s %9.3f ms %9.3f ms   %.2f%s\n", what, rattle * 1e3, c * 1e3, rattle / c, same ? "" : "  RESULTS DIFFER");
+    printf("%-44s %9.3f ms %9.3f ms   %.2f%s\n", what, rattle * 1e3, c * 1e3, rattle / c, same ? "" : "  RESULTS DIFFER");
+    fflush(stdout);
     failures += !same;
 }
 
@@ -74,8 +81,8 @@ static double least(double a, double b) { return a < b ? a : b; }
     } while (0)
 
 static void leaves(void) {
-    for (size_t i = 0; i < WIDTH; i++) scope_a[i] = (uint16_t)i, scope_b[i] = (uint16_t)((i + 2) % (WIDTH + 2));
-    for (size_t i = 0; i < TUPLES * WIDTH; i++) a[i] = (uint16_t)(draw() % 2), b[i] = (uint16_t)(draw() % 2);
+    for (size_t i = 0; i < MAX_WIDTH; i++) scope_a[i] = (uint16_t)i, scope_b[i] = (uint16_t)((i + 2) % (MAX_WIDTH + 2));
+    for (size_t i = 0; i < TUPLES * MAX_WIDTH; i++) a[i] = (uint16_t)(draw() % 2), b[i] = (uint16_t)(draw() % 2);
     for (size_t i = 0; i < WORDS; i++) {
         words[0][i] = draw() << 33 ^ draw() << 10 ^ draw();
         words[1][i] = words[0][i] & draw() << 20 & draw() << 15;
@@ -93,7 +100,7 @@ static void leaves(void) {
 
 static network n;
 static uint64_t live_r[WORDS], live_c[WORDS];
-static uint16_t numbers_r[NUMBERS], numbers_c[NUMBERS];
+static uint16_t numbers_r[MAX_NUMBERS], numbers_c[MAX_NUMBERS];
 
 static unsigned left(const uint64_t *ws) {
     unsigned k = 0;
@@ -101,56 +108,88 @@ static unsigned left(const uint64_t *ws) {
     return k;
 }
 
-static FILE *times;
-
-/* Filters one network both ways, from all tuples live. Networks of a kind are written to the file. */
-static void filters(const char *kind, size_t m, size_t relations, size_t tuples, unsigned values, unsigned factor, size_t step) {
-    double best_r = 1e9, best_c = 1e9;
-    draw_network(&n, m, relations, tuples, values, factor, step);
-    for (int k = 0; k < 15; k++) {
-        memset(live_r, 0, sizeof live_r);
-        for (size_t g = 0; g < relations * tuples; g++) live_r[g / 64] |= 1ull << (g % 64);
-        memcpy(live_c, live_r, sizeof live_c);
-        double t = now();
-        bench_filter(n.variables, n.variable_count, n.values, n.value_count, n.variable_starts, n.members, n.pairs, (uint16_t)m, live_r, WORDS, numbers_r, NUMBERS);
-        double u = now();
-        c_filter(&n, live_c, numbers_c);
-        best_r = least(best_r, u - t);
-        best_c = least(best_c, now() - u);
-    }
-    if (times && kind) fprintf(times, "%s %zu %zu %zu %u %zu %u %.9f %.9f\n", kind, m, relations, tuples, values, step, left(live_r), best_r, best_c);
-    char what[64];
-    snprintf(what, sizeof what, "m = %zu, %4zu tuples, %4u left", m, relations * tuples, left(live_r));
-    report(what, best_r, best_c, !memcmp(live_r, live_c, sizeof live_r) && !memcmp(numbers_r, numbers_c, n.needed * sizeof *numbers_r));
+static const char *directory;
+static FILE *open_text(const char *name, const char *mode) {
+    char path[4096];
+    snprintf(path, sizeof path, "%s/%s.txt", directory, name);
+    FILE *file = fopen(path, mode);
+    if (!file) perror(path), exit(1);
+    return file;
 }
 
-static void networks(const char *kind, unsigned factor) {
-    filters(kind, 2, 8, 75, 6, factor, 1);
-    filters(kind, 2, 16, 256, 9, factor, 1);
-    filters(kind, 2, 16, 256, 18, factor, 1);
-    filters(kind, 2, 16, 250, 60, factor, 1);
-    filters(kind, 3, 8, 150, 6, factor, 1);
-    filters(kind, 3, 12, 200, 12, factor, 1);
-    filters(kind, 3, 8, 200, 30, factor, 1);
-    filters(kind, 4, 6, 150, 5, factor, 1);
-    filters(kind, 4, 8, 200, 9, factor, 1);
-    filters(kind, 4, 8, 200, 25, factor, 1);
+static void rattle_filter(uint64_t *live, uint16_t *numbers) {
+    bench_filter(n.variables, n.variable_count, n.values, n.value_count, n.variable_starts, n.members, n.pairs, (uint16_t)n.m, live, WORDS, numbers, MAX_NUMBERS);
+}
+
+static void plain_filter(uint64_t *live, uint16_t *numbers) { c_filter(&n, live, numbers); }
+
+/* Seconds for one filtering from all tuples live. */
+static double seconds(void (*filter)(uint64_t *, uint16_t *), uint64_t *live, uint16_t *numbers) {
+    memset(live, 0, WORDS * sizeof *live);
+    for (size_t g = 0; g < tuple_count(&n); g++) live[g / 64] |= 1ull << (g % 64);
+    double t = now();
+    filter(live, numbers);
+    return now() - t;
+}
+
+static FILE *times;
+
+static char **skipped;
+static int skipped_count;
+static bool is_skipped(const char *name) {
+    for (int i = 0; i < skipped_count; i++)
+        if (!fnmatch(skipped[2 * i + 1], name, 0)) return true;
+    return false;
+}
+
+/* Filters the network, both ways unless the library's is to be left out. */
+static void filters(const char *kind, const char *name) {
+    bool both = !is_skipped(name);
+    double best_r = both ? 1e9 : 0, best_c = 1e9, start = now();
+    for (int k = 0; k < FILTERINGS && (k == 0 || now() - start < ENOUGH); k++) {
+        if (both) best_r = least(best_r, seconds(rattle_filter, live_r, numbers_r));
+        best_c = least(best_c, seconds(plain_filter, live_c, numbers_c));
+    }
+    fprintf(times, "%s %s %zu %zu %u %.9f %.9f\n", kind, name, n.m, tuple_count(&n), left(live_c), best_r, best_c);
+    char what[NAME_SIZE + 16];
+    snprintf(what, sizeof what, "%-33s %4u left", name, left(live_c));
+    bool same = !memcmp(live_r, live_c, sizeof live_r) && !memcmp(numbers_r, numbers_c, n.needed * sizeof *numbers_r);
+    report(what, best_r, best_c, same || !both);
+}
+
+static void filters_described(const char *kind, const description *networks, size_t count) {
+    for (size_t i = 0; i < count; i++) {
+        char name[NAME_SIZE];
+        name_network(networks + i, name);
+        draw_network(&n, networks + i);
+        FILE *text = open_text(name, "w");
+        write_network(&n, text);
+        fclose(text);
+        filters(kind, name);
+    }
+}
+
+static void filters_text(const char *name) {
+    FILE *text = open_text(name, "r");
+    bool whole = read_network(&n, text);
+    fclose(text);
+    if (!whole) fprintf(stderr, "%s is no network's text\n", name), exit(1);
+    filters("other", name);
 }
 
 int main(int argc, char **argv) {
-    static const size_t steps[] = {1, 1, 2}; /* so that 4,000 tuples need no more than 32,768 support numbers */
-    static const size_t sizes[] = {16, 32, 63, 125, 250};
-    times = argc > 1 ? fopen(argv[1], "w") : NULL;
-    printf("%-34s %12s %12s   ratio\n", "", "Rattle", "C -O2");
+    int at = 1;
+    skipped = argv + at;
+    for (; at + 1 < argc && !strcmp(argv[at], "--skip"); at += 2) skipped_count++;
+    if (at == argc) return fputs("usage: main [--skip PATTERN]... DIRECTORY [NAME]...\n", stderr), 2;
+    directory = argv[at++];
+    times = open_text("times", "w");
+    printf("%-44s %12s %12s   ratio\n", "", "Rattle", "C -O2");
     leaves();
-    networks("network", 1);
-    puts("codes times 100:");
-    networks(NULL, 100);
-    puts("codes times 256:");
-    networks(NULL, 256);
+    filters_described("network", suite, suite_count);
     puts("growth:");
-    for (size_t m = 2; m <= 4; m++)
-        for (size_t k = 0; k < sizeof sizes / sizeof *sizes; k++) filters("growth", m, 16, sizes[k], 4, 1, steps[m - 2]);
-    if (times) fclose(times);
+    filters_described("growth", growth, growth_count);
+    for (; at < argc; at++) filters_text(argv[at]);
+    fclose(times);
     return failures != 0;
 }

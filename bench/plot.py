@@ -20,11 +20,11 @@ class Panel(NamedTuple):
 def read_panels(lines: list[str]) -> list[Panel]:
     panels = {}
     for line in lines:
-        kind, m, relations, tuples, *_, rattle, c, sql = line.split()
-        if kind == "growth":
+        kind, _, m, tuples, _, rattle, c, sql = line.split()
+        if kind == "growth" and float(rattle) > 0:
             panel = panels.setdefault(int(m), Panel(int(m), {name: [] for name in COLOURS}))
             for name, time in zip(COLOURS, (rattle, c, sql)):
-                panel.lines[name].append((int(relations) * int(tuples), float(time)))
+                panel.lines[name].append((int(tuples), float(time)))
     return [panels[m] for m in sorted(panels)]
 
 

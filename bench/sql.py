@@ -1,73 +1,77 @@
-"""The benchmark's networks filtered by SQLite's joins.
+"""The benchmark's networks filtered by SQLite's joins: sql.py DIRECTORY.
 
-Reads the lines that bench/main writes, draws the same networks, and filters each with one DELETE for each visit of a combination
-and member. Prints two times beside the others: of the whole job, from the lists to the rows left (tables, indexes, deletes), and
-of the deletes alone. SQLite finds no supports. The lines go on to a second file, with the whole job's time behind.
+Reads DIRECTORY/times.txt and the networks' texts beside it, as bench/main writes them, and filters each with one DELETE for each
+visit of a combination and member. Prints two times beside the others: of the whole job, from the lists to the rows left (tables,
+indexes, deletes), and of the deletes alone. SQLite finds no supports. The lines go on to DIRECTORY/all-times.txt, with the whole
+job's time behind. A job that takes longer than LIMIT is given up and counted with LIMIT.
 """
 
 import itertools
 import sqlite3
 import sys
 import time
+from pathlib import Path
 from typing import NamedTuple
 
-WIDTH = 3
+LIMIT = 20.0  # seconds after which a job is given up
+ENOUGH = 1.0  # and after which no other round begins
+ROUNDS = 3
 
 
 class Measured(NamedTuple):
     kind: str
+    name: str
     m: int
-    relations: int
     tuples: int
-    values: int
-    step: int
     left: int
     rattle: float
     c: float
 
 
 class Network(NamedTuple):
-    scopes: list[list[int]]
+    scopes: list[tuple[int, ...]]
     tuples: list[list[tuple[int, ...]]]
-    combinations: list[range]
+    combinations: list[tuple[int, ...]]
 
 
-def draw_network(size: Measured) -> Network:
-    """The network that bench/networks.c draws for these numbers."""
-    seed = 7 + size.m * 1000 + size.relations * 10 + size.values
+def read_network(path: Path) -> Network:
+    """The network of a text in the form of docs/TEXT.md."""
+    lines = (tuple(map(int, line.split(","))) for line in path.read_text(encoding="ascii").splitlines())
+    relations, _, combinations = next(lines)
+    scopes, tuples = [], []
+    for _ in range(relations):
+        _, rows = next(lines)
+        scopes.append(next(lines))
+        tuples.append(list(itertools.islice(lines, rows)))
+    return Network(scopes, tuples, list(itertools.islice(lines, combinations)))
 
-    def draw() -> int:
-        nonlocal seed
-        seed = (seed * 6364136223846793005 + 1442695040888963407) % 2**64
-        return (seed >> 33) % size.values
 
-    scopes = [[(r + (j + r) % WIDTH) % 64 for j in range(WIDTH)] for r in range(size.relations)]
-    tuples = [[tuple(draw() for _ in range(WIDTH)) for _ in range(size.tuples)] for _ in scopes]
-    firsts = range(0, size.relations - size.m + 1, size.step)
-    return Network(scopes, tuples, [range(first, first + size.m) for first in firsts])
+def shared(network: Network, a: int, b: int) -> list[int]:
+    return [x for x in network.scopes[a] if x in network.scopes[b]]
+
+
+def indexed(network: Network) -> set[tuple[int, tuple[int, ...]]]:
+    """Relations and columns: those that a relation shares with another one of a combination."""
+    beside = {pair for members in network.combinations for pair in itertools.permutations(members, 2)}
+    return {(a, tuple(sorted(shared(network, a, b)))) for a, b in beside if shared(network, a, b)}
 
 
 def load(network: Network) -> sqlite3.Connection:
-    """Tables indexed by the two columns that they share with a neighbour: the least time for the whole job of those tried."""
+    """Tables and indexes: the least time for the whole job of those tried."""
     base = sqlite3.connect(":memory:", isolation_level=None)
     base.execute("BEGIN")
     for r, (scope, tuples) in enumerate(zip(network.scopes, network.tuples)):
         base.execute(f"CREATE TABLE r{r} ({', '.join(f'x{x} INTEGER' for x in scope)})")
         base.executemany(f"INSERT INTO r{r} VALUES ({', '.join('?' * len(scope))})", tuples)
-        for one, two in itertools.pairwise(sorted(scope)):
-            base.execute(f"CREATE INDEX i{r}_{one}_{two} ON r{r} (x{one}, x{two})")
+    for number, (r, columns) in enumerate(sorted(indexed(network))):
+        base.execute(f"CREATE INDEX i{number} ON r{r} ({', '.join(f'x{x}' for x in columns)})")
     base.execute("COMMIT")
     return base
 
 
-def visit(network: Network, combination: range, member: int) -> str:
+def visit(network: Network, combination: tuple[int, ...], member: int) -> str:
     """The statement that deletes the member's tuples without a support in the combination."""
-    equal = [
-        f"r{a}.x{x} = r{b}.x{x}"
-        for a, b in itertools.combinations(combination, 2)
-        for x in network.scopes[a]
-        if x in network.scopes[b]
-    ]
+    equal = [f"r{a}.x{x} = r{b}.x{x}" for a, b in itertools.combinations(combination, 2) for x in shared(network, a, b)]
     others = ", ".join(f"r{r}" for r in combination if r != member)
     return f"DELETE FROM r{member} WHERE NOT EXISTS (SELECT 1 FROM {others} WHERE {' AND '.join(equal)})"
 
@@ -85,37 +89,51 @@ def filtered(base: sqlite3.Connection, network: Network) -> None:
                     waiting.update(dict.fromkeys((other, r) for r in members if r != member))
 
 
-def sql_times(size: Measured) -> tuple[float, float]:
-    """The least times, over some rounds, of the whole job and of its deletes."""
-    network, rounds = draw_network(size), []
-    for _ in range(3):
-        start = time.perf_counter()
-        base = load(network)
-        loaded = time.perf_counter()
+def job(network: Network) -> tuple[float, float, int | None]:
+    """Times of the whole job and of its deletes, and the tuples left, or None where it was given up."""
+    start = time.perf_counter()
+    base = load(network)
+    loaded = time.perf_counter()
+    base.set_progress_handler(lambda: time.perf_counter() - start > LIMIT, 100_000)
+    try:
         filtered(base, network)
-        end = time.perf_counter()
-        rounds.append((end - start, end - loaded))
-    left = sum(base.execute(f"SELECT count(*) FROM r{r}").fetchone()[0] for r in range(size.relations))
-    if left != size.left:
-        sys.exit(f"SQLite leaves {left} tuples of {size}")
+    except sqlite3.OperationalError:
+        return LIMIT, LIMIT, None
+    end = time.perf_counter()
+    left = sum(base.execute(f"SELECT count(*) FROM r{r}").fetchone()[0] for r in range(len(network.scopes)))
+    return end - start, end - loaded, left
+
+
+def sql_times(size: Measured, network: Network) -> tuple[float, float]:
+    """The least times, over some rounds, of the whole job and of its deletes."""
+    rounds = []
+    while len(rounds) < ROUNDS and sum(whole for whole, _ in rounds) < ENOUGH:
+        whole, deletes, left = job(network)
+        if left not in (size.left, None):
+            sys.exit(f"SQLite leaves {left} tuples of {size}")
+        rounds.append((whole, deletes))
     return min(rounds)
 
 
 def read_measured(lines: list[str]) -> list[Measured]:
     rows = [line.split() for line in lines]
-    return [Measured(row[0], *map(int, row[1:7]), *map(float, row[7:])) for row in rows]
+    return [Measured(*row[:2], *map(int, row[2:5]), *map(float, row[5:])) for row in rows]
+
+
+def told(seconds: float) -> str:
+    return f"over {LIMIT:.0f} s  " if seconds >= LIMIT else f"{1e3 * seconds:8.3f} ms "
 
 
 def main() -> None:
-    with open(sys.argv[1], encoding="ascii") as lines:
-        measured = read_measured(lines.readlines())
-    print(f"\n{'':30} {'Rattle':>11} {'C -O2':>11} {'SQLite':>11} {'deletes':>11}   SQLite / Rattle")
-    with open(sys.argv[2], "w", encoding="ascii") as out:
+    directory = Path(sys.argv[1])
+    measured = read_measured((directory / "times.txt").read_text(encoding="ascii").splitlines())
+    print(f"\n{'':44} {'Rattle':>11} {'C -O2':>11} {'SQLite':>11} {'deletes':>11}   SQLite / Rattle, / C")
+    with open(directory / "all-times.txt", "w", encoding="ascii") as out:
         for size in measured:
-            whole, deletes = sql_times(size)
-            what = f"m = {size.m}, {size.relations * size.tuples:4} tuples, {size.left:4} left"
-            times = "".join(f"{1e3 * t:8.3f} ms " for t in (size.rattle, size.c, whole, deletes))
-            print(f"{what:30} {times}  {whole / size.rattle:.1f}", flush=True)
+            whole, deletes = sql_times(size, read_network(directory / f"{size.name}.txt"))
+            what = f"{size.name:33} {size.left:4} left"
+            faster = f"{whole / size.rattle:.1f}" if size.rattle else "-"
+            print(f"{what:44} {''.join(map(told, (size.rattle, size.c, whole, deletes)))}  {faster} {whole / size.c:.1f}", flush=True)
             print(*size, whole, file=out)
 
 
