@@ -133,9 +133,14 @@ abbrev pub sought : Search → ℕ → List ℕ → Option (List ℕ)
 sought Q k chosen =
     completion (netOf Q) (liveOf Q) (seeker Q) (Q .low) (chosenIds (netOf Q) (Q .members) chosen k) (map (idsOf (netOf Q)) (drop k (Q .members)))
 
-abbrev pub Finds : Search → ℕ → List ℕ → Found → Type 0
-Finds Q k chosen f = answer (f .ok) (take (length (Q .members)) (f .tuples)) ≡ sought Q k chosen
+-- .. unless the search gave up, which only a limited one does
+abbrev pub Finds : Search → ℕ → List ℕ → Bool → Found → Type 0
+Finds Q k chosen limited f =
+    (f .spent ≡ false → answer (f .ok) (take (length (Q .members)) (f .tuples)) ≡ sought Q k chosen) × (limited ≡ false → f .spent ≡ false)
 
 -- .. with nothing chosen yet
 abbrev pub FindsFirst : Search → Found → Type 0
 FindsFirst Q f = answer (f .ok) (take (length (Q .members)) (f .tuples)) ≡ supportFrom (netOf Q) (liveOf Q) (Q .members) (seeker Q) (Q .low)
+
+abbrev pub TriesFirst : Search → Bool → Found → Type 0
+TriesFirst Q limited f = (f .spent ≡ false → FindsFirst Q f) × (limited ≡ false → f .spent ≡ false)

@@ -1,11 +1,11 @@
--- `search` finds the first support that has the tuples chosen. The loop's invariant: from the id reached on, there is still all to find;
--- the measure is the number of members still unchosen. From the laws of one member's turn, and of narrowed words.
-use mathlib.Core.Path.{_≡_, sym, ap, subst, _∙_}
+-- `search` finds the first support that has the tuples chosen, or gives up. The loop's invariant: from the id reached on, there is still all to
+-- find; the measure is the number of members still unchosen. From the laws of one member's turn, and of narrowed words.
+use mathlib.Core.Path.{_≡_, refl, sym, ap, subst, _∙_}
 use mathlib.Core.Bool.{Bool, true, false, _&&_}
 use mathlib.Core.Option.{none}
 use mathlib.Core.List.{List, List·Memᴰ}
 use mathlib.Core.Logic.{_⊎_, ⊎-elim}
-use Prim.Native.Nat.{ℕ, _+_, _-_, _<_}
+use Prim.Native.Nat.{ℕ, _+_, _-_, _≤_, _<_}
 use native.Mathlib.Omega.{arith}
 use lib.Dec.{eqb}
 use lib.ListN.{length, getD, take, set, length-set}
@@ -14,7 +14,9 @@ use borrow.Kind.Array.{eInt, good-length}
 use mir.Syntax.{w16}
 use borrow.Fn.Kinds.{In}
 use borrow.Fn.PlainCycle.{Measures, is, falls, and}
+use borrow.Author.Needs.{needs}
 use Rattle.model.specs.TupleSet.{has}
+use Rattle.model.proofs.Bools.{not-both}
 use Rattle.support.specs.declared.Span.{Span}
 use Rattle.model.proofs.LiveWords.{nextLive-first}
 use Rattle.support.specs.Search.{Search, netOf, liveOf, idAt, seeker, SoundSearch, chosenIds, Prefix, SearchAt, sought, answer}
@@ -26,6 +28,7 @@ use Rattle.support.proofs.Narrow.{others, onWords, Fewer, fewer-words, 
 use Rattle.live.proofs.next.Reads as next-reads
 use Rattle.narrowing.proofs.narrow_members.Reads as narrow-members-reads
 use Rattle.support.proofs.fits.Reads as fits-reads
+use Rattle.support.proofs.gives_up.Reads as gives-up-reads
 use Rattle.support.proofs.past_own.Reads as past-own-reads
 use Rattle.support.proofs.span_of.Reads as span-of-reads
 use Rattle.support.proofs.search.Reads as search′
@@ -58,14 +61,14 @@ search-below t = and 6 search-kinds.ps (falls 6 search-kinds.ps _<_ μ-search t)
 
 abbrev callees : ℕ → search-lts.Claims
 callees t =
-    (span-of-reads.Asked, span-of-reads.Learnt, next-reads.Asked, next-reads.Learnt, fits-reads.Asked, fits-reads.Learnt, past-own-reads.Asked, past-own-reads.Learnt, narrow-members-reads.Asked, narrow-members-reads.Learnt, search-below t, search′.Post)
+    (span-of-reads.Asked, span-of-reads.Learnt, next-reads.Asked, next-reads.Learnt, fits-reads.Asked, fits-reads.Learnt, past-own-reads.Asked, past-own-reads.Learnt, narrow-members-reads.Asked, narrow-members-reads.Learnt, search-below t, search′.Post, gives-up-reads.Asked, gives-up-reads.Learnt)
 
 abbrev search-Inv-loop : search-lts.InvT-loop
-search-Inv-loop variables values starts index words members place own k resumes chosen low lowest r first end g₀ g =
-    WalkAt (searchOn variables values starts words members place own low) k resumes chosen g
+search-Inv-loop variables values starts index words members place own k resumes chosen limited low lowest r first end failures₀ g₀ failures g =
+    WalkAt (searchOn variables values starts words members place own low) k resumes chosen g × (failures ≤ g)
 
 abbrev search-μ-loop : search-lts.MeasureT-loop
-search-μ-loop variables values starts index words members place own k resumes chosen low lowest r first end g₀ g = end - g
+search-μ-loop variables values starts index words members place own k resumes chosen limited low lowest r first end failures₀ g₀ failures g = end - g
 
 -- ---- Places on the way
 
@@ -138,7 +141,7 @@ search-loop-holds : (t : ℕ) → search-lts.Need-loop-holds (callees t) (search
 search-loop-holds t c =
     let p = c .before .before in
     let a = entry t p in
-    subst (WalkAt (searchOf t a) (a .args .k) (a .args .resumes) (a .args .chosen)) (sym (c .next .ensures)) (come-first (turn t p))
+    (subst (WalkAt (searchOf t a) (a .args .k) (a .args .resumes) (a .args .chosen)) (sym (c .next .ensures)) (come-first (turn t p)), omega arith)
 
 -- ---- The tuple tried, at the loop's turn
 
@@ -149,14 +152,14 @@ abbrev spanned : (t : ℕ) → Looping t → Spanned t
 spanned t l = l .before .before .before
 
 search-sub-x : (t : ℕ) → search-lts.Need-sub-x (callees t) (search-at t) search′.Post search-Inv-loop search-μ-loop
-search-sub-x t c = come-from (turn t (spanned t (c .before))) (c .before .loop .g) (c .before .loop .inv) .0
+search-sub-x t c = come-from (turn t (spanned t (c .before))) (c .before .loop .g) (c .before .loop .inv .0) .0
 
 search-fits-requires : (t : ℕ) → search-lts.Need-fits-requires (callees t) (search-at t) search′.Post search-Inv-loop search-μ-loop
 search-fits-requires t c κs =
     let l = c .before in
     let p = spanned t l in
     let a = entry t p in
-    trial (turn t p) (l .loop .g) (l .loop .inv .from-start) (c .loop-test .taken)
+    trial (turn t p) (l .loop .g) (l .loop .inv .0 .from-start) (c .loop-test .taken)
 
 abbrev Tried : ℕ → Type 0
 Tried t = search-lts.After-fits2 (callees t) (search-at t) search′.Post search-Inv-loop search-μ-loop
@@ -209,7 +212,7 @@ stage t c =
     let p = spanned t l in
     let a = entry t p in
     next-stage (searchOf t a) (ready t a) (resumed t c) (a .args .k + 1) (more t c) (length-set (a .args .chosen) (a .args .k) (indexOf t u) ∙ chosen-length t a) (low-length t a) (at t a .lives)
-    (come-more (turn t p) (l .loop .g) (l .loop .inv .from-start) (within t u) (come-lives (turn t p) (l .loop .g) (l .loop .inv) (within t u)) (sym (u .fits2 .ensures) ∙ c .before .if1 .taken))
+    (come-more (turn t p) (l .loop .g) (l .loop .inv .0 .from-start) (within t u) (come-lives (turn t p) (l .loop .g) (l .loop .inv .0) (within t u)) (sym (u .fits2 .ensures) ∙ c .before .if1 .taken))
     (c .past-own .result) (c .past-own .ensures)
 
 -- what there is to find then is what there is to find onward
@@ -220,7 +223,7 @@ stage-onward : (t : ℕ) (c : Chosen t) →
 stage-onward t c =
     let u = tried t c in
     let l = looping t u in
-    stage t c .same ∙ onward-more (turn t (spanned t l)) (l .loop .g) (l .loop .inv .from-start) (within t u)
+    stage t c .same ∙ onward-more (turn t (spanned t l)) (l .loop .g) (l .loop .inv .0 .from-start) (within t u)
 
 search-returns : (t : ℕ) → search-lts.Need-returns (callees t) (search-at t) search′.Post search-Inv-loop search-μ-loop
 search-returns t c =
@@ -230,10 +233,13 @@ search-returns t c =
     let p = spanned t l in
     let a = entry t p in
     let s = b .past-own .result in
-    let S = stage t b in
-    sym
-    (come-found (turn t p) (l .loop .g) (l .loop .inv) (within t u) (take (length (a .args .members .now)) (s .chosen))
-    (sym (stage-onward t b) ∙ turn-done (searchOf t a) (ready t a) (resumed t b) (s .chosen) (S .sized) (s .k) (c .if2 .taken) (S .prefix)))
+    let S = stage t b in (
+      λ e.
+          sym
+          (come-found (turn t p) (l .loop .g) (l .loop .inv .0) (within t u) (take (length (a .args .members .now)) (s .chosen))
+          (sym (stage-onward t b) ∙ turn-done (searchOf t a) (ready t a) (resumed t b) (s .chosen) (S .sized) (s .k) (c .if2 .taken) (S .prefix))),
+      λ e. refl,
+    )
 
 -- ---- The members still to come, narrowed
 
@@ -247,7 +253,7 @@ search-narrow-members-requires t c κs =
     let S = stage t b in (
       a .pre .1 .0,
       (
-        record { laid = ready t a .laid; indexed = at t a .seeking .indexed; own = index-below (turn t p) (l .loop .g) (l .loop .inv .from-start) (within t u) },
+        record { laid = ready t a .laid; indexed = at t a .seeking .indexed; own = index-below (turn t p) (l .loop .g) (l .loop .inv .0 .from-start) (within t u) },
         others (searchOf t a) (ready t a) (a .args .k) (b .past-own .result .k) (at t a .inside) (λ j h e. omega (arith, S .forth, h .from-k)),
       ),
     )
@@ -334,7 +340,7 @@ lives-on t n =
     let p = spanned t l in
     let a = entry t p in
     over t n .narrower .keeps (seeker (searchOf t a)) (at t a .lives)
-    (agrees-own (turn t p) (l .loop .g) (l .loop .inv .from-start) (within t u) (sym (u .fits2 .ensures) ∙ b .before .if1 .taken))
+    (agrees-own (turn t p) (l .loop .g) (l .loop .inv .0 .from-start) (within t u) (sym (u .fits2 .ensures) ∙ b .before .if1 .taken))
 
 search-search-requires : (t : ℕ) → search-lts.Need-search-requires (callees t) (search-at t) search′.Post search-Inv-loop search-μ-loop
 search-search-requires t c κs =
@@ -355,13 +361,13 @@ search-search-requires t c κs =
       ),
     )
 
--- what the deeper search answers is what there is to find onward
-deeper : (t : ℕ) (c : search-lts.After-search (callees t) (search-at t) search′.Post search-Inv-loop search-μ-loop) →
+-- what the deeper search answers is what there is to find onward, unless it gave up
+deeper : (t : ℕ) (c : search-lts.After-search (callees t) (search-at t) search′.Post search-Inv-loop search-μ-loop) → c .search .result .spent ≡ false →
     let b = chosen t (narrowing t (c .before)) in
     let l = looping t (tried t b) in
     let a = asked t b in
     onward (searchOf t a) (a .args .k) (a .args .chosen) (l .loop .g) ≡ answer (c .search .result .ok) (take (length (a .args .members .now)) (c .search .result .tuples))
-deeper t c = sym (c .search .ensures ∙ narrowed-onward t (narrowing t (c .before)))
+deeper t c done = sym (c .search .ensures .0 done ∙ narrowed-onward t (narrowing t (c .before)))
 
 search-returns-2 : (t : ℕ) → search-lts.Need-returns-2 (callees t) (search-at t) search′.Post search-Inv-loop search-μ-loop
 search-returns-2 t c =
@@ -371,7 +377,10 @@ search-returns-2 t c =
     let a = entry t p in
     let ts = take (length (a .args .members .now)) (c .before .search .result .tuples) in
     let e = ap (λ (b : Bool). answer b ts) (c .if5 .taken) in
-    e ∙ sym (come-found (turn t p) (l .loop .g) (l .loop .inv) (within t u) ts (deeper t (c .before) ∙ e))
+    (λ done. e ∙ sym (come-found (turn t p) (l .loop .g) (l .loop .inv .0) (within t u) ts (deeper t (c .before) done ∙ e)), c .before .search .ensures .1)
+
+search-returns-3 : (t : ℕ) → search-lts.Need-returns-3 (callees t) (search-at t) search′.Post search-Inv-loop search-μ-loop
+search-returns-3 t c = (λ done. absurd (not-both (c .if6 .taken) done), c .before .before .search .ensures .1)
 
 -- the tuple tried leads to nothing
 nowhere : (t : ℕ) (c : search-lts.Joined1 (callees t) (search-at t) search′.Post search-Inv-loop search-μ-loop) →
@@ -386,33 +395,48 @@ nowhere t c =
     ⊎-elim
     (λ w.
     let n : Narrowing t = record { before = record { before = record { before = record { before = record { before = record { before = record { before = u; if1 = w .0 }; past-own = w .1 }; tuples = w .2 }; if2 = w .3 }; fewer = w .4 }; fewer2 = w .5 }; narrow-members = w .6 } in
-    deeper t (record { before = record { before = record { before = record { before = n; if3 = w .7 }; fewer3 = w .8 }; if4 = w .9 }; search = w .10 })
+    deeper t (record { before = record { before = record { before = record { before = n; if3 = w .7 }; fewer3 = w .8 }; if4 = w .9 }; search = w .10 }) (w .12 .left)
     ∙ ap (λ (b : Bool). answer b (take (length (a .args .members .now)) (w .10 .result .tuples))) (w .11 .left))
     (⊎-elim
     (λ w.
     let n : Narrowing t = record { before = record { before = record { before = record { before = record { before = record { before = record { before = u; if1 = w .0 }; past-own = w .1 }; tuples = w .2 }; if2 = w .3 }; fewer = w .4 }; fewer2 = w .5 }; narrow-members = w .6 } in
     sym (narrowed-onward t n)
     ∙ sought-bare (over t n) (w .1 .result .k) (w .1 .result .chosen) (n .narrow-members .ensures .1 .1 (w .7 .left)))
-    (λ w. come-clash (turn t p) (l .loop .g) (l .loop .inv .from-start) (within t u) (sym (u .fits2 .ensures) ∙ w .left)))
+    (λ w. come-clash (turn t p) (l .loop .g) (l .loop .inv .0 .from-start) (within t u) (sym (u .fits2 .ensures) ∙ w .left)))
     (c .if1 .came)
+
+-- ---- After a failure
+
+search-gives-up-requires : (t : ℕ) → search-lts.Need-gives-up-requires (callees t) (search-at t) search′.Post search-Inv-loop search-μ-loop
+search-gives-up-requires t c κs = search needs
+
+search-returns-4 : (t : ℕ) → search-lts.Need-returns-4 (callees t) (search-at t) search′.Post search-Inv-loop search-μ-loop
+search-returns-4 t c = (λ done. absurd (not-both refl done), λ e. absurd (not-both (c .if7 .taken) (c .before .gives-up .ensures e)))
+
+search-add-failures : (t : ℕ) → search-lts.Need-add-failures (callees t) (search-at t) search′.Post search-Inv-loop search-μ-loop
+search-add-failures t c =
+    let u = c .before .before .before in
+    let l = looping t u in
+    let p = spanned t l in
+    omega (arith, l .loop .inv .1, within t u, walk-asks (turn t p) (l .loop .g) (come-from (turn t p) (l .loop .g) (l .loop .inv .0) .1) (omega (arith, within t u)) .2)
 
 -- ---- The next live id
 
 search-add-next : (t : ℕ) → search-lts.Need-add-next (callees t) (search-at t) search′.Post search-Inv-loop search-μ-loop
 search-add-next t c =
-    let l = looping t (c .before .before) in
+    let l = looping t (c .before .before .before .before) in
     let p = spanned t l in
-    omega (arith, walk-asks (turn t p) (l .loop .g) (come-from (turn t p) (l .loop .g) (l .loop .inv) .1) (omega (arith, within t (c .before .before))) .2)
+    omega (arith, walk-asks (turn t p) (l .loop .g) (come-from (turn t p) (l .loop .g) (l .loop .inv .0) .1) (omega (arith, within t (c .before .before .before .before))) .2)
 
 search-next-requires-2 : (t : ℕ) → search-lts.Need-next-requires-2 (callees t) (search-at t) search′.Post search-Inv-loop search-μ-loop
 search-next-requires-2 t c κs =
-    let l = looping t (c .before .before) in
+    let l = looping t (c .before .before .before .before) in
     let p = spanned t l in
-    walk-asks (turn t p) (l .loop .g + 1) (omega (arith, come-from (turn t p) (l .loop .g) (l .loop .inv) .1)) (omega (arith, within t (c .before .before)))
+    walk-asks (turn t p) (l .loop .g + 1) (omega (arith, come-from (turn t p) (l .loop .g) (l .loop .inv .0) .1)) (omega (arith, within t (c .before .before .before .before)))
 
 search-loop-less : (t : ℕ) → search-lts.Need-loop-less (callees t) (search-at t) search′.Post search-Inv-loop search-μ-loop
 search-loop-less t c =
-    let u = c .before .before .before in
+    let u = c .before .before .before .before .before in
     let l = looping t u in
     let p = spanned t l in
     let f = nextLive-first (entry t p .args .words .now) (l .loop .g + 1) (p .span-of .result .end) (omega (arith, within t u)) in
@@ -420,15 +444,18 @@ search-loop-less t c =
 
 search-loop-again : (t : ℕ) → search-lts.Need-loop-again (callees t) (search-at t) search′.Post search-Inv-loop search-μ-loop
 search-loop-again t c =
-    let u = c .before .before .before in
+    let u = c .before .before .before .before .before in
     let l = looping t u in
     let p = spanned t l in
     let a = entry t p in
-    subst (WalkAt (searchOf t a) (a .args .k) (a .args .resumes) (a .args .chosen)) (sym (c .next2 .ensures))
-    (come-next (turn t p) (l .loop .g) (l .loop .inv) (within t u) (nowhere t (c .before .before)))
+    let f = nextLive-first (a .args .words .now) (l .loop .g + 1) (p .span-of .result .end) (omega (arith, within t u)) in (
+      subst (WalkAt (searchOf t a) (a .args .k) (a .args .resumes) (a .args .chosen)) (sym (c .next2 .ensures))
+          (come-next (turn t p) (l .loop .g) (l .loop .inv .0) (within t u) (nowhere t (c .before .before .before .before))),
+      omega (arith, l .loop .inv .1, f .from-i, c .next2 .ensures),
+    )
 
-search-returns-3 : (t : ℕ) → search-lts.Need-returns-3 (callees t) (search-at t) search′.Post search-Inv-loop search-μ-loop
-search-returns-3 t c = sym (come-none (turn t (spanned t (c .before))) (c .before .loop .g) (c .before .loop .inv) (c .loop-test .left))
+search-returns-5 : (t : ℕ) → search-lts.Need-returns-5 (callees t) (search-at t) search′.Post search-Inv-loop search-μ-loop
+search-returns-5 t c = (λ done. sym (come-none (turn t (spanned t (c .before))) (c .before .loop .g) (c .before .loop .inv .0) (c .loop-test .left)), λ e. refl)
 
 pub +search-spec : {M : Type 1} → statement M
 +search-spec =
@@ -451,8 +478,12 @@ pub +search-spec : {M : Type 1} → statement M
     (search-narrow-members-requires t)
     (search-search-requires t)
     (search-returns-2 t)
+    (search-returns-3 t)
+    (search-gives-up-requires t)
+    (search-returns-4 t)
+    (search-add-failures t)
     (search-add-next t)
     (search-next-requires-2 t)
     (search-loop-less t)
     (search-loop-again t)
-    (search-returns-3 t)
+    (search-returns-5 t)
