@@ -5,7 +5,7 @@ from typing import Iterator
 import book
 from book import Reply, Request
 
-BUCKETS = 17  # codes with one remainder by this number look alike to the library's value index
+BUCKETS = 17  # codes with one remainder by this number are alike to an index of so many buckets
 
 SHEETS = [(15, 15), (16, 31), (32, 63), (64, 64)]
 COMBINATIONS = [(7, 15), (16, 63), (64, 255), (256, 256)]
