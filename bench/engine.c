@@ -1,6 +1,7 @@
-/* The filter in plain C, by the same algorithm as the proved engine: an index of values by digits, sweeps, a queue of pairs of
- * combination and member; in a visit twins, the seeking tuple tried first, members spread to and narrowed, each search resumed at the
- * fallen support. Tuples are known by id, so that candidates of all relations are one array of words. */
+/* The filter in plain C, by the algorithm of the proved engine but for its limited search and its sweeps' early stop: an index of values
+ * by digits, sweeps, a queue of pairs of combination and member; in a visit twins, the seeking tuple tried first, members spread to and
+ * narrowed, each search resumed at the fallen support. Tuples are known by id, so that candidates of all relations are one array of
+ * words. */
 #include "leaves.h"
 #include <string.h>
 
