@@ -13,7 +13,7 @@ use Rattle.model.specs.Agreement.{agree}
 use Rattle.model.specs.Combination.{Combination}
 use Rattle.model.specs.Support.{candidates, isSupport, firstAmong, supportFrom, completion}
 use Rattle.model.proofs.Bools.{iff-eq}
-use Rattle.model.proofs.Lists.{all-at, all-intro, pairwise-at, select-cong}
+use Rattle.model.proofs.Lists.{all-at, all-intro, pairwise-at, select-cong, Picks, choices-picks}
 use Rattle.model.proofs.Agreement.{agree-sym}
 use Rattle.model.proofs.Support.{isSupport-intro, isSupport-self, isSupport-live, isSupport-agree, isSupport-mono}
 
@@ -66,12 +66,25 @@ pub record Enough (N : Network) (c : Combination) (S T : TupleSet) : Type 0 wher
   pub inside : Inside T S
   pub keeps : (t : List ℕ) → List·Memᴰ t (candidates N c) → pairwise (agree N) t ≡ true → all (has S) t ≡ true → all (has T) t ≡ true
 
-pub supportFrom-enough : (N : Network) (c : Combination) (S T : TupleSet) → Enough N c S T → (g : ℕ) (low : List ℕ) → supportFrom N T c g low ≡ supportFrom N S c g low
-unfolding supportFrom firstAmong
-supportFrom-enough N c S T W g low =
-    ap (λ (us : List (List ℕ)). head? (select (λ (is : List ℕ). not (earlier is low)) (map (map (indexOf N)) us)))
-    (select-cong (isSupport N T g) (isSupport N S g) (candidates N c)
-    (λ t m.
-    iff-eq (isSupport N T g t) (isSupport N S g t)
-    (isSupport-mono N T S (W .inside) g t)
-    (λ e. let a = isSupport-agree N S g t e in isSupport-intro N T g t (isSupport-self N S g t e) (W .keeps t m a (isSupport-live N S g t e)) a)))
+module _ (N : Network) (c : Combination) (S T : TupleSet) (W : Enough N c S T) (g : ℕ) (low : List ℕ) where
+  firstAmong-enough : (ts : List (List ℕ)) → ((t : List ℕ) → List·Memᴰ t ts → List·Memᴰ t (candidates N c)) → firstAmong N T g low ts ≡ firstAmong N S g low ts
+  unfolding firstAmong
+  firstAmong-enough ts within =
+      ap (λ (us : List (List ℕ)). head? (select (λ (is : List ℕ). not (earlier is low)) (map (map (indexOf N)) us)))
+      (select-cong (isSupport N T g) (isSupport N S g) ts
+      (λ t m.
+      iff-eq (isSupport N T g t) (isSupport N S g t)
+      (isSupport-mono N T S (W .inside) g t)
+      (λ e. let a = isSupport-agree N S g t e in isSupport-intro N T g t (isSupport-self N S g t e) (W .keeps t (within t m) a (isSupport-live N S g t e)) a)))
+
+  -- the same is found with tuples chosen
+  pub completion-enough : (ch : List ℕ) (xss : List (List ℕ)) → ((t : List ℕ) → Picks xss t → List·Memᴰ (ch ++ t) (candidates N c)) → completion N T g low ch xss ≡ completion N S g low ch xss
+  unfolding completion
+  completion-enough ch xss within =
+      firstAmong-enough (map (λ (t : List ℕ). ch ++ t) (choices xss))
+      (λ u k. let i = Memᴰ·of-map (λ (t : List ℕ). ch ++ t) (choices xss) k in subst (λ (t : List ℕ). List·Memᴰ t (candidates N c)) (i .2) (within (i .0) (choices-picks xss (i .1))))
+
+  -- and with none
+  pub supportFrom-enough : supportFrom N T c g low ≡ supportFrom N S c g low
+  unfolding supportFrom
+  supportFrom-enough = firstAmong-enough (candidates N c) (λ t m. m)

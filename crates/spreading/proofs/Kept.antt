@@ -22,7 +22,7 @@ use Rattle.model.proofs.Agreement.{agree-sym}
 use Rattle.model.proofs.Support.{candidates-picks, candidates-length, candidates-at, candidates-index, candidates-id, picks-same}
 use Rattle.layout.specs.Setting.{Lists, networkIn, SoundLists}
 use Rattle.layout.proofs.SoundStarts.{relations-few}
-use Rattle.spreading.specs.Spread.{Spread, Members, AllLive, KeepsSupports}
+use Rattle.spreading.specs.Spread.{Spread, Members, AllLive, Held, KeepsSupports}
 
 -- the member at a place is one of at most 64 relations
 pub member-below : {L : Lists} → SoundLists L → {c : Combination} → Members (networkIn L) c → (j : ℕ) → j < length c → getD c j 0 < 64
@@ -32,15 +32,15 @@ member-below {L} laid {c} M j h =
     omega (arith, below, relations-few (laid .framed))
 
 module _ (N : Network) (c : Combination) where
-  module _ (place : ℕ) where
-    pub keeps-none : (words : List ℕ) → KeepsSupports N c place words words
-    keeps-none words = record { inside = λ g l. l; own = λ x h. refl; keeps = λ t m a l. l }
+  module _ (place from : ℕ) where
+    pub keeps-none : (words : List ℕ) → KeepsSupports N c place from words words
+    keeps-none words = record { inside = λ g l. l; held = λ j x h k i. refl; keeps = λ t m a l. l }
 
-    pub keeps-on : (a b d : List ℕ) → KeepsSupports N c place a b → KeepsSupports N c place b d → KeepsSupports N c place a d
+    pub keeps-on : (a b d : List ℕ) → KeepsSupports N c place from a b → KeepsSupports N c place from b d → KeepsSupports N c place from a d
     keeps-on a b d f s =
         record {
           inside = λ g l. f .inside g (s .inside g l);
-          own = λ x h. s .own x h ∙ f .own x h;
+          held = λ j x h k i. s .held j x h k i ∙ f .held j x h k i;
           keeps = λ t m p l. s .keeps t m p (f .keeps t m p l);
         }
 
@@ -96,6 +96,11 @@ module _ (N : Network) (c : Combination) where
               let q = mem-getD t 0 l in
               subst (λ (x : ℕ). x < total N) (q .2) (ids-below N (getD c (q .0) 0) (candidates-at N c m (q .0) (omega (arith, q .1, candidates-length N c m)) .1))
 
-    -- another member than that at `place` is narrowed
-    pub keeps-step : (place : ℕ) → place < length c → (j ≡ place → ⊥) → KeepsSupports N c place before after
-    keeps-step place h d = record { inside = S .inside; own = λ x k. S .outside (firstId N (getD c place 0) + x) (ids-apart N (getD c place 0) x (getD c j 0) k (differ j place hj h d)); keeps = λ t m a l g k. stays t m a l g k (ℕ-discrete (getD c j 0) (relationOf N g)) }
+    -- a member is narrowed that is not held
+    pub keeps-step : (place from : ℕ) → (Held place from j → ⊥) → KeepsSupports N c place from before after
+    keeps-step place from free =
+        record {
+          inside = S .inside;
+          held = λ i x h k l. S .outside (firstId N (getD c i 0) + x) (ids-apart N (getD c i 0) x (getD c j 0) l (differ j i hj h (λ e. free (subst (Held place from) (sym e) k))));
+          keeps = λ t m a l g k. stays t m a l g k (ℕ-discrete (getD c j 0) (relationOf N g));
+        }

@@ -13,6 +13,7 @@ use Rattle.model.specs.Combination.{Combination}
 use Rattle.model.specs.Support.{candidates}
 use Rattle.model.specs.LiveWords.{isLive}
 use Rattle.model.specs.Fault.{properMembers}
+use Rattle.layout.specs.Starts.{SoundStarts}
 use Rattle.layout.specs.Setting.{Lists, networkIn}
 use Rattle.narrowing.specs.Narrows.{Long, Dead, Bare, Searchable}
 
@@ -53,6 +54,10 @@ pub record Members (N : Network) (members : Combination) : Type 0 where
 abbrev pub Numbers : List ℕ → Type 0
 Numbers members = (length members ≤ maxMembers) × ((j : ℕ) → j < length members → getD members j 0 < maxRelations)
 
+-- .. whose live tuples can be counted
+abbrev pub Counted : List ℕ → List ℕ → List ℕ → Type 0
+Counted starts words members = Long words × (SoundStarts starts × Numbers members)
+
 -- .. in the combination of pair p, one of m members
 pub record PairNumbers (members : List ℕ) (m p : ℕ) : Type 0 where
   pub positive : 0 < m
@@ -68,13 +73,17 @@ Spreadable L index members place = (Searchable L index × Members (networkIn L) 
 abbrev pub AllLive : List ℕ → List ℕ → Type 0
 AllLive words t = (g : ℕ) → List·Memᴰ g t → isLive words g ≡ true
 
--- No id is raised, those of the member at `place` stay, and so do live tuples of all members of which every two agree.
-pub record KeepsSupports (N : Network) (members : Combination) (place : ℕ) (before after : List ℕ) : Type 0 where
+-- the member at place j is not narrowed: it comes before the first that may be, or is the one at `place`
+abbrev pub Held : ℕ → ℕ → ℕ → Type 0
+Held place from j = (j < from) ⊎ (j ≡ place)
+
+-- No id is raised, those of the members that are held stay, and so do live tuples of all members of which every two agree.
+pub record KeepsSupports (N : Network) (members : Combination) (place from : ℕ) (before after : List ℕ) : Type 0 where
   pub inside : (g : ℕ) → isLive after g ≡ true → isLive before g ≡ true
-  pub own : (x : ℕ) → x < size N (getD members place 0) → isLive after (firstId N (getD members place 0) + x) ≡ isLive before (firstId N (getD members place 0) + x)
+  pub held : (j x : ℕ) → j < length members → Held place from j → x < size N (getD members j 0) → isLive after (firstId N (getD members j 0) + x) ≡ isLive before (firstId N (getD members j 0) + x)
   pub keeps : (t : List ℕ) → List·Memᴰ t (candidates N members) → pairwise (agree N) t ≡ true → AllLive before t → AllLive after t
 
--- .. false only where another member has no live tuple left
-abbrev pub SpreadsMembers : Network → Combination → ℕ → List ℕ → List ℕ → Bool → Type 0
-SpreadsMembers N members place before after found =
-    Long after × (KeepsSupports N members place before after × (found ≡ false → Bare N members place 0 after))
+-- .. false only where one of the others has no live tuple left
+abbrev pub SpreadsMembers : Network → Combination → ℕ → ℕ → List ℕ → List ℕ → Bool → Type 0
+SpreadsMembers N members place from before after found =
+    Long after × (KeepsSupports N members place from before after × (found ≡ false → Bare N members place from after))

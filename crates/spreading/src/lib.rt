@@ -102,7 +102,8 @@ pub fn spread(
     next(words, from, to) < to
 }
 
-// Member j narrowed through member i, if these are two places and j is not the seeking tuple's. False where it has no live tuple left.
+// Member j narrowed through member i, if these are two places, and j is one from `from` on and not the seeking tuple's. False where it has
+// no live tuple left.
 fn spread_step(
     variables: &[u16],
     values: &[Value],
@@ -111,12 +112,13 @@ fn spread_step(
     words: &mut Words,
     members: &[u16],
     place: usize,
+    from: usize,
     i: usize,
     j: usize,
     limit: u16,
 ) -> bool
     requires { ⌜ Long (now words) × Spreadable (lists now variables values starts) (now index) (now members) place ⌝ }
-    ensures { λ b. ⌜ SpreadsMembers (networkIn (lists entry variables values starts)) (entry members) place (entry words) (exit words) b ⌝ }
+    ensures { λ b. ⌜ SpreadsMembers (networkIn (lists entry variables values starts)) (entry members) place from (entry words) (exit words) b ⌝ }
 {
     if members.len() <= i {
         return true;
@@ -125,6 +127,9 @@ fn spread_step(
         return true;
     }
     if i == j {
+        return true;
+    }
+    if j < from {
         return true;
     }
     if j == place {
@@ -142,8 +147,8 @@ fn spread_step(
     )
 }
 
-// Members narrowed through others, step by step. Four bits of `steps` are one: the place between, and four times the place that is narrowed.
-// False where a member has no live tuple left.
+// Members from `from` on, but the one at `place`, narrowed through others, step by step. Four bits of `steps` are one: the place between, and
+// four times the place that is narrowed. False where a member has no live tuple left.
 pub fn spread_members(
     variables: &[u16],
     values: &[Value],
@@ -152,11 +157,12 @@ pub fn spread_members(
     words: &mut Words,
     members: &[u16],
     place: usize,
+    from: usize,
     steps: u64,
     limit: u16,
 ) -> bool
     requires { ⌜ Long (now words) × Spreadable (lists now variables values starts) (now index) (now members) place ⌝ }
-    ensures { λ b. ⌜ SpreadsMembers (networkIn (lists entry variables values starts)) (entry members) place (entry words) (exit words) b ⌝ }
+    ensures { λ b. ⌜ SpreadsMembers (networkIn (lists entry variables values starts)) (entry members) place from (entry words) (exit words) b ⌝ }
 {
     let mut left = steps;
     while left != 0 {
@@ -170,6 +176,7 @@ pub fn spread_members(
             words,
             members,
             place,
+            from,
             i,
             j,
             limit,

@@ -1,8 +1,15 @@
-// Which members are narrowed through which, before a search: those that share no variable with the seeking tuple's relation, the nearest
-// first. Whatever the steps are, no support is lost.
+// Which members are narrowed through which. Before a search: those that share no variable with the seeking tuple's relation, the nearest
+// first. In a hard one: those that have many live tuples, through those that have few. Whatever the steps are, no support is lost.
 ghost use Prim.Native.Nat.{_<_};
 ghost use lib.ListN.{length};
-ghost use Rattle.spreading.specs.Spread.{Numbers, PairNumbers};
+ghost use Rattle.model.specs.Limits.{maxRelations};
+ghost use Rattle.layout.specs.Starts.{SoundStarts};
+ghost use Rattle.narrowing.specs.Narrows.{Long};
+ghost use Rattle.spreading.specs.Spread.{Numbers, PairNumbers, Counted};
+use layout::Starts;
+use layout::tuple_start;
+use live::Words;
+use live::count;
 use value_index::Index;
 use value_index::scope_bits;
 
@@ -89,4 +96,69 @@ pub fn steps_of_pair(index: &Index, members: &[u16], m: usize, p: usize) -> u64
     let base = p / m * m;
     let end = base + m;
     steps_for(index, &members[base..end], p % m)
+}
+
+// How many live tuples relation r has.
+fn live_count(starts: &Starts, words: &Words, r: u16) -> u16
+    requires { ⌜ Long (now words) × (SoundStarts (now starts) × (r < maxRelations)) ⌝ }
+{
+    count(words, tuple_start(starts, r), tuple_start(starts, r + 1))
+}
+
+// Whether relation r has not half as many live tuples as relation s, with which it shares a variable.
+fn is_narrower(index: &Index, starts: &Starts, words: &Words, r: u16, s: u16) -> bool
+    requires { ⌜ Long (now words) × (SoundStarts (now starts) × ((r < maxRelations) × (s < maxRelations))) ⌝ }
+{
+    if scope_bits(index, r) & scope_bits(index, s) == 0 {
+        return false;
+    }
+    live_count(starts, words, r) < live_count(starts, words, s) / 2
+}
+
+// Before these steps, those that narrow member j through each other one from `from` on, but the one at `place`, that is narrower.
+fn steps_through(
+    index: &Index,
+    starts: &Starts,
+    words: &Words,
+    members: &[u16],
+    place: usize,
+    from: usize,
+    j: usize,
+    steps: u64,
+) -> u64
+    requires { ⌜ Counted (now starts) (now words) (now members) × (j < length (now members)) ⌝ }
+{
+    let mut steps = steps;
+    let mut i = from;
+    while i < members.len() {
+        if i != place {
+            if is_narrower(index, starts, words, members[i], members[j]) {
+                steps = steps % 1048576 * 16 + (4 * j + i) as u64;
+            }
+        }
+        i += 1;
+    }
+    steps
+}
+
+// The steps for a hard search at the turn of the member at `from`, whose seeking tuple is one of the member at `place`.
+pub fn steps_between(
+    index: &Index,
+    starts: &Starts,
+    words: &Words,
+    members: &[u16],
+    place: usize,
+    from: usize,
+) -> u64
+    requires { ⌜ Counted (now starts) (now words) (now members) ⌝ }
+{
+    let mut steps: u64 = 0;
+    let mut j = from;
+    while j < members.len() {
+        if j != place {
+            steps = steps_through(index, starts, words, members, place, from, j, steps);
+        }
+        j += 1;
+    }
+    steps
 }

@@ -2,7 +2,7 @@
 -- From the definitions of `chosenIds` and `fits`, and the laws of lists and of ids.
 use mathlib.Core.Path.{_≡_, refl, sym, _∙_, ap, ap₂}
 use mathlib.Core.Bool.{Bool, true, false}
-use mathlib.Core.List.{List, [], _∷_, _++_, map, map-append, List·Memᴰ, Memᴰ·map}
+use mathlib.Core.List.{List, [], _∷_, _++_, map, map-append, List·Memᴰ, Memᴰ·map, Memᴰ·of-map}
 use Prim.Native.Nat.{ℕ, zero, suc, _+_, _≤_, _<_}
 use native.Mathlib.Nat.{zero-add}
 use native.Mathlib.Numerals.{add-one}
@@ -14,7 +14,7 @@ use Rattle.model.specs.Network.{Network, size, firstId, idsOf, indexOf}
 use Rattle.model.specs.Agreement.{agree}
 use Rattle.model.specs.Combination.{Combination}
 use Rattle.model.proofs.Bools.{and-intro, not-both}
-use Rattle.model.proofs.Lists.{all-at, all-append, mem-from, from-append, map-from-same, Picks, done, pick, picks-append}
+use Rattle.model.proofs.Lists.{all-at, all-append, from-mem, mem-from, from-append, map-from-same, Picks, done, pick, picks-append}
 use Rattle.model.proofs.Network.{indexOf-at}
 use Rattle.support.specs.Search.{idAt, chosenIds, fits}
 
@@ -33,6 +33,13 @@ module _ (N : Network) (c : Combination) (chosen : List ℕ) where
   pub chosen-mem : (k j : ℕ) → j < k → List·Memᴰ (idAt N c j (getD chosen j 0)) (chosenIds N c chosen k)
   unfolding chosenIds
   chosen-mem k j h = Memᴰ·map (λ (j : ℕ). idAt N c j (getD chosen j 0)) (mem-from 0 k j (omega arith) (omega arith))
+
+  -- each is some member's
+  pub chosen-of : (k : ℕ) {g : ℕ} → List·Memᴰ g (chosenIds N c chosen k) → (j : ℕ) × (j < k) × (idAt N c j (getD chosen j 0) ≡ g)
+  unfolding chosenIds
+  chosen-of k m =
+      let i = Memᴰ·of-map (λ (j : ℕ). idAt N c j (getD chosen j 0)) (from 0 k) m in
+      (i .0, omega (arith, from-mem 0 k (i .0) (i .1)), i .2)
 
   -- one tuple more passes
   pub chosen-all : (p : ℕ → Bool) (k : ℕ) → all p (chosenIds N c chosen k) ≡ true → p (idAt N c k (getD chosen k 0)) ≡ true → all p (chosenIds N c chosen (suc k)) ≡ true

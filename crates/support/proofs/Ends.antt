@@ -18,7 +18,7 @@ use Rattle.model.proofs.Support.{isSupport-intro, isSupport-self, isSupport-liv
 use Rattle.model.proofs.Search.{completion-start, completion-done, supportFrom-some}
 use Rattle.support.specs.Search.{Search, netOf, liveOf, idAt, seeker, SoundSearch, chosenIds, Prefix, sought}
 use Rattle.support.proofs.Chosen.{chosen-mem, chosen-indices}
-use Rattle.support.proofs.Walk.{member-within}
+use Rattle.support.proofs.Walking.{member-within}
 
 -- ---- No member has its tuple yet
 

@@ -1,7 +1,7 @@
 -- The laws of the search.
 pub mod Chosen
 pub mod Prefix
-pub mod Walk
+pub mod Walking
 pub mod Own
 pub mod Turn
 pub mod Ends

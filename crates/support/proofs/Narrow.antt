@@ -1,29 +1,34 @@
 -- Laws of a search whose words are narrowed, for a tuple y or member through member: what is known stays known, and what there is to find stays.
 -- From what a narrowing keeps, and the laws of narrowed sets, of ids and of live words.
-use mathlib.Core.Path.{_≡_, sym, _∙_, ap, subst}
+use mathlib.Core.Path.{_≡_, refl, sym, _∙_, ap, subst}
 use mathlib.Core.Bool.{Bool, true, false}
 use mathlib.Core.Option.{none}
-use mathlib.Core.List.{List, [], map, List·Memᴰ}
-use Prim.Native.Nat.{ℕ, _+_, _-_, _<_}
+use mathlib.Core.List.{List, [], _∷_, _++_, map, map-append, List·Memᴰ}
+use mathlib.Core.Logic.{inl, inr}
+use Prim.Native.Nat.{ℕ, suc, _+_, _-_, _≤_, _<_}
 use native.Mathlib.Omega.{arith}
-use lib.ListN.{length, getD, drop, length-map, length-drop}
-use lib.Seq.{getD-drop}
-use Rattle.model.specs.Network.{size, total, firstId, idsOf, relationOf}
+use lib.ListN.{length, getD, take, drop, length-map, length-drop, take-append-drop}
+use lib.Seq.{getD-drop, drop-cons}
+use Rattle.model.specs.Lists.{from}
+use Rattle.model.specs.Network.{Network, size, total, firstId, idsOf, relationOf}
 use Rattle.model.specs.Agreement.{agree}
 use Rattle.model.specs.TupleSet.{has}
 use Rattle.model.specs.LiveWords.{living, isLive}
-use Rattle.model.specs.Support.{supportFrom}
-use Rattle.model.proofs.Lists.{all-at, all-intro, from-mem, getD-map-in}
+use Rattle.model.specs.Combination.{Combination}
+use Rattle.model.specs.Support.{candidates, supportFrom}
+use Rattle.model.proofs.Lists.{all-at, all-intro, from-mem, mem-from, getD-map-in, Picks, pick, picks-append}
 use Rattle.model.proofs.TupleSet.{has-below}
 use Rattle.model.proofs.Network.{index-bounds, ids-below}
 use Rattle.model.proofs.LiveWords.{living-length, living-has}
+use Rattle.model.proofs.Support.{picks-candidates}
 use Rattle.model.proofs.Search.{completion-bare}
-use Rattle.model.proofs.Narrowing.{Narrower, narrow-all, completion-narrow, supportFrom-narrow, Enough, supportFrom-enough}
+use Rattle.model.proofs.Narrowing.{Narrower, narrow-all, completion-narrow, supportFrom-narrow, Enough, completion-enough, supportFrom-enough}
 use Rattle.layout.proofs.SoundStarts.{tuples-few}
 use Rattle.narrowing.specs.Narrows.{Later, Others, Narrowed, Bare}
-use Rattle.spreading.specs.Spread.{KeepsSupports}
-use Rattle.support.specs.Search.{Search, netOf, liveOf, seeker, SoundSearch, chosenIds, Prefix, sought}
-use Rattle.support.proofs.Walk.{members-apart, few-tuples, member-below}
+use Rattle.spreading.specs.Spread.{Held, KeepsSupports}
+use Rattle.support.specs.Search.{Search, netOf, liveOf, idAt, seeker, SoundSearch, chosenIds, Prefix, span, left, sought}
+use Rattle.support.proofs.Chosen.{chosen-of, chosen-picks}
+use Rattle.support.proofs.Walking.{members-apart, few-tuples, member-below, span-inside}
 use Rattle.support.proofs.Ends.{sought-first}
 
 -- the search on other words
@@ -158,8 +163,9 @@ root-narrowed Q words F l =
       lives = F .narrower .itself l;
     }
 
--- members narrowed through others
-module _ (Q : Search) (words after : List ℕ) (R : Root Q words) (long : length after ≡ 64) (K : KeepsSupports (netOf Q) (Q .members) (Q .place) words after) where
+-- ---- Members narrowed through others
+
+module _ (Q : Search) (words after : List ℕ) (from : ℕ) (long : length after ≡ 64) (K : KeepsSupports (netOf Q) (Q .members) (Q .place) from words after) where
   abbrev n : ℕ
   n = total (netOf Q)
 
@@ -178,26 +184,97 @@ module _ (Q : Search) (words after : List ℕ) (R : Root Q words) (long : length
             living-has n after g b ∙ K .keeps t m a (λ h i. let f = all-at (has (living n words)) t l i in sym (living-has n words h (live-below words h f)) ∙ f) g k);
       }
 
-  pub root-spread : Root Q after
-  root-spread =
-      let S = R .sound in
-      let b = live-below words (seeker Q) (R .lives) in
+  spread-sound : SoundSearch (onWords Q words) → SoundSearch (onWords Q after)
+  spread-sound S =
       record {
-        sound =
-            record {
-              laid = S .laid;
-              words = rw long (tuples-few (S .laid .framed));
-              members = S .members;
-              few = S .few;
-              place = S .place;
-              own = S .own;
-              low-own = S .low-own;
-              low-within = S .low-within;
-            };
+        laid = S .laid;
+        words = rw long (tuples-few (S .laid .framed));
+        members = S .members;
+        few = S .few;
+        place = S .place;
+        own = S .own;
+        low-own = S .low-own;
+        low-within = S .low-within;
+      }
+
+  -- a tuple of a member that is held lives still
+  spread-held : (j x : ℕ) → j < length (Q .members) → Held (Q .place) from j → x < size (netOf Q) (getD (Q .members) j 0) → has (living n words) (idAt (netOf Q) (Q .members) j x) ≡ true → has (living n after) (idAt (netOf Q) (Q .members) j x) ≡ true
+  spread-held j x h o l e =
+      let g = idAt (netOf Q) (Q .members) j x in
+      let b = live-below words g e in
+      living-has n after g b ∙ K .held j x h o l ∙ sym (living-has n words g b) ∙ e
+
+  pub root-spread : Root Q words → Root Q after
+  root-spread R =
+      let S = R .sound in
+      record {
+        sound = spread-sound S;
         sized = long;
         same = supportFrom-enough (netOf Q) (Q .members) (living n words) (living n after) spread-enough (seeker Q) (Q .low) ∙ R .same;
-        lives = living-has n after (seeker Q) b ∙ K .own (Q .own) (S .own) ∙ sym (living-has n words (seeker Q) b) ∙ R .lives;
+        lives = spread-held (Q .place) (Q .own) (S .place) (inr refl) (S .own) (R .lives);
       }
+
+-- .. at the turn of member k, from which on they are
+module _ (Q : Search) (after : List ℕ) (k : ℕ) (long : length after ≡ 64) (K : KeepsSupports (netOf Q) (Q .members) (Q .place) k (Q .words) after) (R : SoundSearch Q) (inside : k < length (Q .members)) (resumes : Bool) (chosen : List ℕ) (B : Prefix Q k resumes chosen) where
+  abbrev N : Network
+  N = netOf Q
+
+  abbrev c : Combination
+  c = Q .members
+
+  abbrev ids : List ℕ
+  ids = chosenIds N c chosen k
+
+  pub turn-sound : SoundSearch (onWords Q after)
+  turn-sound = spread-sound Q (Q .words) after k long K R
+
+  pub turn-lives : has (liveOf Q) (seeker Q) ≡ true → has (liveOf (onWords Q after)) (seeker Q) ≡ true
+  turn-lives = spread-held Q (Q .words) after k long K (Q .place) (Q .own) (R .place) (inr refl) (R .own)
+
+  pub turn-prefix : Prefix (onWords Q after) k resumes chosen
+  turn-prefix =
+      record {
+        depth = B .depth;
+        within = B .within;
+        own = B .own;
+        live =
+            all-intro (has (liveOf (onWords Q after))) ids
+            (λ g m.
+            let i = chosen-of N c chosen k m in
+            subst (λ (h : ℕ). has (liveOf (onWords Q after)) h ≡ true) (i .2)
+            (spread-held Q (Q .words) after k long K (i .0) (getD chosen (i .0) 0) (omega (arith, i .1)) (inl (i .1)) (B .within (i .0) (i .1))
+            (ap (has (liveOf Q)) (i .2) ∙ all-at (has (liveOf Q)) ids (B .live) m)));
+        pairs = B .pairs;
+        seeker = B .seeker;
+        at-low = B .at-low;
+        past-low = B .past-low;
+      }
+
+  -- the tuples chosen and one of each later member are a candidate
+  goes-on : (t : List ℕ) → Picks (map (idsOf N) (drop k c)) t → List·Memᴰ (ids ++ t) (candidates N c)
+  goes-on t p =
+      picks-candidates N c
+      (subst (λ (xss : List (List ℕ)). Picks xss (ids ++ t)) (sym (map-append (idsOf N) (take k c) (drop k c)) ∙ ap (map (idsOf N)) (take-append-drop k c))
+      (picks-append (chosen-picks N c chosen k (B .depth) (B .within)) p))
+
+  enough : Enough N c (liveOf Q) (liveOf (onWords Q after))
+  enough = spread-enough Q (Q .words) after k long K
+
+  pub turn-sought : sought (onWords Q after) k chosen ≡ sought Q k chosen
+  turn-sought = completion-enough N c (liveOf Q) (liveOf (onWords Q after)) enough (seeker Q) (Q .low) ids (map (idsOf N) (drop k c)) goes-on
+
+  pub turn-left : (g : ℕ) → span Q k resumes .start ≤ g → left (onWords Q after) k resumes chosen g ≡ left Q k resumes chosen g
+  turn-left g l = completion-enough N c (liveOf Q) (liveOf (onWords Q after)) enough (seeker Q) (Q .low) ids (from g (span Q k resumes .end - g) ∷ later) part
+    where
+      later : List (List ℕ)
+      later = map (idsOf N) (drop (suc k) c)
+
+      part : (t : List ℕ) → Picks (from g (span Q k resumes .end - g) ∷ later) t → List·Memᴰ (ids ++ t) (candidates N c)
+      part t (pick {x} m p) =
+          let i = span-inside Q k R inside resumes in
+          let b = from-mem g (span Q k resumes .end - g) x m in
+          let r = getD c k 0 in
+          goes-on t (rw (drop-cons c k 0 inside) (pick (mem-from (firstId N r) (size N r) x (omega (arith, i .from-first, l, b .0)) (omega (arith, i .end-is, b .1))) p))
 
 -- what there is to find with nothing chosen yet is the first support
 pub root-all : (Q : Search) (words : List ℕ) → Root Q words → (chosen : List ℕ) → sought (onWords Q words) 0 chosen ≡ supportFrom (netOf Q) (liveOf Q) (Q .members) (seeker Q) (Q .low)

@@ -24,7 +24,7 @@ use Rattle.support.specs.declared.Stage.{Stage}
 use Rattle.support.specs.Search.{Search, netOf, liveOf, seeker, SoundSearch, chosenIds, Prefix, pastOwn, sought}
 use Rattle.support.proofs.Chosen.{chosen-picks}
 use Rattle.support.proofs.Prefix.{ids-more, prefix-next}
-use Rattle.support.proofs.Walk.{rises}
+use Rattle.support.proofs.Walking.{rises}
 
 or-else-none : (o : Option (List ℕ)) → orElse o none ≡ o
 unfolding orElse
@@ -114,6 +114,13 @@ module _ (Q : Search) (R : SoundSearch Q) (resumes : Bool) (chosen : List ℕ) (
       ∙ sym (rw (add-one, ids-more R B inside sized low-sized (Q .own)) refl)))
 
 -- ---- The next stage
+
+pub past-forth : (place own k : ℕ) (chosen : List ℕ) → k ≤ pastOwn place own k chosen .k
+past-forth place own k chosen = go (eqb k place) refl
+  where
+    go : (b : Bool) → eqb k place ≡ b → k ≤ pastOwn place own k chosen .k
+    go true q = rw q (omega arith)
+    go false q = rw q (omega arith)
 
 -- Stage s follows from the tuples chosen for the members before k: it is another member's turn, or all have their tuples.
 pub record NextStage (Q : Search) (resumes : Bool) (k : ℕ) (chosen : List ℕ) (s : Stage) : Type 0 where

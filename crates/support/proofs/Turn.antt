@@ -21,28 +21,12 @@ use Rattle.model.proofs.Agreement.{agree-sym}
 use Rattle.model.proofs.LiveWords.{living-has, nextLive-first}
 use Rattle.model.proofs.Search.{completion-clash, reach, reach-none, reach-step, reach-live}
 use Rattle.layout.specs.Starts.{tupleStart}
-use Rattle.support.specs.Search.{Search, netOf, liveOf, idAt, seeker, SoundSearch, chosenIds, Prefix, fits, Trial, sought}
+use Rattle.support.specs.Search.{Search, netOf, liveOf, idAt, seeker, SoundSearch, chosenIds, Prefix, fits, Trial, onward, span, left, WalkAt, sought}
 use Rattle.support.proofs.Chosen.{fits-each, fits-none}
 use Rattle.support.proofs.Prefix.{ids-more, prefix-next}
-use Rattle.support.proofs.Walk.{members-apart, few-tuples, member-below, member-start, member-within, span, span-inside, walk-whole}
+use Rattle.support.proofs.Walking.{members-apart, few-tuples, member-below, member-start, member-within, span-inside, walk-whole}
 
 -- ---- The walk from live tuple to live tuple
-
--- what there is to find once the tuples before k are chosen, and x
-abbrev pub onward : Search → ℕ → List ℕ → ℕ → Option (List ℕ)
-onward Q k chosen x = completion (netOf Q) (liveOf Q) (seeker Q) (Q .low) (chosenIds (netOf Q) (Q .members) chosen k ++ (x ∷ [])) (map (idsOf (netOf Q)) (drop (suc k) (Q .members)))
-
--- what is left to find from id g on
-abbrev pub left : Search → ℕ → Bool → List ℕ → ℕ → Option (List ℕ)
-left Q k resumes chosen g =
-    reach (netOf Q) (liveOf Q) (seeker Q) (Q .low) (chosenIds (netOf Q) (Q .members) chosen k) (map (idsOf (netOf Q)) (drop (suc k) (Q .members))) g (span Q k resumes .end)
-
--- The walk has come to id g, a live one unless it is at its end: what is left to find is all there is to find.
-pub record WalkAt (Q : Search) (k : ℕ) (resumes : Bool) (chosen : List ℕ) (g : ℕ) : Type 0 where
-  pub from-start : span Q k resumes .start ≤ g
-  pub to-end : g ≤ span Q k resumes .end
-  pub lives : g < span Q k resumes .end → isLive (Q .words) g ≡ true
-  pub rest : left Q k resumes chosen g ≡ sought Q k chosen
 
 -- what `span_of` asks
 pub span-asks : (Q : Search) (k : ℕ) (R : SoundSearch Q) → k < length (Q .members) → (getD (Q .members) k 0 < 64) × (tupleStart (Q .lists .starts) (getD (Q .members) k 0) + getD (Q .low) k 0 < 65535)
@@ -94,7 +78,7 @@ module _ {Q : Search} {k : ℕ} {resumes : Bool} {chosen : List ℕ} {first begi
   walk-forward = let i = span-inside Q k R inside resumes in omega (arith, i .forward)
 
   -- the next live id from i on
-  come-live : (i : ℕ) → span Q k resumes .start ≤ i → i ≤ stop → left Q k resumes chosen i ≡ sought Q k chosen → WalkAt Q k resumes chosen (nextLive (Q .words) i end)
+  pub come-live : (i : ℕ) → span Q k resumes .start ≤ i → i ≤ stop → left Q k resumes chosen i ≡ sought Q k chosen → WalkAt Q k resumes chosen (nextLive (Q .words) i end)
   come-live i l h e =
       let f = nextLive-first (Q .words) i stop h in
       rw (T .is-end)
@@ -140,22 +124,19 @@ module _ {Q : Search} {k : ℕ} {resumes : Bool} {chosen : List ℕ} {first begi
     pub come-lives : isLive (Q .words) g ≡ true
     come-lives = C .lives before-stop
 
-  module _ (g : ℕ) (from : span Q k resumes .start ≤ g) (h : g < end) where
-    in-walk : g < stop
+  module _ (x : ℕ) (from : span Q k resumes .start ≤ first + x) (h : first + x < end) where
+    in-walk : first + x < stop
     in-walk = omega arith
 
     -- ---- The tuple tried
 
-    abbrev index : ℕ
-    index = g - first
+    pub index-below : x < size (netOf Q) (getD (Q .members) k 0)
+    index-below = let i = span-inside Q k R inside resumes in let f = first-id in omega (arith, i .end-is)
 
-    pub index-below : index < size (netOf Q) (getD (Q .members) k 0)
-    index-below = let i = span-inside Q k R inside resumes in let f = first-id in omega (arith, i .from-first, i .end-is, from)
+    id-back : idAt (netOf Q) (Q .members) k x ≡ first + x
+    id-back = ap (λ (n : ℕ). n + x) (sym first-id)
 
-    id-back : idAt (netOf Q) (Q .members) k index ≡ g
-    id-back = let i = span-inside Q k R inside resumes in let f = first-id in omega (arith, i .from-first, from)
-
-    pub trial : Trial (Q .lists) (Q .members) (Q .place) (Q .own) k chosen index
+    pub trial : Trial (Q .lists) (Q .members) (Q .place) (Q .own) k chosen x
     trial =
         record {
           laid = R .laid;
@@ -169,51 +150,51 @@ module _ {Q : Search} {k : ℕ} {resumes : Bool} {chosen : List ℕ} {first begi
         }
 
     -- it is another tuple than the seeking one
-    id-other : seeker Q ≡ g → ⊥
+    id-other : seeker Q ≡ first + x → ⊥
     id-other e =
         members-apart Q R k (Q .place) inside (R .place) (T .other)
-        (sym (relationOf-at (netOf Q) (getD (Q .members) k 0) index index-below)
+        (sym (relationOf-at (netOf Q) (getD (Q .members) k 0) x index-below)
         ∙ ap (relationOf (netOf Q)) (id-back ∙ sym e)
         ∙ relationOf-at (netOf Q) (getD (Q .members) (Q .place) 0) (Q .own) (R .own))
 
     -- where the search resumes, its index is not below the bound's
-    index-low : resumes ≡ true → getD (Q .low) k 0 ≤ index
+    index-low : resumes ≡ true → getD (Q .low) k 0 ≤ x
     index-low e =
-        let l : tupleStart (Q .lists .starts) (getD (Q .members) k 0) + getD (Q .low) k 0 ≤ g = rw e at from in
+        let l : tupleStart (Q .lists .starts) (getD (Q .members) k 0) + getD (Q .low) k 0 ≤ first + x = rw e at from in
         omega (arith, T .is-first)
 
     abbrev fit : Bool
-    fit = fits (netOf Q) (Q .members) (Q .place) (Q .own) k chosen index
+    fit = fits (netOf Q) (Q .members) (Q .place) (Q .own) k chosen x
 
-    pub come-clash : fit ≡ false → onward Q k chosen g ≡ none
+    pub come-clash : fit ≡ false → onward Q k chosen (first + x) ≡ none
     come-clash e =
-        completion-clash (netOf Q) (liveOf Q) (seeker Q) (Q .low) ids g later id-other
-        (ap (λ (y : ℕ). all (λ (z : ℕ). agree (netOf Q) z y) (seeker Q ∷ ids)) (sym id-back) ∙ fits-none (netOf Q) (Q .members) (Q .place) (Q .own) k chosen index e)
+        completion-clash (netOf Q) (liveOf Q) (seeker Q) (Q .low) ids (first + x) later id-other
+        (ap (λ (y : ℕ). all (λ (z : ℕ). agree (netOf Q) z y) (seeker Q ∷ ids)) (sym id-back) ∙ fits-none (netOf Q) (Q .members) (Q .place) (Q .own) k chosen x e)
 
     -- ---- The tuple chosen
 
     -- at the next member's turn, what there is to find is what is found onward
-    pub onward-more : sought Q (k + 1) (set chosen k index) ≡ onward Q k chosen g
+    pub onward-more : sought Q (k + 1) (set chosen k x) ≡ onward Q k chosen (first + x)
     onward-more =
-        rw (add-one, ids-more R B inside (T .sized) (T .low-sized) index)
+        rw (add-one, ids-more R B inside (T .sized) (T .low-sized) x)
         (ap (onward Q k chosen) id-back)
 
     -- it agrees with the seeking tuple and with each chosen before
-    agrees-fixed : fit ≡ true → (y : ℕ) → List·Memᴰ y (seeker Q ∷ ids) → agree (netOf Q) y (idAt (netOf Q) (Q .members) k index) ≡ true
+    agrees-fixed : fit ≡ true → (y : ℕ) → List·Memᴰ y (seeker Q ∷ ids) → agree (netOf Q) y (idAt (netOf Q) (Q .members) k x) ≡ true
     agrees-fixed e y m =
-        all-at (λ (y : ℕ). agree (netOf Q) y (idAt (netOf Q) (Q .members) k index)) (seeker Q ∷ ids) (fits-each (netOf Q) (Q .members) (Q .place) (Q .own) k chosen index e) m
+        all-at (λ (y : ℕ). agree (netOf Q) y (idAt (netOf Q) (Q .members) k x)) (seeker Q ∷ ids) (fits-each (netOf Q) (Q .members) (Q .place) (Q .own) k chosen x e) m
 
-    pub agrees-own : fit ≡ true → agree (netOf Q) (idAt (netOf Q) (Q .members) k index) (seeker Q) ≡ true
-    agrees-own e = agree-sym (netOf Q) (idAt (netOf Q) (Q .members) k index) (seeker Q) ∙ agrees-fixed e (seeker Q) here
+    pub agrees-own : fit ≡ true → agree (netOf Q) (idAt (netOf Q) (Q .members) k x) (seeker Q) ≡ true
+    agrees-own e = agree-sym (netOf Q) (idAt (netOf Q) (Q .members) k x) (seeker Q) ∙ agrees-fixed e (seeker Q) here
 
-    pub come-more : isLive (Q .words) g ≡ true → fit ≡ true → Prefix Q (k + 1) (resumes && eqb index (getD (Q .low) k 0)) (set chosen k index)
+    pub come-more : isLive (Q .words) (first + x) ≡ true → fit ≡ true → Prefix Q (k + 1) (resumes && eqb x (getD (Q .low) k 0)) (set chosen k x)
     come-more l e =
         rw add-one
-        (prefix-next R B inside (T .sized) (T .low-sized) index
+        (prefix-next R B inside (T .sized) (T .low-sized) x
         (record {
           below = index-below;
           own = λ q. absurd (T .other q);
-          lives = ap (has (liveOf Q)) id-back ∙ living-has (total (netOf Q)) (Q .words) g (omega (arith, stop-total, in-walk)) ∙ l;
+          lives = ap (has (liveOf Q)) id-back ∙ living-has (total (netOf Q)) (Q .words) (first + x) (omega (arith, stop-total, in-walk)) ∙ l;
           agrees = λ y m. agrees-fixed e y (List·Memᴰ·tail m);
           agrees-seeker = λ _. agrees-fixed e (seeker Q) here;
           low = index-low;

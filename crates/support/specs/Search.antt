@@ -2,8 +2,8 @@
 use mathlib.Core.Path.{_≡_}
 use mathlib.Core.Bool.{Bool, true, false, cond}
 use mathlib.Core.Option.{Option, none, some}
-use mathlib.Core.List.{List, _∷_, map}
-use Prim.Native.Nat.{ℕ, _+_, _*_, _≤_, _<_}
+use mathlib.Core.List.{List, [], _∷_, _++_, map}
+use Prim.Native.Nat.{ℕ, suc, _+_, _-_, _*_, _≤_, _<_}
 use lib.Dec.{eqb}
 use lib.ListN.{length, getD, take, drop, set}
 use Rattle.model.specs.Limits.{wordBits, maxMembers}
@@ -13,7 +13,7 @@ use Rattle.model.specs.Agreement.{agree}
 use Rattle.model.specs.TupleSet.{TupleSet, has}
 use Rattle.model.specs.Combination.{Combination}
 use Rattle.model.specs.Support.{supportFrom, completion}
-use Rattle.model.specs.LiveWords.{living}
+use Rattle.model.specs.LiveWords.{living, isLive}
 use Rattle.model.specs.Fault.{properMembers}
 use Rattle.layout.specs.Starts.{tupleStart}
 use Rattle.layout.specs.Setting.{Lists, lists, networkIn, SoundLists}
@@ -21,6 +21,7 @@ use Rattle.value_index.specs.Index.{Indexed}
 use Rattle.support.specs.declared.Found.{Found}
 use Rattle.support.specs.declared.Span.{Span}
 use Rattle.support.specs.declared.Stage.{Stage}
+use Rattle.support.specs.declared.Walked.{Walked}
 
 -- ---- The search
 
@@ -122,6 +123,20 @@ pub record Trial (L : Lists) (c : Combination) (place own k : ℕ) (chosen : Lis
   pub within : (j : ℕ) → j < k → getD chosen j 0 < size (networkIn L) (getD c j 0)
   pub own-chosen : place < k → getD chosen place 0 ≡ own
 
+-- ---- The walk over a member's tuples
+
+-- what there is to find once the tuples before k are chosen, and x
+abbrev pub onward : Search → ℕ → List ℕ → ℕ → Option (List ℕ)
+onward Q k chosen x = completion (netOf Q) (liveOf Q) (seeker Q) (Q .low) (chosenIds (netOf Q) (Q .members) chosen k ++ (x ∷ [])) (map (idsOf (netOf Q)) (drop (suc k) (Q .members)))
+
+abbrev pub span : Search → ℕ → Bool → Span
+span Q k resumes = spanAt (Q .lists .starts) (getD (Q .members) k 0) resumes (getD (Q .low) k 0)
+
+-- what is left to find from id g on
+abbrev pub left : Search → ℕ → Bool → List ℕ → ℕ → Option (List ℕ)
+left Q k resumes chosen g =
+    completion (netOf Q) (liveOf Q) (seeker Q) (Q .low) (chosenIds (netOf Q) (Q .members) chosen k) (from g (span Q k resumes .end - g) ∷ map (idsOf (netOf Q)) (drop (suc k) (Q .members)))
+
 -- ---- The answer
 
 -- what `ok` and the first m indices stand for
@@ -133,14 +148,33 @@ abbrev pub sought : Search → ℕ → List ℕ → Option (List ℕ)
 sought Q k chosen =
     completion (netOf Q) (liveOf Q) (seeker Q) (Q .low) (chosenIds (netOf Q) (Q .members) chosen k) (map (idsOf (netOf Q)) (drop k (Q .members)))
 
--- .. unless the search gave up, which only a limited one does
-abbrev pub Finds : Search → ℕ → List ℕ → Bool → Found → Type 0
-Finds Q k chosen limited f =
-    (f .spent ≡ false → answer (f .ok) (take (length (Q .members)) (f .tuples)) ≡ sought Q k chosen) × (limited ≡ false → f .spent ≡ false)
+abbrev pub Finds : Search → ℕ → List ℕ → Found → Type 0
+Finds Q k chosen f = answer (f .ok) (take (length (Q .members)) (f .tuples)) ≡ sought Q k chosen
 
 -- .. with nothing chosen yet
 abbrev pub FindsFirst : Search → Found → Type 0
 FindsFirst Q f = answer (f .ok) (take (length (Q .members)) (f .tuples)) ≡ supportFrom (netOf Q) (liveOf Q) (Q .members) (seeker Q) (Q .low)
 
-abbrev pub TriesFirst : Search → Bool → Found → Type 0
-TriesFirst Q limited f = (f .spent ≡ false → FindsFirst Q f) × (limited ≡ false → f .spent ≡ false)
+-- It is the turn of member k, and of its live tuple x, which is on the walk.
+pub record AttemptAt (Q : Search) (index : List ℕ) (k : ℕ) (resumes : Bool) (chosen : List ℕ) (x : ℕ) : Type 0 where
+  pub turn : SearchAt Q index k resumes chosen
+  pub from-start : span Q k resumes .start ≤ span Q k resumes .first + x
+  pub to-end : span Q k resumes .first + x < span Q k resumes .end
+  pub lives : isLive (Q .words) (span Q k resumes .first + x) ≡ true
+
+-- what there is to find with tuple x
+abbrev pub Attempts : Search → ℕ → List ℕ → ℕ → Found → Type 0
+Attempts Q k chosen x f = answer (f .ok) (take (length (Q .members)) (f .tuples)) ≡ onward Q k chosen (tupleStart (Q .lists .starts) (getD (Q .members) k 0) + x)
+
+-- The walk has come to id g, a live one unless it is at its end: what is left to find is all there is to find.
+pub record WalkAt (Q : Search) (k : ℕ) (resumes : Bool) (chosen : List ℕ) (g : ℕ) : Type 0 where
+  pub from-start : span Q k resumes .start ≤ g
+  pub to-end : g ≤ span Q k resumes .end
+  pub lives : g < span Q k resumes .end → isLive (Q .words) g ≡ true
+  pub rest : left Q k resumes chosen g ≡ sought Q k chosen
+
+-- A walk that found something found what there is to find; another one has come to an id, an endless one to the end.
+pub record Walks (Q : Search) (k : ℕ) (resumes : Bool) (chosen : List ℕ) (endless : Bool) (w : Walked) : Type 0 where
+  pub found : w .ok ≡ true → sought Q k chosen ≡ some (take (length (Q .members)) (w .tuples))
+  pub on : w .ok ≡ false → WalkAt Q k resumes chosen (w .at)
+  pub whole : w .ok ≡ false → endless ≡ true → span Q k resumes .end ≤ w .at

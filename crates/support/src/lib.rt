@@ -1,14 +1,14 @@
 // The first support of a tuple, sought member by member with forward checking: after each choice the members still to come are narrowed to
 // the tuples that may agree with it.
 ghost use mathlib.Core.Path.{_≡_};
-ghost use mathlib.Core.Bool.{false};
+ghost use mathlib.Core.Bool.{true, false};
 ghost use Prim.Native.Nat.{_+_, _<_};
 ghost use Rattle.model.specs.Limits.{maxRelations, maxMembers};
 ghost use Rattle.layout.specs.Loan.{entry};
 ghost use Rattle.layout.specs.Starts.{tupleStart};
 ghost use Rattle.layout.specs.Setting.{lists, networkIn};
 ghost use Rattle.narrowing.specs.Narrows.{Long};
-ghost use Rattle.support.specs.Search.{searching, Seeking, SearchAt, pastOwn, spanAt, fits, Trial, Finds, TriesFirst, FindsFirst};
+ghost use Rattle.support.specs.Search.{searching, Seeking, SearchAt, pastOwn, spanAt, fits, Trial, AttemptAt, Attempts, WalkAt, Walks, Finds, FindsFirst};
 use layout::Starts;
 use layout::tuple_start;
 use live::Words;
@@ -19,25 +19,34 @@ use model::Value;
 use narrowing::narrow_members;
 use network::agreement::tuples_agree;
 use spreading::spread_members;
+use spreading::steps::steps_between;
 use value_index::Index;
 
-// A member is narrowed through another only where that one has at most so many candidates: few in a first, limited search, and more in one
-// that goes on to the end.
+// Before a search, a member is narrowed through another only where that one has at most so many candidates.
 const FEW: u16 = 8;
 
+// .. and in a hard one.
 const MANY: u16 = 64;
 
-// A limited search gives up where so many choices of one member have failed.
+// A search is hard where so many choices of one member have failed.
 const FAILURES: u16 = 16;
 
 // One tuple of each member, by its index.
 pub type Indices = [u16; MAX_MEMBERS];
 
-// The indices of a support, one for each member; where there is none, ok is false. A search that gave up is spent, and says neither.
+// The indices of a support, one for each member; where there is none, ok is false. And whether the search was hard.
 pub struct Found {
     pub ok: bool,
-    pub spent: bool,
+    pub hard: bool,
     pub tuples: Indices,
+}
+
+// How a walk over a member's tuples ended: with a support, or at an id before which no tuple leads to one.
+struct Walked {
+    ok: bool,
+    hard: bool,
+    at: u16,
+    tuples: Indices,
 }
 
 // The id of a relation's first tuple, and the ids that a walk goes over: from start on and below end.
@@ -118,25 +127,161 @@ fn fits(
     true
 }
 
-// Whether a search that is limited gives up after so many failures.
-fn gives_up(limited: bool, failures: u16) -> bool
-    ensures { λ b. ⌜ (limited ≡ false → b ≡ false) ⌝ }
+// The first support at or after `low` that has the tuples chosen for the members before k, and tuple x for member k.
+fn attempt(
+    variables: &[u16],
+    values: &[Value],
+    starts: &Starts,
+    index: &Index,
+    words: &Words,
+    members: &[u16],
+    place: usize,
+    own: u16,
+    low: Indices,
+    k: usize,
+    resumes: bool,
+    chosen: Indices,
+    x: u16,
+) -> Found
+    requires { ⌜ Long (now words) × AttemptAt (searching now variables values starts words members place own low) (now index) k resumes chosen x ⌝ }
+    ensures { λ f. ⌜ Attempts (searching entry variables values starts words members place own low) k chosen x f ⌝ }
 {
-    if !limited {
+    let r = members[k];
+    let mut more = chosen;
+    more[k] = x;
+    let stage = past_own(place, own, k + 1, more);
+    let on = stage.k;
+    let tuples = stage.chosen;
+    if on == members.len() {
+        let ok = fits(variables, values, starts, members, place, own, k, chosen, x);
+        return Found {
+            ok,
+            hard: false,
+            tuples,
+        };
+    }
+    let mut fewer = *words;
+    if narrow_members(
+        variables,
+        values,
+        starts,
+        index,
+        &mut fewer,
+        members,
+        place,
+        on,
+        r,
+        x,
+    ) {
+        if fits(variables, values, starts, members, place, own, k, chosen, x) {
+            let resuming = resumes && x == low[k];
+            return search(
+                variables,
+                values,
+                starts,
+                index,
+                &fewer,
+                members,
+                place,
+                own,
+                low,
+                on,
+                resuming,
+                tuples,
+            );
+        }
+    }
+    Found {
+        ok: false,
+        hard: false,
+        tuples,
+    }
+}
+
+// Whether a walk stops after so many failures, the last of a search that was hard or not; an endless one does not.
+fn stops(endless: bool, hard: bool, failures: u16) -> bool
+    ensures { λ b. ⌜ (endless ≡ true → b ≡ false) ⌝ }
+{
+    if endless {
         return false;
     }
-    failures == FAILURES
+    hard || failures == FAILURES
 }
 
-// How many candidates a member may have through which another is narrowed.
-fn candidates_for(limited: bool) -> u16 {
-    if limited {
-        return FEW;
+// The walk over member k's live tuples from id `from` on, at the turn that `search` is called for. It goes on to the end, or stops where the
+// search is hard.
+fn walk(
+    variables: &[u16],
+    values: &[Value],
+    starts: &Starts,
+    index: &Index,
+    words: &Words,
+    members: &[u16],
+    place: usize,
+    own: u16,
+    low: Indices,
+    k: usize,
+    resumes: bool,
+    chosen: Indices,
+    from: u16,
+    endless: bool,
+) -> Walked
+    requires { ⌜ Long (now words) × SearchAt (searching now variables values starts words members place own low) (now index) k resumes chosen ⌝ }
+    requires { ⌜ WalkAt (searching now variables values starts words members place own low) k resumes chosen from ⌝ }
+    ensures { λ w. ⌜ Walks (searching entry variables values starts words members place own low) k resumes chosen endless w ⌝ }
+{
+    let r = members[k];
+    let first = tuple_start(starts, r);
+    let end = tuple_start(starts, r + 1);
+    let mut failures: u16 = 0;
+    let mut g = from;
+    while g < end {
+        let found = attempt(
+            variables,
+            values,
+            starts,
+            index,
+            words,
+            members,
+            place,
+            own,
+            low,
+            k,
+            resumes,
+            chosen,
+            g - first,
+        );
+        let hard = found.hard;
+        let tuples = found.tuples;
+        if found.ok {
+            return Walked {
+                ok: true,
+                hard,
+                at: g,
+                tuples,
+            };
+        }
+        g = next(words, g + 1, end);
+        failures += 1;
+        if stops(endless, hard, failures) {
+            return Walked {
+                ok: false,
+                hard: true,
+                at: g,
+                tuples: chosen,
+            };
+        }
     }
-    MANY
+    Walked {
+        ok: false,
+        hard: endless,
+        at: g,
+        tuples: chosen,
+    }
 }
 
-// The first support at or after `low` that has the tuples chosen for the members before k. A limited search may give up.
+// The first support at or after `low` that has the tuples chosen for the members before k. Where it is hard to find, the members from k on are
+// narrowed through each other.
 fn search(
     variables: &[u16],
     values: &[Value],
@@ -150,173 +295,86 @@ fn search(
     k: usize,
     resumes: bool,
     chosen: Indices,
-    limited: bool,
 ) -> Found
     requires { ⌜ Long (now words) × SearchAt (searching now variables values starts words members place own low) (now index) k resumes chosen ⌝ }
-    ensures { λ f. ⌜ Finds (searching entry variables values starts words members place own low) k chosen limited f ⌝ }
+    ensures { λ f. ⌜ Finds (searching entry variables values starts words members place own low) k chosen f ⌝ }
 {
-    let lowest = low[k];
-    let r = members[k];
-    let span = span_of(starts, r, resumes, lowest);
-    let first = span.first;
+    let span = span_of(starts, members[k], resumes, low[k]);
     let end = span.end;
-    let mut failures: u16 = 0;
-    let mut g = next(words, span.start, end);
-    while g < end {
-        let x = g - first;
-        if fits(variables, values, starts, members, place, own, k, chosen, x) {
-            let mut more = chosen;
-            more[k] = x;
-            let stage = past_own(place, own, k + 1, more);
-            let on = stage.k;
-            let tuples = stage.chosen;
-            if on == members.len() {
-                return Found {
-                    ok: true,
-                    spent: false,
-                    tuples,
-                };
-            }
-            let mut fewer = *words;
-            if narrow_members(
-                variables,
-                values,
-                starts,
-                index,
-                &mut fewer,
-                members,
-                place,
-                on,
-                r,
-                x,
-            ) {
-                let found = search(
-                    variables,
-                    values,
-                    starts,
-                    index,
-                    &fewer,
-                    members,
-                    place,
-                    own,
-                    low,
-                    on,
-                    resumes && x == lowest,
-                    tuples,
-                    limited,
-                );
-                if found.ok {
-                    return found;
-                }
-                if found.spent {
-                    return found;
-                }
-            }
-        }
-        if gives_up(limited, failures) {
-            return Found {
-                ok: false,
-                spent: true,
-                tuples: chosen,
-            };
-        }
-        failures += 1;
-        g = next(words, g + 1, end);
-    }
-    Found {
-        ok: false,
-        spent: false,
-        tuples: chosen,
-    }
-}
-
-// The first support at or after `low` of tuple `own` of the member at `place`. Before the search, members are narrowed through others by these
-// steps. A limited search may give up.
-fn try_support(
-    variables: &[u16],
-    values: &[Value],
-    starts: &Starts,
-    index: &Index,
-    words: &Words,
-    members: &[u16],
-    place: usize,
-    own: u16,
-    low: Indices,
-    steps: u64,
-    limited: bool,
-) -> Found
-    requires { ⌜ Long (now words) × Seeking (searching now variables values starts words members place own low) (now index) ⌝ }
-    ensures { λ f. ⌜ TriesFirst (searching entry variables values starts words members place own low) limited f ⌝ }
-{
-    let r = members[place];
-    if !is_live(words, tuple_start(starts, r) + own) {
-        return Found {
-            ok: false,
-            spent: false,
-            tuples: low,
-        };
-    }
-    let mut candidates = *words;
-    if !narrow_members(
+    let from = next(words, span.start, end);
+    let walked = walk(
         variables,
         values,
         starts,
         index,
-        &mut candidates,
-        members,
-        place,
-        0,
-        r,
-        own,
-    ) {
-        return Found {
-            ok: false,
-            spent: false,
-            tuples: low,
-        };
-    }
-    if !spread_members(
-        variables,
-        values,
-        starts,
-        index,
-        &mut candidates,
-        members,
-        place,
-        steps,
-        candidates_for(limited),
-    ) {
-        return Found {
-            ok: false,
-            spent: false,
-            tuples: low,
-        };
-    }
-    let stage = past_own(place, own, 0, low);
-    let k = stage.k;
-    let chosen = stage.chosen;
-    if k == members.len() {
-        return Found {
-            ok: true,
-            spent: false,
-            tuples: chosen,
-        };
-    }
-    search(
-        variables,
-        values,
-        starts,
-        index,
-        &candidates,
+        words,
         members,
         place,
         own,
         low,
         k,
-        true,
+        resumes,
         chosen,
-        limited,
-    )
+        from,
+        false,
+    );
+    let hard = walked.hard;
+    let tuples = walked.tuples;
+    if walked.ok {
+        return Found {
+            ok: true,
+            hard,
+            tuples,
+        };
+    }
+    let at = walked.at;
+    if end <= at {
+        return Found {
+            ok: false,
+            hard,
+            tuples,
+        };
+    }
+    let mut fewer = *words;
+    let steps = steps_between(index, starts, words, members, place, k);
+    if !spread_members(
+        variables,
+        values,
+        starts,
+        index,
+        &mut fewer,
+        members,
+        place,
+        k,
+        steps,
+        MANY,
+    ) {
+        return Found {
+            ok: false,
+            hard,
+            tuples,
+        };
+    }
+    let again = next(&fewer, at, end);
+    let ended = walk(
+        variables,
+        values,
+        starts,
+        index,
+        &fewer,
+        members,
+        place,
+        own,
+        low,
+        k,
+        resumes,
+        chosen,
+        again,
+        true,
+    );
+    let ok = ended.ok;
+    let tuples = ended.tuples;
+    Found { ok, hard, tuples }
 }
 
 // The first support at or after `low` of tuple `own` of the member at `place`. Before the search, members are narrowed through others by these
@@ -336,33 +394,66 @@ pub fn first_support(
     requires { ⌜ Long (now words) × Seeking (searching now variables values starts words members place own low) (now index) ⌝ }
     ensures { λ f. ⌜ FindsFirst (searching entry variables values starts words members place own low) f ⌝ }
 {
-    let found = try_support(
-        variables,
-        values,
-        starts,
-        index,
-        words,
-        members,
-        place,
-        own,
-        low,
-        steps,
-        true,
-    );
-    if !found.spent {
-        return found;
+    let none = Found {
+        ok: false,
+        hard: false,
+        tuples: low,
+    };
+    let r = members[place];
+    if !is_live(words, tuple_start(starts, r) + own) {
+        return none;
     }
-    try_support(
+    let mut candidates = *words;
+    if !narrow_members(
         variables,
         values,
         starts,
         index,
-        words,
+        &mut candidates,
+        members,
+        place,
+        0,
+        r,
+        own,
+    ) {
+        return none;
+    }
+    if !spread_members(
+        variables,
+        values,
+        starts,
+        index,
+        &mut candidates,
+        members,
+        place,
+        0,
+        steps,
+        FEW,
+    ) {
+        return none;
+    }
+    let stage = past_own(place, own, 0, low);
+    let k = stage.k;
+    let tuples = stage.chosen;
+    if k == members.len() {
+        return Found {
+            ok: true,
+            hard: false,
+            tuples,
+        };
+    }
+    search(
+        variables,
+        values,
+        starts,
+        index,
+        &candidates,
         members,
         place,
         own,
         low,
-        steps,
-        false,
+        k,
+        true,
+        tuples,
     )
 }

@@ -13,11 +13,11 @@ use Rattle.spreading.proofs.spread_members.Statement.{statement}
 use Rattle.spreading.proofs.spread_members.Tie as tie
 
 abbrev Inv-loop : tie.InvT-loop
-Inv-loop variables values starts index words₀ members place steps limit left₀ words left =
-    (length words ≡ 64) × KeepsSupports (networkIn (record { variables = variables; values = values; starts = starts })) members place words₀ words
+Inv-loop variables values starts index words₀ members place from steps limit left₀ words left =
+    (length words ≡ 64) × KeepsSupports (networkIn (record { variables = variables; values = values; starts = starts })) members place from words₀ words
 
 abbrev μ-loop : tie.MeasureT-loop
-μ-loop variables values starts index words₀ members place steps limit left₀ words left = left
+μ-loop variables values starts index words₀ members place from steps limit left₀ words left = left
 
 abbrev start : tie.At-loop Inv-loop μ-loop → tie.Start Inv-loop μ-loop
 start c = c .before .before .before .before
@@ -28,11 +28,11 @@ network s = networkIn (record { variables = s .args .variables .now; values = s 
 -- one step more
 more : (c : tie.After-spread-step Inv-loop μ-loop) →
     let s = start (c .before .before .before) in
-    KeepsSupports (network s) (s .args .members .now) (s .args .place) (s .args .words .now) (c .spread-step .last .1 .1 .1 .1 .0)
+    KeepsSupports (network s) (s .args .members .now) (s .args .place) (s .args .from) (s .args .words .now) (c .spread-step .last .1 .1 .1 .1 .0)
 more c =
     let l = c .before .before .before in
     let s = start l in
-    keeps-on (network s) (s .args .members .now) (s .args .place) (s .args .words .now) (l .loop .words) (c .spread-step .last .1 .1 .1 .1 .0) (l .loop .inv .1) (c .spread-step .ensures .1 .0)
+    keeps-on (network s) (s .args .members .now) (s .args .place) (s .args .from) (s .args .words .now) (l .loop .words) (c .spread-step .last .1 .1 .1 .1 .0) (l .loop .inv .1) (c .spread-step .ensures .1 .0)
 
 pub spread-members-spec : {M : Type 1} → statement M
 spread-members-spec =
@@ -40,7 +40,7 @@ spread-members-spec =
     (tie.spec
     Inv-loop
     μ-loop
-    (λ c. let s = c .before .before .before in (s .pre .0, keeps-none (network s) (s .args .members .now) (s .args .place) (s .args .words .now)))
+    (λ c. let s = c .before .before .before in (s .pre .0, keeps-none (network s) (s .args .members .now) (s .args .place) (s .args .from) (s .args .words .now)))
     (λ c κs. let l = c .before .before in (l .loop .inv .0, start l .pre .1))
     (λ c. (c .before .spread-step .ensures .0, (more (c .before), λ e. c .before .spread-step .ensures .1 .1 (not-true _ (c .if1 .taken)))))
     (λ c. omega (arith, c .before .before .before .loop-test .taken))

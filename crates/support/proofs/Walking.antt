@@ -20,7 +20,7 @@ use Rattle.model.proofs.Search.{reach, reach-skip, completion-early}
 use Rattle.layout.specs.Starts.{tupleStart}
 use Rattle.layout.proofs.SoundStarts.{relations-few, tuples-few, tuple-start, tuple-end}
 use Rattle.support.specs.declared.Span.{Span}
-use Rattle.support.specs.Search.{Search, netOf, liveOf, seeker, SoundSearch, chosenIds, Prefix, spanAt, sought}
+use Rattle.support.specs.Search.{Search, netOf, liveOf, seeker, SoundSearch, chosenIds, Prefix, spanAt, span, sought}
 use Rattle.support.proofs.Chosen.{chosen-indices}
 
 -- ---- Members
@@ -66,9 +66,6 @@ module _ (Q : Search) (R : SoundSearch Q) where
     member-within = before-within tuplesIn (netOf Q .relations) rel exists
 
 -- ---- The walk
-
-abbrev pub span : Search → ℕ → Bool → Span
-span Q k resumes = spanAt (Q .lists .starts) (getD (Q .members) k 0) resumes (getD (Q .low) k 0)
 
 -- The walk lies within the relation's ids, which begin at first and are `size` many, and ends with them.
 pub record Inside (first size : ℕ) (s : Span) : Type 0 where

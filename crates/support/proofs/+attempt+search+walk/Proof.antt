@@ -1,0 +1,604 @@
+-- `attempt` finds what there is to find with one more tuple, `walk` goes from one tuple to the next, and `search` finds the first support that
+-- has the tuples chosen. The walk's invariant: from the id reached on, there is still all to find; the measure is the number of members still
+-- unchosen. From the laws of one member's turn, and of narrowed words.
+use mathlib.Core.Path.{_≡_, refl, sym, ap, subst, _∙_}
+use mathlib.Core.Bool.{Bool, true, false, _&&_}
+use mathlib.Core.Option.{Option, none, some}
+use mathlib.Core.List.{List, List·Memᴰ}
+use mathlib.Core.Logic.{_⊎_, ⊎-elim}
+use Prim.Native.Nat.{ℕ, _+_, _-_, _*_, _≤_, _<_}
+use native.Mathlib.Omega.{arith}
+use lib.Dec.{eqb}
+use lib.ListN.{length, getD, take, set, length-set}
+use lib.Seq.{getD-set-same}
+use borrow.Kind.Array.{eInt, good-length}
+use mir.Syntax.{w16}
+use borrow.Fn.Kinds.{In}
+use borrow.Fn.PlainCycle.{Measures, is, falls, and}
+use borrow.Author.Needs.{needs}
+use borrow.Author.Tests.{not-true}
+use Rattle.model.specs.TupleSet.{has}
+use Rattle.model.specs.LiveWords.{isLive, nextLive}
+use Rattle.model.proofs.Bools.{not-both}
+use Rattle.model.proofs.LiveWords.{nextLive-first}
+use Rattle.layout.specs.Starts.{tupleStart}
+use Rattle.support.specs.declared.Span.{Span}
+use Rattle.support.specs.declared.Stage.{Stage}
+use Rattle.support.specs.Search.{Search, netOf, liveOf, idAt, seeker, SoundSearch, chosenIds, Prefix, SearchAt, pastOwn, span, onward, left, WalkAt, fits, sought, answer}
+use Rattle.support.proofs.Chosen.{chosen-mem}
+use Rattle.support.proofs.Walking.{member-below}
+use Rattle.support.proofs.Ends.{turn-done}
+use Rattle.support.proofs.Own.{NextStage, next-stage, past-forth}
+use Rattle.support.proofs.Turn.{span-asks, Turn, walk-asks, walk-forward, come-first, come-from, come-none, come-found, come-next, come-lives, come-live, index-below, trial, come-clash, onward-more, come-more, agrees-own}
+use Rattle.support.proofs.Narrow.{others, onWords, Fewer, fewer-words, ready-narrowed, sought-bare, sought-none, prefix-narrowed, sought-narrowed, turn-sound, turn-lives, turn-prefix, turn-sought, turn-left}
+use Rattle.support.proofs.attempt.Reads as attempt
+use Rattle.support.proofs.attempt.Kinds as attempt-kinds
+use Rattle.support.proofs.+attempt+search+walk.Lts-attempt as attempt-lts
+use Rattle.support.proofs.search.Reads as search′
+use Rattle.support.proofs.search.Kinds as search-kinds
+use Rattle.support.proofs.+attempt+search+walk.Lts-search as search-lts
+use Rattle.support.proofs.walk.Reads as walk
+use Rattle.support.proofs.walk.Kinds as walk-kinds
+use Rattle.support.proofs.+attempt+search+walk.Lts-walk as walk-lts
+use Rattle.layout.proofs.tuple_start.Reads as tuple-start-reads
+use Rattle.live.proofs.next.Reads as next-reads
+use Rattle.narrowing.proofs.narrow_members.Reads as narrow-members-reads
+use Rattle.spreading.proofs.spread_members.Reads as spread-members-reads
+use Rattle.spreading.proofs.steps.steps_between.Reads as steps-between-reads
+use Rattle.support.proofs.fits.Reads as fits-reads
+use Rattle.support.proofs.past_own.Reads as past-own-reads
+use Rattle.support.proofs.span_of.Reads as span-of-reads
+use Rattle.support.proofs.stops.Reads as stops-reads
+use Rattle.support.proofs.+attempt+search+walk.{statement}
+use Rattle.support.proofs.+attempt+search+walk.Tie.{close}
+
+-- ---- The measures, the invariant and the callees
+
+abbrev searchOn : List ℕ → List ℕ → List ℕ → List ℕ → List ℕ → ℕ → ℕ → List ℕ → Search
+searchOn variables values starts words members place own low =
+    record {
+      lists = record { variables = variables; values = values; starts = starts };
+      words = words;
+      members = members;
+      place = place;
+      own = own;
+      low = low;
+    }
+
+abbrev μ-attempt : Measures 6 attempt-kinds.ps ℕ
+μ-attempt κs a = (length (a .1 .1 .1 .1 .1 .0 .now) - a .1 .1 .1 .1 .1 .1 .1 .1 .1 .0) * 3
+
+abbrev μ-search : Measures 6 search-kinds.ps ℕ
+μ-search κs a = (length (a .1 .1 .1 .1 .1 .0 .now) - a .1 .1 .1 .1 .1 .1 .1 .1 .1 .0) * 3 + 2
+
+abbrev μ-walk : Measures 6 walk-kinds.ps ℕ
+μ-walk κs a = (length (a .1 .1 .1 .1 .1 .0 .now) - a .1 .1 .1 .1 .1 .1 .1 .1 .1 .0) * 3 + 1
+
+abbrev attempt-at : ℕ → In 6 attempt-kinds.ps
+attempt-at t = and 6 attempt-kinds.ps (is 6 attempt-kinds.ps μ-attempt t) attempt.Pre
+
+abbrev attempt-below : ℕ → In 6 attempt-kinds.ps
+attempt-below t = and 6 attempt-kinds.ps (falls 6 attempt-kinds.ps _<_ μ-attempt t) attempt.Pre
+
+abbrev search-at : ℕ → In 6 search-kinds.ps
+search-at t = and 6 search-kinds.ps (is 6 search-kinds.ps μ-search t) search′.Pre
+
+abbrev search-below : ℕ → In 6 search-kinds.ps
+search-below t = and 6 search-kinds.ps (falls 6 search-kinds.ps _<_ μ-search t) search′.Pre
+
+abbrev walk-at : ℕ → In 6 walk-kinds.ps
+walk-at t = and 6 walk-kinds.ps (is 6 walk-kinds.ps μ-walk t) walk.Pre
+
+abbrev walk-below : ℕ → In 6 walk-kinds.ps
+walk-below t = and 6 walk-kinds.ps (falls 6 walk-kinds.ps _<_ μ-walk t) walk.Pre
+
+abbrev attempt-callees : ℕ → attempt-lts.Claims
+attempt-callees t =
+    (past-own-reads.Asked, past-own-reads.Learnt, fits-reads.Asked, fits-reads.Learnt, narrow-members-reads.Asked, narrow-members-reads.Learnt, search-below t, search′.Post)
+
+abbrev search-callees : ℕ → search-lts.Claims
+search-callees t =
+    (span-of-reads.Asked, span-of-reads.Learnt, next-reads.Asked, next-reads.Learnt, walk-below t, walk.Post, steps-between-reads.Asked, steps-between-reads.Learnt, spread-members-reads.Asked, spread-members-reads.Learnt)
+
+abbrev walk-callees : ℕ → walk-lts.Claims
+walk-callees t =
+    (tuple-start-reads.Asked, tuple-start-reads.Learnt, attempt-below t, attempt.Post, next-reads.Asked, next-reads.Learnt, stops-reads.Asked, stops-reads.Learnt)
+
+-- ---- The turn of a member
+
+-- what is known at a turn, of which this is the walk
+turn-of : (Q : Search) (index : List ℕ) (k : ℕ) (resumes : Bool) (chosen : List ℕ) → SearchAt Q index k resumes chosen → length chosen ≡ 4 → length (Q .low) ≡ 4 → Turn Q k resumes chosen (span Q k resumes .first) (span Q k resumes .start) (span Q k resumes .end)
+turn-of Q index k resumes chosen A sized low-sized =
+    record {
+      ready = A .seeking .sound;
+      begun = A .prefix;
+      inside = A .inside;
+      other = A .other;
+      sized = sized;
+      low-sized = low-sized;
+      is-first = refl;
+      is-begin = refl;
+      is-end = refl;
+    }
+
+-- ---- attempt
+
+module _ (t : ℕ) where
+  abbrev Attempt : Type 0
+  Attempt = attempt-lts.Start (attempt-callees t) (attempt-at t) attempt.Post
+
+  module _ (a : Attempt) where
+    -- what is searched
+    abbrev given : Search
+    given = searchOn (a .args .variables .now) (a .args .values .now) (a .args .starts .now) (a .args .words .now) (a .args .members .now) (a .args .place) (a .args .own) (a .args .t9)
+
+    abbrev ready : SoundSearch given
+    ready = a .pre .1 .1 .turn .seeking .sound
+
+    sized : length (a .args .chosen) ≡ 4
+    sized = good-length (eInt w16) 4 (a .args .chosen) _ (a .good .1 .1 .1 .1 .1 .1 .1 .1 .1 .1 .1 .0)
+
+    low-sized : length (a .args .t9) ≡ 4
+    low-sized = good-length (eInt w16) 4 (a .args .t9) _ (a .good .1 .1 .1 .1 .1 .1 .1 .1 .0)
+
+    turn : Turn given (a .args .k) (a .args .resumes) (a .args .chosen) (span given (a .args .k) (a .args .resumes) .first) (span given (a .args .k) (a .args .resumes) .start) (span given (a .args .k) (a .args .resumes) .end)
+    turn = turn-of given (a .args .index .now) (a .args .k) (a .args .resumes) (a .args .chosen) (a .pre .1 .1 .turn) sized low-sized
+
+    -- its id
+    abbrev id : ℕ
+    id = span given (a .args .k) (a .args .resumes) .first + a .args .x
+
+    abbrev fit : Bool
+    fit = fits (netOf given) (a .args .members .now) (a .args .place) (a .args .own) (a .args .k) (a .args .chosen) (a .args .x)
+
+    abbrev ahead : Option (List ℕ)
+    ahead = onward given (a .args .k) (a .args .chosen) id
+
+    -- the search goes on resuming where it resumes here and the tuple has the bound's index
+    abbrev resumed : Bool
+    resumed = a .args .resumes && eqb (a .args .x) (getD (a .args .t9) (a .args .k) 0)
+
+    abbrev more : List ℕ
+    more = set (a .args .chosen) (a .args .k) (a .args .x)
+
+    clash : fit ≡ false → ahead ≡ none
+    clash = come-clash turn (a .args .x) (a .pre .1 .1 .from-start) (a .pre .1 .1 .to-end)
+
+    -- the tuple chosen, for which the words are narrowed
+    abbrev latest : ℕ
+    latest = idAt (netOf given) (a .args .members .now) (a .args .k) (a .args .x)
+
+    module _ (s : Stage) (e : s ≡ pastOwn (a .args .place) (a .args .own) (a .args .k + 1) more) where
+      forth : a .args .k + 1 ≤ s .k
+      forth = subst (λ (s : Stage). a .args .k + 1 ≤ s .k) (sym e) (past-forth (a .args .place) (a .args .own) (a .args .k + 1) more)
+
+      module _ (f : fit ≡ true) where
+        stage : NextStage given resumed (a .args .k + 1) more s
+        stage =
+            next-stage given ready resumed (a .args .k + 1) more (length-set (a .args .chosen) (a .args .k) (a .args .x) ∙ sized) low-sized (a .pre .1 .1 .turn .lives)
+            (come-more turn (a .args .x) (a .pre .1 .1 .from-start) (a .pre .1 .1 .to-end) (a .pre .1 .1 .lives) f) s e
+
+        -- what there is to find then is what there is to find onward
+        stage-ahead : sought given (s .k) (s .chosen) ≡ ahead
+        stage-ahead = stage .same ∙ onward-more turn (a .args .x) (a .pre .1 .1 .from-start) (a .pre .1 .1 .to-end)
+
+        latest-chosen : List·Memᴰ latest (chosenIds (netOf given) (a .args .members .now) (s .chosen) (s .k))
+        latest-chosen =
+            let same : getD (s .chosen) (a .args .k) 0 ≡ a .args .x = stage .kept (a .args .k) (omega arith) ∙ getD-set-same (a .args .chosen) (a .args .k) (a .args .x) 0 (omega (arith, sized, ready .few, turn .inside)) in
+            subst (λ (i : ℕ). List·Memᴰ (idAt (netOf given) (a .args .members .now) (a .args .k) i) (chosenIds (netOf given) (a .args .members .now) (s .chosen) (s .k))) same
+            (chosen-mem (netOf given) (a .args .members .now) (s .chosen) (s .k) (a .args .k) (omega (arith, stage .forth)))
+
+  -- every member has its tuple
+  last : (a : Attempt) (s : Stage) → s ≡ pastOwn (a .args .place) (a .args .own) (a .args .k + 1) (more a) → s .k ≡ length (a .args .members .now) → (ok : Bool) → ok ≡ fit a → answer ok (take (length (a .args .members .now)) (s .chosen)) ≡ ahead a
+  last a s e q true f =
+      let S = stage a s e (sym f) in
+      sym (turn-done (given a) (ready a) (resumed a) (s .chosen) (S .sized) (s .k) q (S .prefix)) ∙ stage-ahead a s e (sym f)
+  last a s e q false f = sym (clash a (sym f))
+
+  module _ (n : attempt-lts.After-narrow-members (attempt-callees t) (attempt-at t) attempt.Post) where
+    abbrev chosen : attempt-lts.After-past-own (attempt-callees t) (attempt-at t) attempt.Post
+    chosen = n .before .before .before .before .before
+
+    abbrev start : Attempt
+    start = chosen .before .before .before .before .before
+
+    abbrev fewer : List ℕ
+    fewer = n .narrow-members .last .1 .1 .1 .1 .0
+
+    over : Fewer (given start) (latest start) fewer
+    over = fewer-words (given start) (ready start) (latest start) fewer (n .narrow-members .ensures .1 .0) (n .narrow-members .ensures .0)
+
+    -- what there is to find among them is what there is to find onward
+    narrowed-ahead : fit start ≡ true → sought (onWords (given start) fewer) (chosen .past-own .result .k) (chosen .past-own .result .chosen) ≡ ahead start
+    narrowed-ahead f =
+        let s = chosen .past-own .result in
+        sought-narrowed over (s .k) (s .chosen) (latest-chosen start s (chosen .past-own .ensures) f)
+        ∙ stage-ahead start s (chosen .past-own .ensures) f
+
+    -- .. and where a member has no live tuple left, it is nothing
+    nowhere : n .narrow-members .result ≡ false → (b : Bool) → fit start ≡ b → ahead start ≡ none
+    nowhere e true f =
+        let s = chosen .past-own .result in
+        sym (narrowed-ahead f) ∙ sought-bare over (s .k) (s .chosen) (n .narrow-members .ensures .1 .1 e)
+    nowhere e false f = clash start f
+
+  flag : (resumes equal on : Bool) → ((resumes ≡ true) × (on ≡ equal)) ⊎ ((resumes ≡ false) × (on ≡ resumes)) → (resumes && equal) ≡ on
+  flag resumes equal on =
+      ⊎-elim
+      (λ w. ap (λ (b : Bool). b && equal) (w .0) ∙ sym (w .1))
+      (λ w. ap (λ (b : Bool). b && equal) (w .0) ∙ sym (w .1 ∙ w .0))
+
+  attempt-narrow-members-requires : attempt-lts.Need-narrow-members-requires (attempt-callees t) (attempt-at t) attempt.Post
+  attempt-narrow-members-requires c κs =
+      let b = c .before .before .before .before in
+      let a = b .before .before .before .before .before in
+      let l = forth a (b .past-own .result) (b .past-own .ensures) in (
+        a .pre .1 .0,
+        (
+          record { laid = ready a .laid; indexed = a .pre .1 .1 .turn .seeking .indexed; own = index-below (turn a) (a .args .x) (a .pre .1 .1 .from-start) (a .pre .1 .1 .to-end) },
+          others (given a) (ready a) (a .args .k) (b .past-own .result .k) (turn a .inside) (λ j h e. omega (arith, l, h .from-k)),
+        ),
+      )
+
+  attempt-search-requires : attempt-lts.Need-search-requires (attempt-callees t) (attempt-at t) attempt.Post
+  attempt-search-requires c κs =
+      let j = c .before in
+      let n = j .before .before .before .before in
+      let b = chosen n in
+      let a = start n in
+      let s = b .past-own .result in
+      let f : fit a ≡ true = sym (j .before .before .fits3 .ensures) ∙ j .before .if3 .taken in
+      let S = stage a s (b .past-own .ensures) f in
+      let m = latest-chosen a s (b .past-own .ensures) f in
+      let e = flag (a .args .resumes) (eqb (a .args .x) (getD (a .args .t9) (a .args .k) 0)) (j .if4 .resuming) (⊎-elim (λ w. _⊎_.inl (w .0 .taken, w .1)) (λ w. _⊎_.inr (w .0 .left, w .1)) (j .if4 .came)) in (
+        omega (arith, a .pre .0, turn a .inside, S .forth, S .prefix .depth),
+        (
+          n .narrow-members .ensures .0,
+          record {
+            seeking = record { sound = ready-narrowed (over n); indexed = a .pre .1 .1 .turn .seeking .indexed };
+            prefix = subst (λ (on : Bool). Prefix (onWords (given a) (fewer n)) (s .k) on (s .chosen)) e (prefix-narrowed (over n) (s .k) (s .chosen) m (resumed a) (S .prefix));
+            lives = over n .narrower .keeps (seeker (given a)) (a .pre .1 .1 .turn .lives) (agrees-own (turn a) (a .args .x) (a .pre .1 .1 .from-start) (a .pre .1 .1 .to-end) f);
+            inside = omega (arith, S .prefix .depth, n .before .before .before .if1 .left);
+            other = S .other;
+          },
+        ),
+      )
+
+  attempt-returns-2 : attempt-lts.Need-returns-2 (attempt-callees t) (attempt-at t) attempt.Post
+  attempt-returns-2 c =
+      let j = c .before .before in
+      let n = j .before .before .before .before in
+      c .search .ensures ∙ narrowed-ahead n (sym (j .before .before .fits3 .ensures) ∙ j .before .if3 .taken)
+
+-- ---- walk
+
+abbrev walk-Inv-loop : walk-lts.InvT-loop
+walk-Inv-loop variables values starts index words members place own low k resumes chosen from endless r first end failures₀ g₀ failures g =
+    WalkAt (searchOn variables values starts words members place own low) k resumes chosen g × (failures ≤ g)
+
+abbrev walk-μ-loop : walk-lts.MeasureT-loop
+walk-μ-loop variables values starts index words members place own low k resumes chosen from endless r first end failures₀ g₀ failures g = end - g
+
+module _ (t : ℕ) where
+  abbrev Walk : Type 0
+  Walk = walk-lts.Start (walk-callees t) (walk-at t) walk.Post walk-Inv-loop walk-μ-loop
+
+  module _ (a : Walk) where
+    abbrev walked : Search
+    walked = searchOn (a .args .variables .now) (a .args .values .now) (a .args .starts .now) (a .args .words .now) (a .args .members .now) (a .args .place) (a .args .own) (a .args .low)
+
+    abbrev at : SearchAt walked (a .args .index .now) (a .args .k) (a .args .resumes) (a .args .chosen)
+    at = a .pre .1 .0 .1
+
+    abbrev way : Span
+    way = span walked (a .args .k) (a .args .resumes)
+
+    walking : Turn walked (a .args .k) (a .args .resumes) (a .args .chosen) (way .first) (way .start) (way .end)
+    walking =
+        turn-of walked (a .args .index .now) (a .args .k) (a .args .resumes) (a .args .chosen) at
+        (good-length (eInt w16) 4 (a .args .chosen) _ (a .good .1 .1 .1 .1 .1 .1 .1 .1 .1 .1 .1 .0))
+        (good-length (eInt w16) 4 (a .args .low) _ (a .good .1 .1 .1 .1 .1 .1 .1 .1 .0))
+
+  module _ (l : walk-lts.In-loop (walk-callees t) (walk-at t) walk.Post walk-Inv-loop walk-μ-loop) where
+    abbrev read : walk-lts.After-tuple-start2 (walk-callees t) (walk-at t) walk.Post walk-Inv-loop walk-μ-loop
+    read = l .before .before
+
+    abbrev begun : Walk
+    begun = read .before .before .before .before .before .before
+
+    abbrev reached : WalkAt (walked begun) (begun .args .k) (begun .args .resumes) (begun .args .chosen) (l .before .loop .g)
+    reached = l .before .loop .inv .0
+
+    first-is : read .before .tuple-start .result ≡ way begun .first
+    first-is = read .before .tuple-start .ensures
+
+    end-is : read .tuple-start2 .result ≡ way begun .end
+    end-is = read .tuple-start2 .ensures
+
+    inside : l .before .loop .g < way begun .end
+    inside = omega (arith, l .loop-test .taken, end-is)
+
+    from-first : way begun .first ≤ l .before .loop .g
+    from-first = come-from (walking begun) (l .before .loop .g) reached .0
+
+    is-g : way begun .first + (l .before .loop .g - read .before .tuple-start .result) ≡ l .before .loop .g
+    is-g = omega (arith, first-is, from-first)
+
+    -- what `next` asks
+    asks : (i : ℕ) → way begun .start ≤ i → i ≤ way begun .end → (i ≤ way begun .end) × (way begun .end ≤ 64 * length (begun .args .words .now)) × (way begun .end ≤ 4096)
+    asks = walk-asks (walking begun)
+
+    next-is : nextLive (begun .args .words .now) (l .before .loop .g + 1) (read .tuple-start2 .result) ≡ nextLive (begun .args .words .now) (l .before .loop .g + 1) (way begun .end)
+    next-is = ap (nextLive (begun .args .words .now) (l .before .loop .g + 1)) end-is
+
+  module _ (c : walk-lts.After-next (walk-callees t) (walk-at t) walk.Post walk-Inv-loop walk-μ-loop) where
+    abbrev tried : walk-lts.After-attempt (walk-callees t) (walk-at t) walk.Post walk-Inv-loop walk-μ-loop
+    tried = c .before .before .before .before
+
+    abbrev looped : walk-lts.In-loop (walk-callees t) (walk-at t) walk.Post walk-Inv-loop walk-μ-loop
+    looped = tried .before
+
+    -- the tuple tried leads to nothing, and the walk has come to the next one
+    further : WalkAt (walked (begun looped)) (begun looped .args .k) (begun looped .args .resumes) (begun looped .args .chosen) (c .next .result)
+    further =
+        let l = looped in
+        let a = begun l in
+        subst (WalkAt (walked a) (a .args .k) (a .args .resumes) (a .args .chosen)) (sym (c .next .ensures ∙ next-is l))
+        (come-next (walking a) (l .before .loop .g) (reached l) (inside l)
+        (ap (onward (walked a) (a .args .k) (a .args .chosen)) (sym (is-g l))
+        ∙ sym (tried .attempt .ensures)
+        ∙ ap (λ (b : Bool). answer b (take (length (a .args .members .now)) (tried .attempt .result .tuples))) (c .before .before .if1 .left)))
+
+    further-on : (l₀ : ℕ) → l₀ ≡ looped .before .loop .g → l₀ < c .next .result
+    further-on l₀ e =
+        let l = looped in
+        let f = nextLive-first (begun l .args .words .now) (l .before .loop .g + 1) (way (begun l) .end) (omega (arith, inside l)) in
+        omega (arith, f .from-i, c .next .ensures, next-is l, e)
+
+  walk-attempt-requires : walk-lts.Need-attempt-requires (walk-callees t) (walk-at t) walk.Post walk-Inv-loop walk-μ-loop
+  walk-attempt-requires l κs =
+      let a = begun l in (
+        omega (arith, a .pre .0),
+        (
+          a .pre .1 .0 .0,
+          record {
+            turn = at a;
+            from-start = omega (arith, is-g l, reached l .from-start);
+            to-end = omega (arith, is-g l, inside l);
+            lives = subst (λ (g : ℕ). isLive (a .args .words .now) g ≡ true) (sym (is-g l)) (reached l .lives (inside l));
+          },
+        ),
+      )
+
+  walk-returns : walk-lts.Need-returns (walk-callees t) (walk-at t) walk.Post walk-Inv-loop walk-μ-loop
+  walk-returns c =
+      let u = c .before .before in
+      let l = u .before in
+      let a = begun l in
+      let ts = take (length (a .args .members .now)) (u .attempt .result .tuples) in
+      record {
+        found =
+            λ e.
+            come-found (walking a) (l .before .loop .g) (reached l) (inside l) ts
+            (ap (onward (walked a) (a .args .k) (a .args .chosen)) (sym (is-g l)) ∙ sym (u .attempt .ensures) ∙ ap (λ (b : Bool). answer b ts) (c .if1 .taken));
+        on = λ e. absurd (not-both refl e);
+        whole = λ e. absurd (not-both refl e);
+      }
+
+  walk-loop-holds : walk-lts.Need-loop-holds (walk-callees t) (walk-at t) walk.Post walk-Inv-loop walk-μ-loop
+  walk-loop-holds c = let a = c .before .before .before .before .before .before in (a .pre .1 .1, omega arith)
+
+  walk-loop-again : walk-lts.Need-loop-again (walk-callees t) (walk-at t) walk.Post walk-Inv-loop walk-μ-loop
+  walk-loop-again c =
+      let n = c .before .before in
+      (further n, omega (arith, looped n .before .loop .inv .1, further-on n (looped n .before .loop .g) refl))
+
+  walk-loop-less : walk-lts.Need-loop-less (walk-callees t) (walk-at t) walk.Post walk-Inv-loop walk-μ-loop
+  walk-loop-less c =
+      let n = c .before .before in
+      let l = looped n in
+      omega (arith, further-on n (l .before .loop .g) refl, further n .to-end, end-is l, l .loop-test .taken)
+
+-- ---- search
+
+module _ (t : ℕ) where
+  abbrev Searching : Type 0
+  Searching = search-lts.Start (search-callees t) (search-at t) search′.Post
+
+  module _ (a : Searching) where
+    abbrev sent : Search
+    sent = searchOn (a .args .variables .now) (a .args .values .now) (a .args .starts .now) (a .args .words .now) (a .args .members .now) (a .args .place) (a .args .own) (a .args .t9)
+
+    abbrev asked : SearchAt sent (a .args .index .now) (a .args .k) (a .args .resumes) (a .args .chosen)
+    asked = a .pre .1 .1
+
+    abbrev sound : SoundSearch sent
+    sound = asked .seeking .sound
+
+    abbrev path : Span
+    path = span sent (a .args .k) (a .args .resumes)
+
+    chosen-sized : length (a .args .chosen) ≡ 4
+    chosen-sized = good-length (eInt w16) 4 (a .args .chosen) _ (a .good .1 .1 .1 .1 .1 .1 .1 .1 .1 .1 .1 .0)
+
+    bound-sized : length (a .args .t9) ≡ 4
+    bound-sized = good-length (eInt w16) 4 (a .args .t9) _ (a .good .1 .1 .1 .1 .1 .1 .1 .1 .0)
+
+    going : Turn sent (a .args .k) (a .args .resumes) (a .args .chosen) (path .first) (path .start) (path .end)
+    going = turn-of sent (a .args .index .now) (a .args .k) (a .args .resumes) (a .args .chosen) asked chosen-sized bound-sized
+
+  module _ (n : search-lts.After-next (search-callees t) (search-at t) search′.Post) where
+    abbrev spanned : search-lts.After-span-of (search-callees t) (search-at t) search′.Post
+    spanned = n .before .before
+
+    abbrev entered : Searching
+    entered = spanned .before .before .before .before .before
+
+    start-is : spanned .span-of .result .start ≡ path entered .start
+    start-is = ap (λ (s : Span). s .start) (spanned .span-of .ensures)
+
+    stop-is : spanned .span-of .result .end ≡ path entered .end
+    stop-is = ap (λ (s : Span). s .end) (spanned .span-of .ensures)
+
+    begins : WalkAt (sent entered) (entered .args .k) (entered .args .resumes) (entered .args .chosen) (n .next .result)
+    begins =
+        let a = entered in
+        subst (WalkAt (sent a) (a .args .k) (a .args .resumes) (a .args .chosen))
+        (sym (n .next .ensures ∙ ap (λ (i : ℕ). nextLive (a .args .words .now) i (spanned .span-of .result .end)) start-is ∙ ap (nextLive (a .args .words .now) (path a .start)) stop-is))
+        (come-first (going a))
+
+  -- the members from k on, narrowed through each other
+  module _ (p : search-lts.After-spread-members (search-callees t) (search-at t) search′.Post) where
+    abbrev stopped : search-lts.Else2 (search-callees t) (search-at t) search′.Post
+    stopped = p .before .before .before .before
+
+    abbrev first-walk : search-lts.After-walk (search-callees t) (search-at t) search′.Post
+    first-walk = stopped .before .before .before
+
+    abbrev input : Searching
+    input = entered (first-walk .before)
+
+    abbrev fewest : List ℕ
+    fewest = p .spread-members .last .1 .1 .1 .1 .0
+
+    abbrev thinner : Search
+    thinner = onWords (sent input) fewest
+
+    -- what there is to find is the same
+    same : sought thinner (input .args .k) (input .args .chosen) ≡ sought (sent input) (input .args .k) (input .args .chosen)
+    same = turn-sought (sent input) fewest (input .args .k) (p .spread-members .ensures .0) (p .spread-members .ensures .1 .0) (sound input) (asked input .inside) (input .args .resumes) (input .args .chosen) (asked input .prefix)
+
+    came : WalkAt (sent input) (input .args .k) (input .args .resumes) (input .args .chosen) (first-walk .walk .result .at)
+    came = first-walk .walk .ensures .on (stopped .before .if1 .left)
+
+    thinner-at : SearchAt thinner (input .args .index .now) (input .args .k) (input .args .resumes) (input .args .chosen)
+    thinner-at =
+        let a = input in
+        let f = p .spread-members .ensures in
+        record {
+          seeking = record { sound = turn-sound (sent a) fewest (a .args .k) (f .0) (f .1 .0) (sound a) (asked a .inside) (a .args .resumes) (a .args .chosen) (asked a .prefix); indexed = asked a .seeking .indexed };
+          prefix = turn-prefix (sent a) fewest (a .args .k) (f .0) (f .1 .0) (sound a) (asked a .inside) (a .args .resumes) (a .args .chosen) (asked a .prefix);
+          lives = turn-lives (sent a) fewest (a .args .k) (f .0) (f .1 .0) (sound a) (asked a .inside) (a .args .resumes) (a .args .chosen) (asked a .prefix) (asked a .lives);
+          inside = asked a .inside;
+          other = asked a .other;
+        }
+
+    -- the walk goes on over them
+    goes-on : WalkAt thinner (input .args .k) (input .args .resumes) (input .args .chosen) (nextLive fewest (first-walk .walk .result .at) (path input .end))
+    goes-on =
+        let a = input in
+        let f = p .spread-members .ensures in
+        come-live (turn-of thinner (a .args .index .now) (a .args .k) (a .args .resumes) (a .args .chosen) thinner-at (chosen-sized a) (bound-sized a))
+        (first-walk .walk .result .at) (came .from-start) (came .to-end)
+        (turn-left (sent a) fewest (a .args .k) (f .0) (f .1 .0) (sound a) (asked a .inside) (a .args .resumes) (a .args .chosen) (asked a .prefix) (first-walk .walk .result .at) (came .from-start)
+        ∙ came .rest
+        ∙ sym same)
+
+  search-steps-between-requires : search-lts.Need-steps-between-requires (search-callees t) (search-at t) search′.Post
+  search-steps-between-requires c κs =
+      let a = entered (c .before .before .before .before .before) in
+      (a .pre .1 .0, (sound a .laid .framed, (sound a .few, λ j h. member-below (sent a) (sound a) j h)))
+
+  search-spread-members-requires : search-lts.Need-spread-members-requires (search-callees t) (search-at t) search′.Post
+  search-spread-members-requires c κs =
+      let a = entered (c .before .before .before .before .before .before .before) in
+      (a .pre .1 .0, ((record { laid = sound a .laid; indexed = asked a .seeking .indexed }, record { proper = sound a .members; few = sound a .few }), sound a .place))
+
+  search-next-requires-2 : search-lts.Need-next-requires-2 (search-callees t) (search-at t) search′.Post
+  search-next-requires-2 c κs =
+      let p = c .before .before in
+      let a = input p in
+      let e = stop-is (first-walk p .before) in
+      let few = walk-asks (going a) (path a .start) (omega arith) (walk-forward (going a)) .2 in
+      (omega (arith, came p .to-end, e), omega (arith, p .spread-members .ensures .0, few, e), omega (arith, few, e))
+
+  search-walk-requires-2 : search-lts.Need-walk-requires-2 (search-callees t) (search-at t) search′.Post
+  search-walk-requires-2 c κs =
+      let x = c .before in
+      let p = x .before .before .before in
+      let a = input p in (
+        omega (arith, a .pre .0),
+        (
+          (p .spread-members .ensures .0, thinner-at p),
+          subst (WalkAt (thinner p) (a .args .k) (a .args .resumes) (a .args .chosen))
+              (sym (x .next2 .ensures ∙ ap (nextLive (fewest p) (first-walk p .walk .result .at)) (stop-is (first-walk p .before))))
+              (goes-on p),
+        ),
+      )
+
+  -- an endless walk has found what there is to find, or nothing is left
+  ended : (c : search-lts.After-walk2 (search-callees t) (search-at t) search′.Post) → (ok : Bool) → c .walk2 .result .ok ≡ ok →
+      let p = c .before .before .before .before .before in
+      answer ok (take (length (input p .args .members .now)) (c .walk2 .result .tuples)) ≡ sought (thinner p) (input p .args .k) (input p .args .chosen)
+  ended c true e = sym (c .walk2 .ensures .found e)
+  ended c false e =
+      let p = c .before .before .before .before .before in
+      let a = input p in
+      sym (come-none (turn-of (thinner p) (a .args .index .now) (a .args .k) (a .args .resumes) (a .args .chosen) (thinner-at p) (chosen-sized a) (bound-sized a)) (c .walk2 .result .at) (c .walk2 .ensures .on e) (c .walk2 .ensures .whole e refl))
+
+pub +attempt+search+walk-spec : {M : Type 1} → statement M
++attempt+search+walk-spec =
+    close μ-attempt μ-search μ-walk
+    (λ t. attempt-lts.spec (attempt-callees t) (attempt-at t) attempt.Post
+    (λ c. let a = c .before .before .before in omega (arith, ready t a .few, turn t a .inside))
+    (λ c. let a = c .before .before .before .before in turn t a .inside)
+    (λ c. let a = c .before .before .before .before in omega (arith, ready t a .few, turn t a .inside))
+    (λ c. let a = c .before .before .before .before in omega (arith, ready t a .few, turn t a .inside))
+    (λ c. let a = c .before .before .before .before in omega (arith, ready t a .few, turn t a .inside))
+    (λ c κs. let a = c .before .before .before .before in omega (arith, ready t a .place, ready t a .few))
+    (λ c κs. let a = c .before .before .before .before .before .before .before in trial (turn t a) (a .args .x) (a .pre .1 .1 .from-start) (a .pre .1 .1 .to-end))
+    (λ c.
+    let b = c .before .before .before in
+    let a = b .before .before .before .before .before in
+    last t a (b .past-own .result) (b .past-own .ensures) (c .before .if1 .taken) (c .fits2 .result) (c .fits2 .ensures))
+    (attempt-narrow-members-requires t)
+    (λ c κs. let a = start t (c .before) in trial (turn t a) (a .args .x) (a .pre .1 .1 .from-start) (a .pre .1 .1 .to-end))
+    (λ c. let a = start t (c .before .before .before .before) in omega (arith, ready t a .few, turn t a .inside))
+    (λ c. let a = start t (c .before .before .before .before) in omega (arith, ready t a .few, turn t a .inside))
+    (attempt-search-requires t)
+    (attempt-returns-2 t)
+    (λ c. sym (clash t (start t (c .before .before .before)) (sym (c .before .fits3 .ensures) ∙ c .if3 .left)))
+    (λ c. sym (nowhere t (c .before) (c .if2 .left) (fit t (start t (c .before))) refl)))
+    (λ t. search-lts.spec (search-callees t) (search-at t) search′.Post
+    (λ c. let a = c .before .before .before in omega (arith, sound t a .few, asked t a .inside))
+    (λ c. asked t (c .before .before .before .before) .inside)
+    (λ c. let a = c .before .before .before .before in omega (arith, sound t a .few, asked t a .inside))
+    (λ c. let a = c .before .before .before .before in omega (arith, sound t a .few, asked t a .inside))
+    (λ c κs. let a = c .before .before .before .before in span-asks (sent t a) (a .args .k) (sound t a) (asked t a .inside))
+    (λ c κs.
+    let a = c .before .before .before .before .before .before in
+    let s = ap (λ (s : Span). s .start) (c .before .span-of .ensures) in
+    let e = ap (λ (s : Span). s .end) (c .before .span-of .ensures) in
+    let k = walk-asks (going t a) (path t a .start) (omega arith) (walk-forward (going t a)) in
+    (omega (arith, s, e, k .0), omega (arith, e, k .1), omega (arith, e, k .2)))
+    (λ c κs. let a = entered t c in (omega (arith, a .pre .0), ((a .pre .1 .0, asked t a), begins t c)))
+    (λ c. sym (c .before .before .walk .ensures .found (c .if1 .taken)))
+    (λ c.
+    let w = c .before .before .before in
+    let n = w .before in
+    sym (come-none (going t (entered t n)) (w .walk .result .at) (w .walk .ensures .on (c .before .if1 .left)) (omega (arith, c .if2 .taken, stop-is t n))))
+    (search-steps-between-requires t)
+    (search-spread-members-requires t)
+    (λ c. let p = c .before in let a = input t p in sym (sym (same t p) ∙ sought-none (sent t a) (fewest t p) (a .args .k) (a .args .chosen) (p .spread-members .ensures .1 .1 (not-true _ (c .if3 .taken)))))
+    (λ c. search needs)
+    (search-next-requires-2 t)
+    (search-walk-requires-2 t)
+    (λ c. ended t (c .before) (c .before .walk2 .result .ok) refl ∙ same t (c .before .before .before .before .before .before)))
+    λ t. walk-lts.spec (walk-callees t) (walk-at t) walk.Post walk-Inv-loop walk-μ-loop
+    (λ c. let a = c .before .before .before in omega (arith, walking t a .ready .few, walking t a .inside))
+    (λ c. let a = c .before .before .before .before in walking t a .inside)
+    (λ c κs. let a = c .before .before .before .before in omega (arith, span-asks (walked t a) (a .args .k) (walking t a .ready) (walking t a .inside) .0))
+    (λ c. let a = c .before .before .before .before .before in omega (arith, span-asks (walked t a) (a .args .k) (walking t a .ready) (walking t a .inside) .0))
+    (λ c κs. let a = c .before .before .before .before .before in omega (arith, span-asks (walked t a) (a .args .k) (walking t a .ready) (walking t a .inside) .0))
+    (walk-loop-holds t)
+    (λ l. omega (arith, first-is t l, from-first t l))
+    (walk-attempt-requires t)
+    (walk-returns t)
+    (λ c. let l = c .before .before .before .before in omega (arith, inside t l, asks t l (l .before .loop .g) (reached t l .from-start) (reached t l .to-end) .2))
+    (λ c κs. let l = c .before .before .before .before in let k = asks t l (l .before .loop .g + 1) (omega (arith, reached t l .from-start)) (omega (arith, inside t l)) in (omega (arith, end-is t l, k .0), omega (arith, end-is t l, k .1), omega (arith, end-is t l, k .2)))
+    (λ c. let n = c in omega (arith, looped t n .before .loop .inv .1, inside t (looped t n), asks t (looped t n) (looped t n .before .loop .g) (reached t (looped t n) .from-start) (reached t (looped t n) .to-end) .2))
+    (λ c κs. search needs)
+    (λ c. record { found = λ e. absurd (not-both e refl); on = λ e. further t (c .before .before); whole = λ e q. absurd (not-both (c .if2 .taken) (c .before .stops .ensures q)) })
+    (walk-loop-less t)
+    (walk-loop-again t)
+    (λ c. record { found = λ e. absurd (not-both e refl); on = λ e. c .before .loop .inv .0; whole = λ e q. omega (arith, c .loop-test .left, c .before .before .tuple-start2 .ensures) })
