@@ -10,7 +10,7 @@ ghost use Rattle.model.specs.LiveWords.{isSet};
 ghost use Rattle.layout.specs.Loan.{entry};
 ghost use Rattle.layout.specs.Starts.{recordsIn};
 ghost use Rattle.layout.specs.Setting.{lists, networkIn, setting, SoundLists};
-ghost use Rattle.doubles.specs.Alike.{TupleAt, Alike, PairAt, Common};
+ghost use Rattle.doubles.specs.Alike.{TupleAt, Alike, MembersIn, CoversFrom, PairAt, Common};
 use combination::mask_of;
 use layout::Starts;
 use layout::place_of;
@@ -41,6 +41,29 @@ fn variables_of(variables: &[u16], values: &[Value], starts: &Starts, r: u16) ->
     mask_of(&variables[scope..scope_end])
 }
 
+// The set of all variables that the members from `from` on have, but for the one at `place`.
+pub fn variables_from(
+    variables: &[u16],
+    values: &[Value],
+    starts: &Starts,
+    members: &[u16],
+    place: usize,
+    from: usize,
+) -> u64
+    requires { ⌜ MembersIn (lists now variables values starts) (now members) ⌝ }
+    ensures { λ w. ⌜ CoversFrom (networkIn (lists entry variables values starts)) (entry members) place from (isSet w) ⌝ }
+{
+    let mut common: u64 = 0;
+    let mut j = from;
+    while j < members.len() {
+        if j != place {
+            common = common | variables_of(variables, values, starts, members[j]);
+        }
+        j += 1;
+    }
+    common
+}
+
 // The set of all variables that the members of pair p's combination have, but for its own member.
 pub fn variables_of_others(
     variables: &[u16],
@@ -54,18 +77,16 @@ pub fn variables_of_others(
     ensures { λ w. ⌜ Common (setting entry variables values starts members m) p w ⌝ }
 {
     let each = wide(m);
-    let pair = wide(p);
-    let base = pair / each * each;
-    let place = pair % each;
-    let mut common: u64 = 0;
-    let mut j = 0;
-    while j < each {
-        if j != place {
-            common = common | variables_of(variables, values, starts, members[base + j]);
-        }
-        j += 1;
-    }
-    common
+    let base = wide(p) / each * each;
+    let end = base + each;
+    variables_from(
+        variables,
+        values,
+        starts,
+        &members[base..end],
+        wide(p) % each,
+        0,
+    )
 }
 
 // ---- Whether two tuples have the same values

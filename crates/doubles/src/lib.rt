@@ -1,35 +1,24 @@
-// Doubles of a pair's other members: live tuples for which an earlier live one of the same relation can stand in, in every support. They are
-// found by a table of tuples, at the hash of their values.
+// Doubles: tuples of a relation with the same values under a set of variables. They are found by a table of tuples, at the hash of their values.
 ghost use mathlib.Core.Path.{_≡_};
 ghost use Prim.Native.Nat.{_<_};
 ghost use lib.ListN.{length};
 ghost use Rattle.layout.specs.Loan.{entry, exit};
-ghost use Rattle.layout.specs.Setting.{lists, setting};
-ghost use Rattle.doubles.specs.Alike.{TupleAt, PairAt};
-ghost use Rattle.doubles.specs.Doubles.{places, hashBound, Table, Tried, RelationAt, ThinsRelation, MemberAt, ThinsMember, Thinned};
+ghost use Rattle.layout.specs.Setting.{lists};
+ghost use Rattle.doubles.specs.Alike.{TupleAt};
+ghost use Rattle.doubles.specs.Doubles.{places, hashBound, FirstAlike};
 use alike::has_variable;
 use alike::same_values;
-use alike::variables_of_others;
 use layout::Starts;
 use layout::place_of;
-use layout::tuple_start;
-use layout::wide;
-use live::Words;
-use live::clear;
-use live::next;
 use model::Value;
 
 pub mod alike; // which tuples have the same values
 
-// The entries of the table, and one that no tuple has.
+// The entries of a table.
 pub const PLACES: usize = 2048;
 
-const FREE: u16 = 65535;
-
-// By the hash of its values, an index in the relation.
-type Table = [u16; PLACES];
-
-// ---- The table
+// By the hash of its values, the index of the first tuple that was entered, or 65,535.
+pub type Table = [u16; PLACES];
 
 // The hash of the values so far and of one more.
 fn mixed(hash: u64, value: Value) -> u64
@@ -56,7 +45,7 @@ fn hash_in(scope: &[u16], tuple: &[Value], common: u64) -> usize
 }
 
 // The place of tuple x of relation r.
-pub fn tuple_hash(
+fn tuple_hash(
     variables: &[u16],
     values: &[Value],
     starts: &Starts,
@@ -79,9 +68,9 @@ pub fn tuple_hash(
     )
 }
 
-// The tuple before x that has its place in the table, if it has x's values under every variable of the set, and otherwise x. Where the
-// place is free x has it.
-fn first_alike(
+// The tuple before x that is entered at the hash of x's values, if it has x's values under the variables of the set; x otherwise, which is
+// entered if no tuple before it is.
+pub fn first_alike(
     variables: &[u16],
     values: &[Value],
     starts: &Starts,
@@ -90,108 +79,17 @@ fn first_alike(
     x: u16,
     common: u64,
 ) -> u16
-    requires { ⌜ TupleAt (lists now variables values starts) r x × Table (now table) x ⌝ }
-    ensures { λ y. ⌜ Tried (lists entry variables values starts) common r x (entry table) y (exit table) ⌝ }
+    requires { ⌜ TupleAt (lists now variables values starts) r x × (length (now table) ≡ places) ⌝ }
+    ensures { λ y. ⌜ FirstAlike (lists entry variables values starts) common r x (entry table) y (exit table) ⌝ }
 {
-    let k = tuple_hash(variables, values, starts, r, x, common);
-    let y = table[k];
-    if y == FREE {
-        table[k] = x;
+    let class = tuple_hash(variables, values, starts, r, x, common);
+    let y = table[class];
+    if x <= y {
+        table[class] = x;
         return x;
     }
     if !same_values(variables, values, starts, r, x, y, common) {
         return x;
     }
     y
-}
-
-// ---- The doubles
-
-// Of relation r's live tuples those fall, in `thin`, that have an earlier one's values under every variable of the set.
-fn thin_relation(
-    variables: &[u16],
-    values: &[Value],
-    starts: &Starts,
-    words: &Words,
-    thin: &mut Words,
-    r: u16,
-    common: u64,
-)
-    requires { ⌜ RelationAt (lists now variables values starts) r (now words) (now thin) ⌝ }
-    ensures { λ _. ⌜ ThinsRelation (lists entry variables values starts) common r (entry words) (entry thin) (exit thin) ⌝ }
-{
-    let first = tuple_start(starts, r);
-    let end = tuple_start(starts, r + 1);
-    let mut table = [FREE; PLACES];
-    let mut g = next(words, first, end);
-    while g < end {
-        let x = g - first;
-        let y = first_alike(variables, values, starts, &mut table, r, x, common);
-        if y < x {
-            clear(thin, first + x);
-        }
-        g = next(words, g + 1, end);
-    }
-}
-
-// The same of pair q's member, under the variables that the other members of its combination have.
-fn thin_member(
-    variables: &[u16],
-    values: &[Value],
-    starts: &Starts,
-    members: &[u16],
-    m: u16,
-    words: &Words,
-    thin: &mut Words,
-    q: u16,
-)
-    requires { ⌜ MemberAt (setting now variables values starts members m) q (now words) (now thin) ⌝ }
-    ensures { λ _. ⌜ ThinsMember (setting entry variables values starts members m) q (entry words) (entry thin) (exit thin) ⌝ }
-{
-    let common = variables_of_others(variables, values, starts, members, m, q);
-    thin_relation(
-        variables,
-        values,
-        starts,
-        words,
-        thin,
-        members[wide(q)],
-        common,
-    );
-}
-
-// The live words without the doubles of the other members of pair p's combination: the first support of each live tuple of its own member is
-// the same among them.
-pub fn thinned(
-    variables: &[u16],
-    values: &[Value],
-    starts: &Starts,
-    members: &[u16],
-    m: u16,
-    p: u16,
-    words: &Words,
-) -> Words
-    requires { ⌜ PairAt (setting now variables values starts members m) p × (length (now words) ≡ 64) ⌝ }
-    ensures { λ thin. ⌜ Thinned (setting entry variables values starts members m) p (entry words) thin ⌝ }
-{
-    let base = p / m * m;
-    let place = p % m;
-    let mut thin = *words;
-    let mut j = 0;
-    while j < m {
-        if j != place {
-            thin_member(
-                variables,
-                values,
-                starts,
-                members,
-                m,
-                words,
-                &mut thin,
-                base + j,
-            );
-        }
-        j += 1;
-    }
-    thin
 }

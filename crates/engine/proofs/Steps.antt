@@ -35,7 +35,8 @@ use Rattle.layout.specs.Pairs.{combinationOf, sizeOf, tupleId, placeOf, held}
 use Rattle.engine.specs.Work.{Bound, Working, Rest}
 use Rattle.layout.proofs.Pairs.{combination-listed, combination-length, combination-rises, tuple-relation, tuple-in, place-within, places-apart, place-below}
 use Rattle.worklist.specs.Supports.{Supported, Done}
-use Rattle.twins.specs.Twins.{Entered, Noted}
+use Rattle.doubles.specs.Doubles.{Entered}
+use Rattle.twins.specs.Twins.{Noted}
 use Rattle.twins.proofs.Sought.{noted-next}
 
 -- every word fits in 64 bits

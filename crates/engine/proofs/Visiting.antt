@@ -22,7 +22,8 @@ use Rattle.layout.specs.Pairs.{sizeOf, tupleId}
 use Rattle.engine.specs.Work.{Working, Rest, Renewed, Visited}
 use Rattle.engine.proofs.Steps.{Small, kept-length, kept-beyond, kept-rest, kept-working, kept-done, done-skip, removed-count, removed-working, removed-shrunk, removed-rest, removed-done, kept-noted, removed-noted}
 use Rattle.worklist.specs.Supports.{Done}
-use Rattle.twins.specs.Twins.{Entered, Noted}
+use Rattle.doubles.specs.Doubles.{Entered}
+use Rattle.twins.specs.Twins.{Noted}
 
 -- The visit of pair p has done the first k tuples of its member: what it has kept, and what it has made of the queue, words
 -- and numbers that it began with.

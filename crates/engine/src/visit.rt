@@ -4,9 +4,10 @@ ghost use Rattle.layout.specs.Setting.{setting};
 ghost use Rattle.narrowing.specs.Narrows.{Long};
 ghost use Rattle.live.specs.Words.{WordArray};
 ghost use Rattle.spreading.specs.Spread.{PairNumbers};
-ghost use Rattle.twins.specs.Twins.{Entered};
+ghost use Rattle.doubles.specs.Doubles.{Entered};
 ghost use Rattle.engine.specs.Work.{SeekAt, RenewAt, Renewed, VisitAt, Visited};
 use doubles::PLACES;
+use doubles::Table;
 use doubles::alike::variables_of_others;
 use layout::Starts;
 use layout::tuple_start;
@@ -19,7 +20,6 @@ use model::NO_SUPPORT;
 use model::Value;
 use spreading::steps::steps_of_pair;
 use support::first_support;
-use twins::Sought;
 use twins::Twin;
 use twins::take_twin;
 use value_index::Index;
@@ -98,7 +98,7 @@ fn replace(
     m: u16,
     words: &mut Words,
     numbers: &mut [u16],
-    sought: &mut Sought,
+    sought: &mut Table,
     p: u16,
     x: u16,
     at: usize,
@@ -158,7 +158,7 @@ pub fn renew(
     m: u16,
     words: &mut Words,
     numbers: &mut [u16],
-    sought: &mut Sought,
+    sought: &mut Table,
     p: u16,
     x: u16,
     at: usize,

@@ -17,7 +17,6 @@ pub mod Work
 pub mod Twins
 pub mod Solution
 pub mod Locality
-pub mod Doubles
 pub mod Reply
 pub mod Edges
 pub mod Calls

@@ -20,7 +20,7 @@ use Rattle.model.specs.Combination.{Combination}
 use Rattle.model.specs.LiveWords.{living, nextLive}
 use Rattle.model.specs.Support.{candidates, isSupport, supports, firstSupport, firstAmong, supportFrom, completion}
 use Rattle.model.proofs.Bools.{not-both, and-intro, iff-eq}
-use Rattle.model.proofs.Lists.{here, all-at, all-intro, all-map, pairwise-at, pairwise-cross, Picks, choices-picks, picks-at, picks-append, select-append, select-all, select-mem, mem-select, select-none, head-append, head-mem, head-none, firstOr-head, from-append, from-mem, earlier-append, earlier-within, earlier-least, later-earlier, any-at, any-intro}
+use Rattle.model.proofs.Lists.{here, all-at, all-intro, all-map, pairwise-at, pairwise-cross, Picks, choices-picks, picks-choices, picks-at, picks-append, select-append, select-all, select-mem, mem-select, select-none, head-append, head-mem, head-none, firstOr-head, from-append, from-mem, earlier-append, earlier-within, earlier-least, later-earlier, any-at, any-intro}
 use Rattle.model.proofs.Agreement.{agree-sym}
 use Rattle.model.proofs.LiveWords.{living-has, nextLive-first}
 use Rattle.model.proofs.Support.{isSupport-self, isSupport-live, isSupport-agree, isSupport-mono, picks-same, candidates-length, candidates-own, Supported, firstSupport-least}
@@ -80,7 +80,7 @@ module _ (N : Network) (S : TupleSet) (g : ℕ) (low : List ℕ) where
   -- ---- When nothing can be found
 
   -- no support goes on from ch
-  completion-hopeless : (ch : List ℕ) (xss : List (List ℕ)) → ((t : List ℕ) → Picks xss t → isSupport N S g (ch ++ t) ≡ true → earlier (map (indexOf N) (ch ++ t)) low ≡ false → ⊥) → completion N S g low ch xss ≡ none
+  pub completion-hopeless : (ch : List ℕ) (xss : List (List ℕ)) → ((t : List ℕ) → Picks xss t → isSupport N S g (ch ++ t) ≡ true → earlier (map (indexOf N) (ch ++ t)) low ≡ false → ⊥) → completion N S g low ch xss ≡ none
   unfolding completion
   completion-hopeless ch xss f =
       firstAmong-none (map (λ (t : List ℕ). ch ++ t) (choices xss))
@@ -88,6 +88,14 @@ module _ (N : Network) (S : TupleSet) (g : ℕ) (low : List ℕ) where
       let k = Memᴰ·of-map (λ (t : List ℕ). ch ++ t) (choices xss) m in
       f (k .0) (choices-picks xss (k .1))
       (ap (isSupport N S g) (k .2) ∙ s) (ap (λ (t : List ℕ). earlier (map (indexOf N) t) low) (k .2) ∙ l))
+
+  -- where nothing is found, none does
+  pub completion-nothing : (ch : List ℕ) (xss : List (List ℕ)) → completion N S g low ch xss ≡ none → (t : List ℕ) → Picks xss t → isSupport N S g (ch ++ t) ≡ true → earlier (map (indexOf N) (ch ++ t)) low ≡ false → ⊥
+  unfolding completion firstAmong
+  completion-nothing ch xss e t p s l =
+      let ts = map (λ (t : List ℕ). ch ++ t) (choices xss) in
+      head-none (select late (named ts)) e
+      (mem-select late (named ts) (Memᴰ·map (map (indexOf N)) (mem-select (isSupport N S g) ts (Memᴰ·map (λ (t : List ℕ). ch ++ t) (picks-choices p)) s)) (ap not l))
 
   -- a tuple chosen is dead
   pub completion-dead : (ch : List ℕ) (xss : List (List ℕ)) {x : ℕ} → List·Memᴰ x ch → has S x ≡ false → completion N S g low ch xss ≡ none

@@ -6,7 +6,6 @@ pub mod Agreement
 pub mod TupleSet
 pub mod Combination
 pub mod Support
-pub mod Doubles
 pub mod Consistency
 pub mod Solution
 pub mod LiveWords

@@ -6,3 +6,4 @@ pub mod Own
 pub mod Turn
 pub mod Ends
 pub mod Narrow
+pub mod Failed

@@ -64,7 +64,7 @@ module _ {Q : Search} {k : ℕ} {resumes : Bool} {chosen : List ℕ} {first begi
   abbrev later : List (List ℕ)
   later = map (idsOf (netOf Q)) (drop (suc k) (Q .members))
 
-  first-id : first ≡ firstId (netOf Q) (getD (Q .members) k 0)
+  pub first-id : first ≡ firstId (netOf Q) (getD (Q .members) k 0)
   first-id = T .is-first ∙ member-start Q R k inside
 
   stop-total : stop ≤ total (netOf Q)
@@ -150,7 +150,7 @@ module _ {Q : Search} {k : ℕ} {resumes : Bool} {chosen : List ℕ} {first begi
         }
 
     -- it is another tuple than the seeking one
-    id-other : seeker Q ≡ first + x → ⊥
+    pub id-other : seeker Q ≡ first + x → ⊥
     id-other e =
         members-apart Q R k (Q .place) inside (R .place) (T .other)
         (sym (relationOf-at (netOf Q) (getD (Q .members) k 0) x index-below)

@@ -47,7 +47,7 @@ module _ (Q : Search) (R : SoundSearch Q) where
     abbrev rel : ℕ
     rel = getD (Q .members) j 0
 
-    exists : rel < length (netOf Q .relations)
+    pub exists : rel < length (netOf Q .relations)
     exists =
         ltb-true rel (length (netOf Q .relations))
         (all-getD (λ (r : ℕ). ltb r (length (netOf Q .relations))) (Q .members) j 0

@@ -2,6 +2,7 @@
 use mathlib.Core.Path.{_≡_}
 use mathlib.Core.Bool.{Bool, true, false, cond}
 use mathlib.Core.Option.{Option, none, some}
+use mathlib.Core.Logic.{_⊎_}
 use mathlib.Core.List.{List, [], _∷_, _++_, map}
 use Prim.Native.Nat.{ℕ, suc, _+_, _-_, _*_, _≤_, _<_}
 use lib.Dec.{eqb}
@@ -18,6 +19,8 @@ use Rattle.model.specs.Fault.{properMembers}
 use Rattle.layout.specs.Starts.{tupleStart}
 use Rattle.layout.specs.Setting.{Lists, lists, networkIn, SoundLists}
 use Rattle.value_index.specs.Index.{Indexed}
+use Rattle.doubles.specs.Alike.{Alike}
+use Rattle.doubles.specs.Doubles.{Entered}
 use Rattle.support.specs.declared.Found.{Found}
 use Rattle.support.specs.declared.Span.{Span}
 use Rattle.support.specs.declared.Stage.{Stage}
@@ -173,8 +176,24 @@ pub record WalkAt (Q : Search) (k : ℕ) (resumes : Bool) (chosen : List ℕ) (g
   pub lives : g < span Q k resumes .end → isLive (Q .words) g ≡ true
   pub rest : left Q k resumes chosen g ≡ sought Q k chosen
 
--- A walk that found something found what there is to find; another one has come to an id, an endless one to the end.
-pub record Walks (Q : Search) (k : ℕ) (resumes : Bool) (chosen : List ℕ) (endless : Bool) (w : Walked) : Type 0 where
+-- A walk that found something found what there is to find; another one has come to an id.
+pub record Walks (Q : Search) (k : ℕ) (resumes : Bool) (chosen : List ℕ) (w : Walked) : Type 0 where
   pub found : w .ok ≡ true → sought Q k chosen ≡ some (take (length (Q .members)) (w .tuples))
   pub on : w .ok ≡ false → WalkAt Q k resumes chosen (w .at)
-  pub whole : w .ok ≡ false → endless ≡ true → span Q k resumes .end ≤ w .at
+
+-- ---- Tuples that failed
+
+-- An entry y before x, with x's values under the variables of the set.
+pub record Repeats (L : Lists) (set r x : ℕ) (table : List ℕ) : Type 0 where
+  pub i : ℕ
+  pub inside : i < length table
+  pub before : getD table i 0 < x
+  pub alike : Alike L set r x (getD table i 0)
+
+-- Tuple x of member k may lead to a support only if it fits; if it fits and may not, it is not the one at which the search resumes, and repeats
+-- an entry. It is entered only if it fits and is not that one.
+pub record MayLead (L : Lists) (c : Combination) (place own k : ℕ) (chosen : List ℕ) (x set : ℕ) (resumed : Bool) (before : List ℕ) (b : Bool) (after : List ℕ) : Type 0 where
+  pub entered : Entered x before after
+  pub same : (fits (networkIn L) c place own k chosen x ≡ false) ⊎ (resumed ≡ true) → after ≡ before
+  pub right : b ≡ true → fits (networkIn L) c place own k chosen x ≡ true
+  pub wrong : b ≡ false → fits (networkIn L) c place own k chosen x ≡ true → (resumed ≡ false) × Repeats L set (getD c k 0) x before

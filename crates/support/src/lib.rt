@@ -1,20 +1,26 @@
 // The first support of a tuple, sought member by member with forward checking: after each choice the members still to come are narrowed to
 // the tuples that may agree with it.
 ghost use mathlib.Core.Path.{_≡_};
-ghost use mathlib.Core.Bool.{true, false};
 ghost use Prim.Native.Nat.{_+_, _<_};
 ghost use Rattle.model.specs.Limits.{maxRelations, maxMembers};
-ghost use Rattle.layout.specs.Loan.{entry};
+ghost use lib.ListN.{length};
+ghost use Rattle.doubles.specs.Doubles.{places};
+ghost use Rattle.layout.specs.Loan.{entry, exit};
 ghost use Rattle.layout.specs.Starts.{tupleStart};
 ghost use Rattle.layout.specs.Setting.{lists, networkIn};
 ghost use Rattle.narrowing.specs.Narrows.{Long};
-ghost use Rattle.support.specs.Search.{searching, Seeking, SearchAt, pastOwn, spanAt, fits, Trial, AttemptAt, Attempts, WalkAt, Walks, Finds, FindsFirst};
+ghost use Rattle.support.specs.Search.{searching, Seeking, SearchAt, pastOwn, spanAt, fits, Trial, MayLead, AttemptAt, Attempts, WalkAt, Walks, Finds, FindsFirst};
+use doubles::PLACES;
+use doubles::Table;
+use doubles::alike::variables_from;
+use doubles::first_alike;
 use layout::Starts;
 use layout::tuple_start;
 use live::Words;
 use live::is_live;
 use live::next;
 use model::MAX_MEMBERS;
+use model::NO_SUPPORT;
 use model::Value;
 use narrowing::narrow_members;
 use network::agreement::tuples_agree;
@@ -142,6 +148,7 @@ fn attempt(
     resumes: bool,
     chosen: Indices,
     x: u16,
+    eager: bool,
 ) -> Found
     requires { ⌜ Long (now words) × AttemptAt (searching now variables values starts words members place own low) (now index) k resumes chosen x ⌝ }
     ensures { λ f. ⌜ Attempts (searching entry variables values starts words members place own low) k chosen x f ⌝ }
@@ -188,6 +195,7 @@ fn attempt(
                 on,
                 resuming,
                 tuples,
+                eager,
             );
         }
     }
@@ -198,18 +206,7 @@ fn attempt(
     }
 }
 
-// Whether a walk stops after so many failures, the last of a search that was hard or not; an endless one does not.
-fn stops(endless: bool, hard: bool, failures: u16) -> bool
-    ensures { λ b. ⌜ (endless ≡ true → b ≡ false) ⌝ }
-{
-    if endless {
-        return false;
-    }
-    hard || failures == FAILURES
-}
-
-// The walk over member k's live tuples from id `from` on, at the turn that `search` is called for. It goes on to the end, or stops where the
-// search is hard.
+// The walk over member k's live tuples from id `from` on, at the turn that `search` is called for. It stops where the search is hard.
 fn walk(
     variables: &[u16],
     values: &[Value],
@@ -224,11 +221,10 @@ fn walk(
     resumes: bool,
     chosen: Indices,
     from: u16,
-    endless: bool,
 ) -> Walked
     requires { ⌜ Long (now words) × SearchAt (searching now variables values starts words members place own low) (now index) k resumes chosen ⌝ }
     requires { ⌜ WalkAt (searching now variables values starts words members place own low) k resumes chosen from ⌝ }
-    ensures { λ w. ⌜ Walks (searching entry variables values starts words members place own low) k resumes chosen endless w ⌝ }
+    ensures { λ w. ⌜ Walks (searching entry variables values starts words members place own low) k resumes chosen w ⌝ }
 {
     let r = members[k];
     let first = tuple_start(starts, r);
@@ -250,6 +246,7 @@ fn walk(
             resumes,
             chosen,
             g - first,
+            false,
         );
         let hard = found.hard;
         let tuples = found.tuples;
@@ -263,7 +260,7 @@ fn walk(
         }
         g = next(words, g + 1, end);
         failures += 1;
-        if stops(endless, hard, failures) {
+        if hard || failures == FAILURES {
             return Walked {
                 ok: false,
                 hard: true,
@@ -274,14 +271,116 @@ fn walk(
     }
     Walked {
         ok: false,
-        hard: endless,
+        hard: false,
         at: g,
         tuples: chosen,
     }
 }
 
+// Whether tuple x of member k may lead to a support: it fits, and no tuple that failed has its values under the variables of the set. It is
+// entered in the table, unless it fits not or is the one at which a search resumes.
+fn may_lead(
+    variables: &[u16],
+    values: &[Value],
+    starts: &Starts,
+    members: &[u16],
+    place: usize,
+    own: u16,
+    k: usize,
+    chosen: Indices,
+    failed: &mut Table,
+    x: u16,
+    common: u64,
+    resumed: bool,
+) -> bool
+    requires { ⌜ Trial (lists now variables values starts) (now members) place own k chosen x × (length (now failed) ≡ places) ⌝ }
+    ensures { λ b. ⌜ MayLead (lists entry variables values starts) (entry members) place own k chosen x common resumed (entry failed) b (exit failed) ⌝ }
+{
+    if !fits(variables, values, starts, members, place, own, k, chosen, x) {
+        return false;
+    }
+    if resumed {
+        return true;
+    }
+    x <= first_alike(variables, values, starts, failed, members[k], x, common)
+}
+
+// What `search` is called for, sought from id `from` on, where it is hard: a tuple is passed over that has the values of one that failed, under
+// all variables of the members behind.
+fn comb(
+    variables: &[u16],
+    values: &[Value],
+    starts: &Starts,
+    index: &Index,
+    words: &Words,
+    members: &[u16],
+    place: usize,
+    own: u16,
+    low: Indices,
+    k: usize,
+    resumes: bool,
+    chosen: Indices,
+    from: u16,
+) -> Found
+    requires { ⌜ Long (now words) × SearchAt (searching now variables values starts words members place own low) (now index) k resumes chosen ⌝ }
+    requires { ⌜ WalkAt (searching now variables values starts words members place own low) k resumes chosen from ⌝ }
+    ensures { λ f. ⌜ Finds (searching entry variables values starts words members place own low) k chosen f ⌝ }
+{
+    let r = members[k];
+    let first = tuple_start(starts, r);
+    let end = tuple_start(starts, r + 1);
+    let lowest = low[k];
+    let common = variables_from(variables, values, starts, members, place, k + 1);
+    let mut failed = [NO_SUPPORT; PLACES];
+    let mut g = from;
+    while g < end {
+        let x = g - first;
+        let resumed = resumes && x == lowest;
+        if may_lead(
+            variables,
+            values,
+            starts,
+            members,
+            place,
+            own,
+            k,
+            chosen,
+            &mut failed,
+            x,
+            common,
+            resumed,
+        ) {
+            let found = attempt(
+                variables,
+                values,
+                starts,
+                index,
+                words,
+                members,
+                place,
+                own,
+                low,
+                k,
+                resumes,
+                chosen,
+                x,
+                true,
+            );
+            if found.ok {
+                return found;
+            }
+        }
+        g = next(words, g + 1, end);
+    }
+    Found {
+        ok: false,
+        hard: true,
+        tuples: chosen,
+    }
+}
+
 // The first support at or after `low` that has the tuples chosen for the members before k. Where it is hard to find, the members from k on are
-// narrowed through each other.
+// narrowed through each other. An eager search takes it for hard.
 fn search(
     variables: &[u16],
     values: &[Value],
@@ -295,6 +394,7 @@ fn search(
     k: usize,
     resumes: bool,
     chosen: Indices,
+    eager: bool,
 ) -> Found
     requires { ⌜ Long (now words) × SearchAt (searching now variables values starts words members place own low) (now index) k resumes chosen ⌝ }
     ensures { λ f. ⌜ Finds (searching entry variables values starts words members place own low) k chosen f ⌝ }
@@ -302,6 +402,23 @@ fn search(
     let span = span_of(starts, members[k], resumes, low[k]);
     let end = span.end;
     let from = next(words, span.start, end);
+    if eager {
+        return comb(
+            variables,
+            values,
+            starts,
+            index,
+            words,
+            members,
+            place,
+            own,
+            low,
+            k,
+            resumes,
+            chosen,
+            from,
+        );
+    }
     let walked = walk(
         variables,
         values,
@@ -316,24 +433,13 @@ fn search(
         resumes,
         chosen,
         from,
-        false,
     );
+    let ok = walked.ok;
     let hard = walked.hard;
     let tuples = walked.tuples;
-    if walked.ok {
-        return Found {
-            ok: true,
-            hard,
-            tuples,
-        };
-    }
     let at = walked.at;
-    if end <= at {
-        return Found {
-            ok: false,
-            hard,
-            tuples,
-        };
+    if ok || end <= at {
+        return Found { ok, hard, tuples };
     }
     let mut fewer = *words;
     let steps = steps_between(index, starts, words, members, place, k);
@@ -349,14 +455,10 @@ fn search(
         steps,
         MANY,
     ) {
-        return Found {
-            ok: false,
-            hard,
-            tuples,
-        };
+        return Found { ok, hard, tuples };
     }
     let again = next(&fewer, at, end);
-    let ended = walk(
+    comb(
         variables,
         values,
         starts,
@@ -370,11 +472,7 @@ fn search(
         resumes,
         chosen,
         again,
-        true,
-    );
-    let ok = ended.ok;
-    let tuples = ended.tuples;
-    Found { ok, hard, tuples }
+    )
 }
 
 // The first support at or after `low` of tuple `own` of the member at `place`. Before the search, members are narrowed through others by these
@@ -455,5 +553,6 @@ pub fn first_support(
         k,
         true,
         tuples,
+        false,
     )
 }

@@ -1,4 +1,4 @@
--- Laws of the table of tuples sought in a visit: how one is entered, and what is known of an entry.
+-- Laws of the table of tuples sought in a visit: what is known of an entry.
 -- From the laws of lists and of partners.
 use mathlib.Core.Path.{_≡_, refl, sym, _∙_, ap, subst}
 use mathlib.Core.Bool.{false}
@@ -15,20 +15,8 @@ use Rattle.model.specs.Support.{Partners}
 use Rattle.model.proofs.Twins.{partners-more}
 use Rattle.layout.specs.Setting.{Setting, network, liveIn}
 use Rattle.layout.specs.Pairs.{combinationOf, tupleId}
-use Rattle.doubles.specs.Doubles.{places}
-use Rattle.twins.specs.Twins.{Entered, WasSought, Noted}
-
--- ---- One entered
-
-pub entered-none : (x : ℕ) (sought : List ℕ) → Entered x sought sought
-entered-none x sought = (refl, λ i. inl refl)
-
-pub entered-at : (x k : ℕ) (sought : List ℕ) → k < length sought → Entered x sought (set sought k x)
-entered-at x k sought h = (length-set sought k x, λ i. go i (ℕ-discrete i k))
-  where
-    go : (i : ℕ) → Dec (i ≡ k) → (getD (set sought k x) i 0 ≡ getD sought i 0) ⊎ (getD (set sought k x) i 0 ≡ x)
-    go i (yes e) = inr (ap (λ (n : ℕ). getD (set sought k x) n 0) e ∙ getD-set-same sought k x 0 h)
-    go i (no d) = inl (getD-set-other sought k i x 0 d)
+use Rattle.doubles.specs.Doubles.{places, Entered}
+use Rattle.twins.specs.Twins.{WasSought, Noted}
 
 -- ---- What is known of the entries
 

@@ -15,22 +15,10 @@ use Rattle.model.specs.Consistency.{needed}
 use Rattle.layout.specs.Setting.{Lists, Setting, network, listed, liveIn}
 use Rattle.layout.specs.Pairs.{combinationOf, sizeOf, tupleId, placeOf}
 use Rattle.worklist.specs.Supports.{replaced, Supported, Done}
-use Rattle.doubles.specs.Alike.{Alike, PairAt, Common}
+use Rattle.doubles.specs.Alike.{PairAt, Common}
 use Rattle.doubles.specs.Doubles.{places}
 use Rattle.twins.specs.declared.Twin.{Twin}
 use Rattle.twins.specs.declared.Twin.the-variants as twin
-
--- ---- The table of the tuples that were sought
-
--- every entry of the table stays, or is x's index
-abbrev pub Entered : ℕ → List ℕ → List ℕ → Type 0
-Entered x before after = (length after ≡ length before) × ((i : ℕ) → (getD after i 0 ≡ getD before i 0) ⊎ (getD after i 0 ≡ x))
-
--- An entry y before x has x's values; of the table no other entry changes than one that is x's index now.
-pub record SoughtTwin (L : Lists) (set r x : ℕ) (before : List ℕ) (y : ℕ) (after : List ℕ) : Type 0 where
-  pub entered : Entered x before after
-  pub entry : y < x → (i : ℕ) × (i < length before) × (getD before i 0 ≡ y)
-  pub alike : y < x → Alike L set r x y
 
 -- ---- In a pair's combination
 

@@ -2,17 +2,12 @@
 // combination have, takes that one's first support with itself put in, or falls where that one fell.
 ghost use mathlib.Core.Path.{_≡_};
 ghost use mathlib.Core.Bool.{true};
-ghost use Prim.Native.Nat.{_<_};
-ghost use lib.ListN.{length};
-ghost use Rattle.model.specs.Agreement.{under};
 ghost use Rattle.layout.specs.Loan.{entry, exit};
-ghost use Rattle.layout.specs.Setting.{lists, setting};
-ghost use Rattle.doubles.specs.Alike.{TupleAt};
-ghost use Rattle.doubles.specs.Doubles.{places};
-ghost use Rattle.twins.specs.Twins.{Entered, SoughtTwin, Beside, AgreesWith, TwinAt, Outcome};
-use doubles::PLACES;
-use doubles::alike::same_values;
-use doubles::tuple_hash;
+ghost use Rattle.layout.specs.Setting.{setting};
+ghost use Rattle.doubles.specs.Doubles.{Entered};
+ghost use Rattle.twins.specs.Twins.{Beside, AgreesWith, TwinAt, Outcome};
+use doubles::Table;
+use doubles::first_alike;
 use layout::Starts;
 use layout::tuple_start;
 use layout::wide;
@@ -24,42 +19,11 @@ use worklist::list::Indices;
 use worklist::list::load;
 use worklist::list::store;
 
-// By the hash of its values, the index of the first tuple that was sought in the visit, or 65,535.
-pub type Sought = [u16; PLACES];
-
 // What comes of a twin: its support is taken, or it fell and so does the tuple, or there is none.
 pub enum Twin {
     Taken,
     Fallen,
     None,
-}
-
-// ---- An earlier tuple with the same values
-
-// The tuple before x that is entered for the hash of x's values, if it has x's values under the variables of the set; x otherwise, which is
-// entered if no other tuple is.
-fn sought_twin(
-    variables: &[u16],
-    values: &[Value],
-    starts: &Starts,
-    sought: &mut Sought,
-    r: u16,
-    x: u16,
-    common: u64,
-) -> u16
-    requires { ⌜ TupleAt (lists now variables values starts) r x × (length (now sought) ≡ places) ⌝ }
-    ensures { λ y. ⌜ SoughtTwin (lists entry variables values starts) common r x (entry sought) y (exit sought) ⌝ }
-{
-    let class = tuple_hash(variables, values, starts, r, x, common);
-    let y = sought[class];
-    if x <= y {
-        sought[class] = x;
-        return x;
-    }
-    if !same_values(variables, values, starts, r, x, y, common) {
-        return x;
-    }
-    y
 }
 
 // ---- Its support
@@ -113,7 +77,7 @@ pub fn take_twin(
     m: u16,
     words: &Words,
     numbers: &mut [u16],
-    sought: &mut Sought,
+    sought: &mut Table,
     p: u16,
     x: u16,
     at: usize,
@@ -124,7 +88,7 @@ pub fn take_twin(
     ensures { λ _. ⌜ Entered x (entry sought) (exit sought) ⌝ }
 {
     let r = members[wide(p)];
-    let y = sought_twin(variables, values, starts, sought, r, x, common);
+    let y = first_alike(variables, values, starts, sought, r, x, common);
     if x <= y {
         return Twin::None;
     }

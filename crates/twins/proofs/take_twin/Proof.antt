@@ -65,7 +65,7 @@ abbrev start : tie.Else1 → tie.Start
 start c = entry (looked c)
 
 abbrev y : tie.Else1 → ℕ
-y c = c .before .sought-twin .result
+y c = c .before .first-alike .result
 
 before : (c : tie.Else1) → y c < start c .args .x
 before c = omega (arith, c .if1 .left)
@@ -73,7 +73,7 @@ before c = omega (arith, c .if1 .left)
 alike : (c : tie.Else1) → (let s = start c in Alike (G s .lists) (s .args .common) (pairMember (s .args .members .now) (s .args .p)) (s .args .x) (y c))
 alike c =
     let s = start c in
-    subst (λ (r : ℕ). Alike (G s .lists) (s .args .common) r (s .args .x) (y c)) (member-is (looked c)) (c .before .sought-twin .ensures .alike (before c))
+    subst (λ (r : ℕ). Alike (G s .lists) (s .args .common) r (s .args .x) (y c)) (member-is (looked c)) (c .before .first-alike .ensures .alike (before c))
 
 -- its id
 id-is : (c : tie.After-tuple-start) → (let e = c .before .before in let s = start e in c .tuple-start .result + y e ≡ tupleStart (s .args .starts .now) (pairMember (s .args .members .now) (s .args .p)) + y e)
@@ -158,7 +158,7 @@ returns-2 : tie.Need-returns-2
 returns-2 c =
     let e = c .before .before .before .before in
     let s = start e in
-    let twin = e .before .sought-twin .ensures in
+    let twin = e .before .first-alike .ensures in
     let at = twin .entry (before e) in (
       (refl, fallen-twin (ready s) (y e) (before e) (at .0) (at .1) (at .2) (lives-is (c .before) ∙ not-true (c .before .is-live .result) (c .if2 .taken)) (alike e)),
       twin .entered,
@@ -180,7 +180,7 @@ returns-4 c =
           ∙ ap (λ (is : List ℕ). replaced (a .numbers .now) (take (a .m) (set is (a .p % a .m) (a .x))) (a .at) (a .m)) (loaded-is l)))
           (taken-twin (ready s) (y e) (before e) (alive (w .before .before .before)) (alike e)
           (subst (AgreesWith (G s) (a .p) (a .x)) (loaded-is l) (agreed .agrees-with .ensures (not-false (agreed .agrees-with .result) (t .before .before .before .if3 .left))))),
-      e .before .sought-twin .ensures .entered,
+      e .before .first-alike .ensures .entered,
     )
 
 pub take-twin-spec : {M : Type 1} → statement M
@@ -191,7 +191,7 @@ take-twin-spec =
     (λ c. omega (arith, c .wide .ensures .1))
     (λ c. omega (arith, c .before .wide .ensures .0, ready (entry c) .at .pair))
     (λ c κs. let k = c .before in let s = entry k in (tuple-at k (s .args .x) (ready s .index), ready s .noted .long))
-    (λ c. (refl, c .before .sought-twin .ensures .entered))
+    (λ c. (refl, c .before .first-alike .ensures .entered))
     (λ c κs. let e = c .before in omega (arith, member-is (looked e), member-below (sound (start e) .laid .framed) (sound (start e) .paired) (start e .args .p) (ready (start e) .at .pair)))
     (λ c. omega (arith, id-below c, tuples-few (sound (start (c .before .before)) .laid .framed)))
     (λ c κs. omega (arith, id-below c, ready (start (c .before .before)) .enough))
@@ -204,7 +204,7 @@ take-twin-spec =
     load-requires
     agrees-with-requires
     (λ c. search needs)
-    (λ c. (refl, earlier (c .before .before .before) .before .sought-twin .ensures .entered))
+    (λ c. (refl, earlier (c .before .before .before) .before .first-alike .ensures .entered))
     (λ c κs. search needs)
     (λ c. let w = c .before .before .before .before .before .before in omega (arith, each-is w, sound (start (w .before .before .before .before .before)) .paired .list .positive))
     (λ c. omega (arith, place-below c))

@@ -11,7 +11,7 @@ use borrow.Author.Needs.{needs}
 use Rattle.model.specs.Limits.{maxMembers, noSupport}
 use Rattle.worklist.specs.Supports.{Chosen, allLive}
 use Rattle.layout.specs.Setting.{Setting, Sound}
-use Rattle.twins.proofs.Sought.{entered-none}
+use Rattle.doubles.proofs.Entries.{entered-none}
 use Rattle.engine.specs.Work.{Seeker}
 use Rattle.engine.proofs.Bounds.{held-inside, loaded, lead, chosen, renewed-held}
 use Rattle.engine.proofs.visit.renew.Statement.{statement}

@@ -1,6 +1,6 @@
--- `attempt` finds what there is to find with one more tuple, `walk` goes from one tuple to the next, and `search` finds the first support that
--- has the tuples chosen. The walk's invariant: from the id reached on, there is still all to find; the measure is the number of members still
--- unchosen. From the laws of one member's turn, and of narrowed words.
+-- `attempt` finds what there is to find with one more tuple, `walk` and `comb` go from one tuple to the next, and `search` finds the first
+-- support that has the tuples chosen. The invariant of both walks: from the id reached on, there is still all to find; the measure is the number
+-- of members still unchosen. From the laws of one member's turn, of narrowed words, and of tuples that failed.
 use mathlib.Core.Path.{_≡_, refl, sym, ap, subst, _∙_}
 use mathlib.Core.Bool.{Bool, true, false, _&&_}
 use mathlib.Core.Option.{Option, none, some}
@@ -16,7 +16,7 @@ use mir.Syntax.{w16}
 use borrow.Fn.Kinds.{In}
 use borrow.Fn.PlainCycle.{Measures, is, falls, and}
 use borrow.Author.Needs.{needs}
-use borrow.Author.Tests.{not-true}
+use borrow.Author.Tests.{not-true, leb-true}
 use Rattle.model.specs.TupleSet.{has}
 use Rattle.model.specs.LiveWords.{isLive, nextLive}
 use Rattle.model.proofs.Bools.{not-both}
@@ -24,22 +24,27 @@ use Rattle.model.proofs.LiveWords.{nextLive-first}
 use Rattle.layout.specs.Starts.{tupleStart}
 use Rattle.support.specs.declared.Span.{Span}
 use Rattle.support.specs.declared.Stage.{Stage}
-use Rattle.support.specs.Search.{Search, netOf, liveOf, idAt, seeker, SoundSearch, chosenIds, Prefix, SearchAt, pastOwn, span, onward, left, WalkAt, fits, sought, answer}
+use Rattle.support.specs.Search.{Search, netOf, liveOf, idAt, seeker, SoundSearch, chosenIds, Prefix, SearchAt, pastOwn, span, onward, left, WalkAt, MayLead, fits, sought, answer}
 use Rattle.support.proofs.Chosen.{chosen-mem}
-use Rattle.support.proofs.Walking.{member-below}
+use Rattle.support.proofs.Walking.{member-below, exists}
 use Rattle.support.proofs.Ends.{turn-done}
 use Rattle.support.proofs.Own.{NextStage, next-stage, past-forth}
 use Rattle.support.proofs.Turn.{span-asks, Turn, walk-asks, walk-forward, come-first, come-from, come-none, come-found, come-next, come-lives, come-live, index-below, trial, come-clash, onward-more, come-more, agrees-own}
+use Rattle.support.proofs.Failed.{Known, known-none, known-next, leads-nowhere}
 use Rattle.support.proofs.Narrow.{others, onWords, Fewer, fewer-words, ready-narrowed, sought-bare, sought-none, prefix-narrowed, sought-narrowed, turn-sound, turn-lives, turn-prefix, turn-sought, turn-left}
 use Rattle.support.proofs.attempt.Reads as attempt
 use Rattle.support.proofs.attempt.Kinds as attempt-kinds
-use Rattle.support.proofs.+attempt+search+walk.Lts-attempt as attempt-lts
+use Rattle.support.proofs.+attempt+comb+search+walk.Lts-attempt as attempt-lts
+use Rattle.support.proofs.comb.Reads as comb
+use Rattle.support.proofs.comb.Kinds as comb-kinds
+use Rattle.support.proofs.+attempt+comb+search+walk.Lts-comb as comb-lts
 use Rattle.support.proofs.search.Reads as search′
 use Rattle.support.proofs.search.Kinds as search-kinds
-use Rattle.support.proofs.+attempt+search+walk.Lts-search as search-lts
+use Rattle.support.proofs.+attempt+comb+search+walk.Lts-search as search-lts
 use Rattle.support.proofs.walk.Reads as walk
 use Rattle.support.proofs.walk.Kinds as walk-kinds
-use Rattle.support.proofs.+attempt+search+walk.Lts-walk as walk-lts
+use Rattle.support.proofs.+attempt+comb+search+walk.Lts-walk as walk-lts
+use Rattle.doubles.proofs.alike.variables_from.Reads as variables-from-reads
 use Rattle.layout.proofs.tuple_start.Reads as tuple-start-reads
 use Rattle.live.proofs.next.Reads as next-reads
 use Rattle.narrowing.proofs.narrow_members.Reads as narrow-members-reads
@@ -48,9 +53,9 @@ use Rattle.spreading.proofs.steps.steps_between.Reads as steps-between-reads
 use Rattle.support.proofs.fits.Reads as fits-reads
 use Rattle.support.proofs.past_own.Reads as past-own-reads
 use Rattle.support.proofs.span_of.Reads as span-of-reads
-use Rattle.support.proofs.stops.Reads as stops-reads
-use Rattle.support.proofs.+attempt+search+walk.{statement}
-use Rattle.support.proofs.+attempt+search+walk.Tie.{close}
+use Rattle.support.proofs.may_lead.Reads as may-lead-reads
+use Rattle.support.proofs.+attempt+comb+search+walk.{statement}
+use Rattle.support.proofs.+attempt+comb+search+walk.Tie.{close}
 
 -- ---- The measures, the invariant and the callees
 
@@ -86,6 +91,15 @@ search-at t = and 6 search-kinds.ps (is 6 search-kinds.ps μ-search t) search′
 abbrev search-below : ℕ → In 6 search-kinds.ps
 search-below t = and 6 search-kinds.ps (falls 6 search-kinds.ps _<_ μ-search t) search′.Pre
 
+abbrev μ-comb : Measures 6 comb-kinds.ps ℕ
+μ-comb κs a = (length (a .1 .1 .1 .1 .1 .0 .now) - a .1 .1 .1 .1 .1 .1 .1 .1 .1 .0) * 3 + 1
+
+abbrev comb-at : ℕ → In 6 comb-kinds.ps
+comb-at t = and 6 comb-kinds.ps (is 6 comb-kinds.ps μ-comb t) comb.Pre
+
+abbrev comb-below : ℕ → In 6 comb-kinds.ps
+comb-below t = and 6 comb-kinds.ps (falls 6 comb-kinds.ps _<_ μ-comb t) comb.Pre
+
 abbrev walk-at : ℕ → In 6 walk-kinds.ps
 walk-at t = and 6 walk-kinds.ps (is 6 walk-kinds.ps μ-walk t) walk.Pre
 
@@ -98,11 +112,15 @@ attempt-callees t =
 
 abbrev search-callees : ℕ → search-lts.Claims
 search-callees t =
-    (span-of-reads.Asked, span-of-reads.Learnt, next-reads.Asked, next-reads.Learnt, walk-below t, walk.Post, steps-between-reads.Asked, steps-between-reads.Learnt, spread-members-reads.Asked, spread-members-reads.Learnt)
+    (span-of-reads.Asked, span-of-reads.Learnt, next-reads.Asked, next-reads.Learnt, comb-below t, comb.Post, walk-below t, walk.Post, steps-between-reads.Asked, steps-between-reads.Learnt, spread-members-reads.Asked, spread-members-reads.Learnt)
 
 abbrev walk-callees : ℕ → walk-lts.Claims
 walk-callees t =
-    (tuple-start-reads.Asked, tuple-start-reads.Learnt, attempt-below t, attempt.Post, next-reads.Asked, next-reads.Learnt, stops-reads.Asked, stops-reads.Learnt)
+    (tuple-start-reads.Asked, tuple-start-reads.Learnt, attempt-below t, attempt.Post, next-reads.Asked, next-reads.Learnt)
+
+abbrev comb-callees : ℕ → comb-lts.Claims
+comb-callees t =
+    (tuple-start-reads.Asked, tuple-start-reads.Learnt, variables-from-reads.Asked, variables-from-reads.Learnt, may-lead-reads.Asked, may-lead-reads.Learnt, attempt-below t, attempt.Post, next-reads.Asked, next-reads.Learnt)
 
 -- ---- The turn of a member
 
@@ -120,6 +138,12 @@ turn-of Q index k resumes chosen A sized low-sized =
       is-begin = refl;
       is-end = refl;
     }
+
+flag : (resumes equal on : Bool) → ((resumes ≡ true) × (on ≡ equal)) ⊎ ((resumes ≡ false) × (on ≡ resumes)) → (resumes && equal) ≡ on
+flag resumes equal on =
+    ⊎-elim
+    (λ w. ap (λ (b : Bool). b && equal) (w .0) ∙ sym (w .1))
+    (λ w. ap (λ (b : Bool). b && equal) (w .0) ∙ sym (w .1 ∙ w .0))
 
 -- ---- attempt
 
@@ -222,12 +246,6 @@ module _ (t : ℕ) where
         sym (narrowed-ahead f) ∙ sought-bare over (s .k) (s .chosen) (n .narrow-members .ensures .1 .1 e)
     nowhere e false f = clash start f
 
-  flag : (resumes equal on : Bool) → ((resumes ≡ true) × (on ≡ equal)) ⊎ ((resumes ≡ false) × (on ≡ resumes)) → (resumes && equal) ≡ on
-  flag resumes equal on =
-      ⊎-elim
-      (λ w. ap (λ (b : Bool). b && equal) (w .0) ∙ sym (w .1))
-      (λ w. ap (λ (b : Bool). b && equal) (w .0) ∙ sym (w .1 ∙ w .0))
-
   attempt-narrow-members-requires : attempt-lts.Need-narrow-members-requires (attempt-callees t) (attempt-at t) attempt.Post
   attempt-narrow-members-requires c κs =
       let b = c .before .before .before .before in
@@ -273,11 +291,11 @@ module _ (t : ℕ) where
 -- ---- walk
 
 abbrev walk-Inv-loop : walk-lts.InvT-loop
-walk-Inv-loop variables values starts index words members place own low k resumes chosen from endless r first end failures₀ g₀ failures g =
+walk-Inv-loop variables values starts index words members place own low k resumes chosen from r first end failures₀ g₀ failures g =
     WalkAt (searchOn variables values starts words members place own low) k resumes chosen g × (failures ≤ g)
 
 abbrev walk-μ-loop : walk-lts.MeasureT-loop
-walk-μ-loop variables values starts index words members place own low k resumes chosen from endless r first end failures₀ g₀ failures g = end - g
+walk-μ-loop variables values starts index words members place own low k resumes chosen from r first end failures₀ g₀ failures g = end - g
 
 module _ (t : ℕ) where
   abbrev Walk : Type 0
@@ -382,7 +400,6 @@ module _ (t : ℕ) where
             come-found (walking a) (l .before .loop .g) (reached l) (inside l) ts
             (ap (onward (walked a) (a .args .k) (a .args .chosen)) (sym (is-g l)) ∙ sym (u .attempt .ensures) ∙ ap (λ (b : Bool). answer b ts) (c .if1 .taken));
         on = λ e. absurd (not-both refl e);
-        whole = λ e. absurd (not-both refl e);
       }
 
   walk-loop-holds : walk-lts.Need-loop-holds (walk-callees t) (walk-at t) walk.Post walk-Inv-loop walk-μ-loop
@@ -398,6 +415,126 @@ module _ (t : ℕ) where
       let n = c .before .before in
       let l = looped n in
       omega (arith, further-on n (l .before .loop .g) refl, further n .to-end, end-is l, l .loop-test .taken)
+
+-- ---- comb
+
+abbrev comb-Inv-loop : comb-lts.InvT-loop
+comb-Inv-loop variables values starts index words members place own k resumes chosen from low r first end lowest common failed₀ g₀ failed g =
+    let Q = searchOn variables values starts words members place own low in WalkAt Q k resumes chosen g × Known Q k resumes chosen failed
+
+abbrev comb-μ-loop : comb-lts.MeasureT-loop
+comb-μ-loop variables values starts index words members place own k resumes chosen from low r first end lowest common failed₀ g₀ failed g = end - g
+
+module _ (t : ℕ) where
+  abbrev Comb : Type 0
+  Comb = comb-lts.Start (comb-callees t) (comb-at t) comb.Post comb-Inv-loop comb-μ-loop
+
+  module _ (a : Comb) where
+    abbrev combed : Search
+    combed = searchOn (a .args .variables .now) (a .args .values .now) (a .args .starts .now) (a .args .words .now) (a .args .members .now) (a .args .place) (a .args .own) (a .args .t9)
+
+    abbrev from-pre : SearchAt combed (a .args .index .now) (a .args .k) (a .args .resumes) (a .args .chosen)
+    from-pre = a .pre .1 .0 .1
+
+    abbrev line : Span
+    line = span combed (a .args .k) (a .args .resumes)
+
+    combing : Turn combed (a .args .k) (a .args .resumes) (a .args .chosen) (line .first) (line .start) (line .end)
+    combing =
+        turn-of combed (a .args .index .now) (a .args .k) (a .args .resumes) (a .args .chosen) from-pre
+        (good-length (eInt w16) 4 (a .args .chosen) _ (a .good .1 .1 .1 .1 .1 .1 .1 .1 .1 .1 .1 .0))
+        (good-length (eInt w16) 4 (a .args .t9) _ (a .good .1 .1 .1 .1 .1 .1 .1 .1 .0))
+
+  module _ (l : comb-lts.In-loop (comb-callees t) (comb-at t) comb.Post comb-Inv-loop comb-μ-loop) where
+    abbrev covering : comb-lts.After-variables-from (comb-callees t) (comb-at t) comb.Post comb-Inv-loop comb-μ-loop
+    covering = l .before .before
+
+    abbrev origin : Comb
+    origin = covering .before .before .before .before .before .before .before
+
+    abbrev arrived : WalkAt (combed origin) (origin .args .k) (origin .args .resumes) (origin .args .chosen) (l .before .loop .g)
+    arrived = l .before .loop .inv .0
+
+    head-is : covering .before .before .tuple-start .result ≡ line origin .first
+    head-is = covering .before .before .tuple-start .ensures
+
+    tail-is : covering .before .tuple-start2 .result ≡ line origin .end
+    tail-is = covering .before .tuple-start2 .ensures
+
+    in-line : l .before .loop .g < line origin .end
+    in-line = omega (arith, l .loop-test .taken, tail-is)
+
+    from-head : line origin .first ≤ l .before .loop .g
+    from-head = come-from (combing origin) (l .before .loop .g) arrived .0
+
+    -- the tuple's index
+    abbrev x : ℕ
+    x = l .before .loop .g - covering .before .before .tuple-start .result
+
+    x-is : line origin .first + x ≡ l .before .loop .g
+    x-is = omega (arith, head-is, from-head)
+
+    x-from : line origin .start ≤ line origin .first + x
+    x-from = omega (arith, x-is, arrived .from-start)
+
+    x-to : line origin .first + x < line origin .end
+    x-to = omega (arith, x-is, in-line)
+
+    x-lives : isLive (origin .args .words .now) (line origin .first + x) ≡ true
+    x-lives = subst (λ (g : ℕ). isLive (origin .args .words .now) g ≡ true) (sym x-is) (arrived .lives in-line)
+
+    -- what `next` asks
+    next-asks : (i : ℕ) → line origin .start ≤ i → i ≤ line origin .end → (i ≤ line origin .end) × (line origin .end ≤ 64 * length (origin .args .words .now)) × (line origin .end ≤ 4096)
+    next-asks = walk-asks (combing origin)
+
+  module _ (m : comb-lts.After-may-lead (comb-callees t) (comb-at t) comb.Post comb-Inv-loop comb-μ-loop) where
+    abbrev flagged : comb-lts.Joined1 (comb-callees t) (comb-at t) comb.Post comb-Inv-loop comb-μ-loop
+    flagged = m .before .before
+
+    abbrev here : comb-lts.In-loop (comb-callees t) (comb-at t) comb.Post comb-Inv-loop comb-μ-loop
+    here = flagged .before
+
+    abbrev after : List ℕ
+    after = m .may-lead .last .1 .1 .1 .1 .1 .1 .1 .1 .0
+
+    lead : MayLead (combed (origin here) .lists) (combed (origin here) .members) (combed (origin here) .place) (combed (origin here) .own) (origin here .args .k) (origin here .args .chosen) (x here) (covering here .variables-from .result) (origin here .args .resumes && eqb (x here) (getD (origin here .args .t9) (origin here .args .k) 0)) (here .before .loop .failed) (m .may-lead .result) after
+    lead =
+        let a = origin here in
+        let e = flag (a .args .resumes) (eqb (x here) (getD (a .args .t9) (a .args .k) 0)) (flagged .if1 .resumed) (⊎-elim (λ w. _⊎_.inl (w .0 .taken, w .1)) (λ w. _⊎_.inr (w .0 .left, w .1)) (flagged .if1 .came)) in
+        subst (λ (r : Bool). MayLead (combed a .lists) (combed a .members) (combed a .place) (combed a .own) (a .args .k) (a .args .chosen) (x here) (covering here .variables-from .result) r (here .before .loop .failed) (m .may-lead .result) after) (sym e) (m .may-lead .ensures)
+
+  module _ (c : comb-lts.After-next (comb-callees t) (comb-at t) comb.Post comb-Inv-loop comb-μ-loop) where
+    abbrev joined : comb-lts.Joined2 (comb-callees t) (comb-at t) comb.Post comb-Inv-loop comb-μ-loop
+    joined = c .before .before
+
+    abbrev led : comb-lts.After-may-lead (comb-callees t) (comb-at t) comb.Post comb-Inv-loop comb-μ-loop
+    led = joined .before
+
+    abbrev at-loop : comb-lts.In-loop (comb-callees t) (comb-at t) comb.Post comb-Inv-loop comb-μ-loop
+    at-loop = here led
+
+    -- the tuple leads to nothing
+    barren : let l = at-loop in onward (combed (origin l)) (origin l .args .k) (origin l .args .chosen) (line (origin l) .first + x l) ≡ none
+    barren =
+        let l = at-loop in
+        let a = origin l in
+        ⊎-elim
+        (λ w. sym (w .1 .ensures) ∙ ap (λ (b : Bool). answer b (take (length (a .args .members .now)) (w .1 .result .tuples))) (w .2 .left))
+        (λ w. leads-nowhere (l .before .loop .inv .1) (lead led) (combing a) (covering l .variables-from .ensures) (x-from l) (x-to l) (w .left))
+        (joined .if2 .came)
+
+    nextly : WalkAt (combed (origin at-loop)) (origin at-loop .args .k) (origin at-loop .args .resumes) (origin at-loop .args .chosen) (c .next .result)
+    nextly =
+        let l = at-loop in
+        let a = origin l in
+        subst (WalkAt (combed a) (a .args .k) (a .args .resumes) (a .args .chosen)) (sym (c .next .ensures ∙ ap (nextLive (a .args .words .now) (l .before .loop .g + 1)) (tail-is l)))
+        (come-next (combing a) (l .before .loop .g) (arrived l) (in-line l) (ap (onward (combed a) (a .args .k) (a .args .chosen)) (sym (x-is l)) ∙ barren))
+
+    beyond : at-loop .before .loop .g < c .next .result
+    beyond =
+        let l = at-loop in
+        let f = nextLive-first (origin l .args .words .now) (l .before .loop .g + 1) (line (origin l) .end) (omega (arith, in-line l)) in
+        omega (arith, f .from-i, c .next .ensures, ap (nextLive (origin l .args .words .now) (l .before .loop .g + 1)) (tail-is l))
 
 -- ---- search
 
@@ -449,14 +586,14 @@ module _ (t : ℕ) where
 
   -- the members from k on, narrowed through each other
   module _ (p : search-lts.After-spread-members (search-callees t) (search-at t) search′.Post) where
-    abbrev stopped : search-lts.Else2 (search-callees t) (search-at t) search′.Post
+    abbrev stopped : search-lts.Else3 (search-callees t) (search-at t) search′.Post
     stopped = p .before .before .before .before
 
     abbrev first-walk : search-lts.After-walk (search-callees t) (search-at t) search′.Post
     first-walk = stopped .before .before .before
 
     abbrev input : Searching
-    input = entered (first-walk .before)
+    input = entered (first-walk .before .before)
 
     abbrev fewest : List ℕ
     fewest = p .spread-members .last .1 .1 .1 .1 .0
@@ -469,7 +606,7 @@ module _ (t : ℕ) where
     same = turn-sought (sent input) fewest (input .args .k) (p .spread-members .ensures .0) (p .spread-members .ensures .1 .0) (sound input) (asked input .inside) (input .args .resumes) (input .args .chosen) (asked input .prefix)
 
     came : WalkAt (sent input) (input .args .k) (input .args .resumes) (input .args .chosen) (first-walk .walk .result .at)
-    came = first-walk .walk .ensures .on (stopped .before .if1 .left)
+    came = first-walk .walk .ensures .on (stopped .before .if2 .left)
 
     thinner-at : SearchAt thinner (input .args .index .now) (input .args .k) (input .args .resumes) (input .args .chosen)
     thinner-at =
@@ -496,24 +633,24 @@ module _ (t : ℕ) where
 
   search-steps-between-requires : search-lts.Need-steps-between-requires (search-callees t) (search-at t) search′.Post
   search-steps-between-requires c κs =
-      let a = entered (c .before .before .before .before .before) in
+      let a = entered (c .before .before .before .before .before .before) in
       (a .pre .1 .0, (sound a .laid .framed, (sound a .few, λ j h. member-below (sent a) (sound a) j h)))
 
   search-spread-members-requires : search-lts.Need-spread-members-requires (search-callees t) (search-at t) search′.Post
   search-spread-members-requires c κs =
-      let a = entered (c .before .before .before .before .before .before .before) in
+      let a = entered (c .before .before .before .before .before .before .before .before) in
       (a .pre .1 .0, ((record { laid = sound a .laid; indexed = asked a .seeking .indexed }, record { proper = sound a .members; few = sound a .few }), sound a .place))
 
   search-next-requires-2 : search-lts.Need-next-requires-2 (search-callees t) (search-at t) search′.Post
   search-next-requires-2 c κs =
       let p = c .before .before in
       let a = input p in
-      let e = stop-is (first-walk p .before) in
+      let e = stop-is (first-walk p .before .before) in
       let few = walk-asks (going a) (path a .start) (omega arith) (walk-forward (going a)) .2 in
       (omega (arith, came p .to-end, e), omega (arith, p .spread-members .ensures .0, few, e), omega (arith, few, e))
 
-  search-walk-requires-2 : search-lts.Need-walk-requires-2 (search-callees t) (search-at t) search′.Post
-  search-walk-requires-2 c κs =
+  search-comb-requires-2 : search-lts.Need-comb-requires-2 (search-callees t) (search-at t) search′.Post
+  search-comb-requires-2 c κs =
       let x = c .before in
       let p = x .before .before .before in
       let a = input p in (
@@ -521,24 +658,14 @@ module _ (t : ℕ) where
         (
           (p .spread-members .ensures .0, thinner-at p),
           subst (WalkAt (thinner p) (a .args .k) (a .args .resumes) (a .args .chosen))
-              (sym (x .next2 .ensures ∙ ap (nextLive (fewest p) (first-walk p .walk .result .at)) (stop-is (first-walk p .before))))
+              (sym (x .next2 .ensures ∙ ap (nextLive (fewest p) (first-walk p .walk .result .at)) (stop-is (first-walk p .before .before))))
               (goes-on p),
         ),
       )
 
-  -- an endless walk has found what there is to find, or nothing is left
-  ended : (c : search-lts.After-walk2 (search-callees t) (search-at t) search′.Post) → (ok : Bool) → c .walk2 .result .ok ≡ ok →
-      let p = c .before .before .before .before .before in
-      answer ok (take (length (input p .args .members .now)) (c .walk2 .result .tuples)) ≡ sought (thinner p) (input p .args .k) (input p .args .chosen)
-  ended c true e = sym (c .walk2 .ensures .found e)
-  ended c false e =
-      let p = c .before .before .before .before .before in
-      let a = input p in
-      sym (come-none (turn-of (thinner p) (a .args .index .now) (a .args .k) (a .args .resumes) (a .args .chosen) (thinner-at p) (chosen-sized a) (bound-sized a)) (c .walk2 .result .at) (c .walk2 .ensures .on e) (c .walk2 .ensures .whole e refl))
-
-pub +attempt+search+walk-spec : {M : Type 1} → statement M
-+attempt+search+walk-spec =
-    close μ-attempt μ-search μ-walk
+pub +attempt+comb+search+walk-spec : {M : Type 1} → statement M
++attempt+comb+search+walk-spec =
+    close μ-attempt μ-comb μ-search μ-walk
     (λ t. attempt-lts.spec (attempt-callees t) (attempt-at t) attempt.Post
     (λ c. let a = c .before .before .before in omega (arith, ready t a .few, turn t a .inside))
     (λ c. let a = c .before .before .before .before in turn t a .inside)
@@ -559,6 +686,42 @@ pub +attempt+search+walk-spec : {M : Type 1} → statement M
     (attempt-returns-2 t)
     (λ c. sym (clash t (start t (c .before .before .before)) (sym (c .before .fits3 .ensures) ∙ c .if3 .left)))
     (λ c. sym (nowhere t (c .before) (c .if2 .left) (fit t (start t (c .before))) refl)))
+    (λ t. comb-lts.spec (comb-callees t) (comb-at t) comb.Post comb-Inv-loop comb-μ-loop
+    (λ c. let a = c .before .before .before in omega (arith, combing t a .ready .few, combing t a .inside))
+    (λ c. let a = c .before .before .before .before in combing t a .inside)
+    (λ c κs. let a = c .before .before .before .before in omega (arith, span-asks (combed t a) (a .args .k) (combing t a .ready) (combing t a .inside) .0))
+    (λ c. let a = c .before .before .before .before .before in omega (arith, span-asks (combed t a) (a .args .k) (combing t a .ready) (combing t a .inside) .0))
+    (λ c κs. let a = c .before .before .before .before .before in omega (arith, span-asks (combed t a) (a .args .k) (combing t a .ready) (combing t a .inside) .0))
+    (λ c. let a = c .before .before .before .before .before .before in omega (arith, combing t a .ready .few, combing t a .inside))
+    (λ c. let a = c .before .before .before .before .before .before in omega (arith, combing t a .ready .few, combing t a .inside))
+    (λ c. let a = c .before .before .before .before .before .before in omega (arith, combing t a .ready .few, combing t a .inside))
+    (λ c κs. let a = c .before .before .before .before .before .before in record { laid = combing t a .ready .laid; exist = λ j h. exists (combed t a) (combing t a .ready) j h })
+    (λ c. let a = c .before .before .before .before .before .before .before in (a .pre .1 .1, known-none (combed t a) (a .args .k) (a .args .resumes) (a .args .chosen)))
+    (λ l. omega (arith, head-is t l, from-head t l))
+    (λ c κs. let l = c .before .before in (trial (combing t (origin t l)) (x t l) (x-from t l) (x-to t l), l .before .loop .inv .1 .0))
+    (λ c κs.
+    let l = here t (c .before) in
+    let a = origin t l in
+    (omega (arith, a .pre .0), (a .pre .1 .0 .0, record { turn = from-pre t a; from-start = x-from t l; to-end = x-to t l; lives = x-lives t l })))
+    (λ c.
+    let u = c .before in
+    let l = here t (u .before .before) in
+    let a = origin t l in
+    let ts = take (length (a .args .members .now)) (u .attempt .result .tuples) in
+    let e = ap (λ (b : Bool). answer b ts) (c .if3 .taken) in
+    e ∙ sym (come-found (combing t a) (l .before .loop .g) (arrived t l) (in-line t l) ts (ap (onward (combed t a) (a .args .k) (a .args .chosen)) (sym (x-is t l)) ∙ sym (u .attempt .ensures) ∙ e)))
+    (λ c. let l = here t (c .before .before) in omega (arith, in-line t l, next-asks t l (l .before .loop .g) (arrived t l .from-start) (arrived t l .to-end) .2))
+    (λ c κs.
+    let l = here t (c .before .before) in
+    let k = next-asks t l (l .before .loop .g + 1) (omega (arith, arrived t l .from-start)) (omega (arith, in-line t l)) in
+    (omega (arith, tail-is t l, k .0), omega (arith, tail-is t l, k .1), omega (arith, tail-is t l, k .2)))
+    (λ c. omega (arith, beyond t c, nextly t c .to-end, tail-is t (at-loop t c), at-loop t c .loop-test .taken))
+    (λ c.
+    let l = at-loop t c in
+    (nextly t c, known-next (l .before .loop .inv .1) (lead t (led t c)) (x-from t l) (x-to t l) (x-lives t l) (barren t c)))
+    (λ c.
+    let a = c .before .before .before .before .before .before .before .before .before in
+    sym (come-none (combing t a) (c .before .loop .g) (c .before .loop .inv .0) (omega (arith, c .loop-test .left, c .before .before .before .tuple-start2 .ensures)))))
     (λ t. search-lts.spec (search-callees t) (search-at t) search′.Post
     (λ c. let a = c .before .before .before in omega (arith, sound t a .few, asked t a .inside))
     (λ c. asked t (c .before .before .before .before) .inside)
@@ -571,19 +734,30 @@ pub +attempt+search+walk-spec : {M : Type 1} → statement M
     let e = ap (λ (s : Span). s .end) (c .before .span-of .ensures) in
     let k = walk-asks (going t a) (path t a .start) (omega arith) (walk-forward (going t a)) in
     (omega (arith, s, e, k .0), omega (arith, e, k .1), omega (arith, e, k .2)))
-    (λ c κs. let a = entered t c in (omega (arith, a .pre .0), ((a .pre .1 .0, asked t a), begins t c)))
-    (λ c. sym (c .before .before .walk .ensures .found (c .if1 .taken)))
+    (λ c κs. let n = c .before in let a = entered t n in (omega (arith, a .pre .0), ((a .pre .1 .0, asked t a), begins t n)))
+    (λ c. c .comb .ensures)
+    (λ c κs. let n = c .before in let a = entered t n in (omega (arith, a .pre .0), ((a .pre .1 .0, asked t a), begins t n)))
     (λ c.
-    let w = c .before .before .before in
-    let n = w .before in
-    sym (come-none (going t (entered t n)) (w .walk .result .at) (w .walk .ensures .on (c .before .if1 .left)) (omega (arith, c .if2 .taken, stop-is t n))))
+    let w = c .before .before in
+    let n = w .before .before in
+    let a = entered t n in
+    let ts = take (length (a .args .members .now)) (w .walk .result .tuples) in
+    ⊎-elim
+    (λ v. ap (λ (b : Bool). answer b ts) (v .taken) ∙ sym (w .walk .ensures .found (v .taken)))
+    (λ v. ap (λ (b : Bool). answer b ts) (v .0 .left) ∙ sym (come-none (going t a) (w .walk .result .at) (w .walk .ensures .on (v .0 .left)) (omega (arith, leb-true (spanned t n .span-of .result .end) (w .walk .result .at) (v .1 .taken), stop-is t n))))
+    (c .if2 .came))
     (search-steps-between-requires t)
     (search-spread-members-requires t)
-    (λ c. let p = c .before in let a = input t p in sym (sym (same t p) ∙ sought-none (sent t a) (fewest t p) (a .args .k) (a .args .chosen) (p .spread-members .ensures .1 .1 (not-true _ (c .if3 .taken)))))
+    (λ c.
+    let p = c .before in
+    let a = input t p in
+    let ts = take (length (a .args .members .now)) (first-walk t p .walk .result .tuples) in
+    ap (λ (b : Bool). answer b ts) (stopped t p .before .if2 .left)
+    ∙ sym (sym (same t p) ∙ sought-none (sent t a) (fewest t p) (a .args .k) (a .args .chosen) (p .spread-members .ensures .1 .1 (not-true _ (c .if4 .taken)))))
     (λ c. search needs)
     (search-next-requires-2 t)
-    (search-walk-requires-2 t)
-    (λ c. ended t (c .before) (c .before .walk2 .result .ok) refl ∙ same t (c .before .before .before .before .before .before)))
+    (search-comb-requires-2 t)
+    (λ c. c .comb2 .ensures ∙ same t (c .before .before .before .before .before)))
     λ t. walk-lts.spec (walk-callees t) (walk-at t) walk.Post walk-Inv-loop walk-μ-loop
     (λ c. let a = c .before .before .before in omega (arith, walking t a .ready .few, walking t a .inside))
     (λ c. let a = c .before .before .before .before in walking t a .inside)
@@ -597,8 +771,7 @@ pub +attempt+search+walk-spec : {M : Type 1} → statement M
     (λ c. let l = c .before .before .before .before in omega (arith, inside t l, asks t l (l .before .loop .g) (reached t l .from-start) (reached t l .to-end) .2))
     (λ c κs. let l = c .before .before .before .before in let k = asks t l (l .before .loop .g + 1) (omega (arith, reached t l .from-start)) (omega (arith, inside t l)) in (omega (arith, end-is t l, k .0), omega (arith, end-is t l, k .1), omega (arith, end-is t l, k .2)))
     (λ c. let n = c in omega (arith, looped t n .before .loop .inv .1, inside t (looped t n), asks t (looped t n) (looped t n .before .loop .g) (reached t (looped t n) .from-start) (reached t (looped t n) .to-end) .2))
-    (λ c κs. search needs)
-    (λ c. record { found = λ e. absurd (not-both e refl); on = λ e. further t (c .before .before); whole = λ e q. absurd (not-both (c .if2 .taken) (c .before .stops .ensures q)) })
+    (λ c. record { found = λ e. absurd (not-both e refl); on = λ e. further t (c .before) })
     (walk-loop-less t)
     (walk-loop-again t)
-    (λ c. record { found = λ e. absurd (not-both e refl); on = λ e. c .before .loop .inv .0; whole = λ e q. omega (arith, c .loop-test .left, c .before .before .tuple-start2 .ensures) })
+    (λ c. record { found = λ e. absurd (not-both e refl); on = λ e. c .before .loop .inv .0 })
