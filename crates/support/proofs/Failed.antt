@@ -14,21 +14,24 @@ use lib.ListN.{length, getD, take, drop, set, replicate, length-map, length-set,
 use lib.Seq.{getD-drop, take-suc}
 use Rattle.model.specs.Limits.{noSupport}
 use Rattle.model.specs.Lists.{all, pairwise, earlier}
-use Rattle.model.specs.Network.{Network, size, firstId, idsOf, indexOf, relationOf}
+use Rattle.model.specs.Network.{Network, size, total, firstId, idsOf, indexOf, relationOf}
 use Rattle.model.specs.Agreement.{agree}
 use Rattle.model.specs.LiveWords.{isLive, isSet}
 use Rattle.model.specs.TupleSet.{has}
 use Rattle.model.specs.Support.{isSupport}
-use Rattle.model.proofs.Bools.{and-right}
+use Rattle.model.proofs.Bools.{and-right, and-intro}
 use Rattle.model.proofs.Lists.{here, all-at, all-intro, all-append, mem-getD, getD-map-in, pairwise-append, pairwise-cross, later-append, later-earlier, Picks, pick, done, picks-append, picks-length, picks-at, mem-from, from-mem}
 use Rattle.model.proofs.Agreement.{agree-sym, agree-alike}
-use Rattle.model.proofs.Network.{relationOf-at, relationOf-ids}
+use Rattle.model.proofs.Network.{relationOf-at, relationOf-ids, ids-below}
+use Rattle.model.proofs.LiveWords.{living-has}
 use Rattle.model.proofs.Support.{isSupport-intro, isSupport-self, isSupport-live, isSupport-agree, picks-same}
 use Rattle.model.proofs.Search.{completion-hopeless, completion-nothing}
 use Rattle.layout.specs.Starts.{tupleStart}
 use Rattle.doubles.specs.Alike.{Alike, CoversFrom}
 use Rattle.doubles.specs.Doubles.{places}
-use Rattle.support.specs.Search.{Search, netOf, liveOf, idAt, seeker, SoundSearch, chosenIds, Prefix, span, onward, fits, Repeats, MayLead}
+use Rattle.narrowing.specs.declared.sieve.Sieve.{Sieve}
+use Rattle.narrowing.specs.Sieve.{passesSieve}
+use Rattle.support.specs.Search.{Search, netOf, liveOf, idAt, seeker, SoundSearch, chosenIds, Prefix, span, onward, fits, Alone, Sifts, Repeats, hopeful, MayLead}
 use Rattle.support.proofs.Chosen.{chosen-picks, chosen-indices}
 use Rattle.support.proofs.Prefix.{ids-more}
 use Rattle.support.proofs.Walking.{rises, few-tuples, member-within}
@@ -176,6 +179,54 @@ module _ {Q : Search} {k : ℕ} {resumes : Bool} {chosen : List ℕ} (T : Turn Q
         completion-hopeless N (liveOf Q) (seeker Q) (Q .low) (ids ++ (g ∷ [])) later
         (λ t p s l. completion-nothing N (liveOf Q) (seeker Q) (Q .low) (ids ++ (h ∷ [])) later (Y .fails) t p (support t p s) (late t p s))
 
+-- ---- A tuple that agrees with no live tuple of a member behind
+
+module _ {Q : Search} {k : ℕ} {resumes : Bool} {chosen : List ℕ} (T : Turn Q k resumes chosen (span Q k resumes .first) (span Q k resumes .start) (span Q k resumes .end)) (x : ℕ) (A : Alone (netOf Q) (Q .members) (Q .place) k (Q .words) x) where
+  abbrev net : Network
+  net = netOf Q
+
+  abbrev own-id : ℕ
+  own-id = span Q k resumes .first + x
+
+  abbrev with-x : List ℕ
+  with-x = chosenIds net (Q .members) chosen k ++ (own-id ∷ [])
+
+  abbrev behind : List ℕ
+  behind = drop (suc k) (Q .members)
+
+  abbrev i : ℕ
+  i = A .j - suc k
+
+  abbrev rel : ℕ
+  rel = getD (Q .members) (A .j) 0
+
+  small : i < length behind
+  small = omega (arith, length-drop (suc k) (Q .members), A .later .from-k, A .later .inside)
+
+  module _ (t : List ℕ) (p : Picks (map (idsOf net) behind) t) (s : isSupport net (liveOf Q) (seeker Q) (with-x ++ t) ≡ true) where
+    abbrev z : ℕ
+    z = getD t i 0
+
+    at : List·Memᴰ z t × List·Memᴰ z (getD (map (idsOf net) behind) i [])
+    at = picks-at p i 0 (omega (arith, small, length-map behind (idsOf net)))
+
+    its : List·Memᴰ z (idsOf net rel)
+    its =
+        let j-is : suc k + i ≡ A .j = omega (arith, A .later .from-k) in
+        subst (List·Memᴰ z) (getD-map-in (idsOf net) behind i 0 [] small ∙ ap (idsOf net) (getD-drop (suc k) (Q .members) i 0 ∙ ap (λ (j : ℕ). getD (Q .members) j 0) j-is)) (at .1)
+
+    -- there is no such support
+    unmet : ⊥
+    unmet =
+        let b = from-mem (firstId net rel) (size net rel) z its in
+        let is-z : firstId net rel + (z - firstId net rel) ≡ z = omega (arith, b .0) in
+        A .none (z - firstId net rel) (omega (arith, b))
+        (ap (isLive (Q .words)) is-z ∙ sym (living-has (total net) (Q .words) z (ids-below net rel its)) ∙ all-at (has (liveOf Q)) (with-x ++ t) (isSupport-live net (liveOf Q) (seeker Q) (with-x ++ t) s) (Memᴰ·append-right with-x (at .0)))
+        (ap₂ (agree net) (ap (λ (n : ℕ). n + x) (sym (first-id T))) is-z ∙ pairwise-cross (agree net) with-x t (isSupport-agree net (liveOf Q) (seeker Q) (with-x ++ t) s) (Memᴰ·append-right (chosenIds net (Q .members) chosen k) here) (at .0))
+
+  pub alone-nowhere : onward Q k chosen own-id ≡ none
+  alone-nowhere = completion-hopeless net (liveOf Q) (seeker Q) (Q .low) with-x (map (idsOf net) behind) (λ t p s l. unmet t p s)
+
 -- ---- The table
 
 -- every entry of the table failed
@@ -185,16 +236,19 @@ Known Q k resumes chosen table = (length table ≡ places) × ((i : ℕ) → i <
 pub known-none : (Q : Search) (k : ℕ) (resumes : Bool) (chosen : List ℕ) → Known Q k resumes chosen (replicate places noSupport)
 known-none Q k resumes chosen = (length-replicate places noSupport, λ i h d. absurd (d (getD-replicate places i noSupport 0 h)))
 
-module _ {Q : Search} {k : ℕ} {resumes : Bool} {chosen : List ℕ} {table after : List ℕ} {x set′ : ℕ} {b : Bool} (K : Known Q k resumes chosen table) (M : MayLead (Q .lists) (Q .members) (Q .place) (Q .own) k chosen x set′ (resumes && eqb x (getD (Q .low) k 0)) table b after) where
+module _ {Q : Search} {k : ℕ} {resumes : Bool} {chosen : List ℕ} {table after : List ℕ} {x set′ : ℕ} {sieve : Sieve} {b : Bool} (K : Known Q k resumes chosen table) (M : MayLead (Q .lists) (Q .members) (Q .place) (Q .own) k chosen x sieve set′ (resumes && eqb x (getD (Q .low) k 0)) table b after) where
+  fitted : hopeful (netOf Q) (Q .members) (Q .place) (Q .own) k chosen sieve x ≡ true → fits (netOf Q) (Q .members) (Q .place) (Q .own) k chosen x ≡ true
+  fitted f = and-right (passesSieve (netOf Q) (getD (Q .members) k 0) sieve x) (fits (netOf Q) (Q .members) (Q .place) (Q .own) k chosen x) f
+
   -- a tuple that leads to nothing may be entered
   pub known-next : span Q k resumes .start ≤ span Q k resumes .first + x → span Q k resumes .first + x < span Q k resumes .end → isLive (Q .words) (span Q k resumes .first + x) ≡ true → onward Q k chosen (span Q k resumes .first + x) ≡ none → Known Q k resumes chosen after
-  known-next from-start to-end lives fails = go (fits (netOf Q) (Q .members) (Q .place) (Q .own) k chosen x) refl (resumes && eqb x (getD (Q .low) k 0)) refl
+  known-next from-start to-end lives fails = go (hopeful (netOf Q) (Q .members) (Q .place) (Q .own) k chosen sieve x) refl (resumes && eqb x (getD (Q .low) k 0)) refl
     where
-      go : (f : Bool) → fits (netOf Q) (Q .members) (Q .place) (Q .own) k chosen x ≡ f → (r : Bool) → (resumes && eqb x (getD (Q .low) k 0)) ≡ r → Known Q k resumes chosen after
+      go : (f : Bool) → hopeful (netOf Q) (Q .members) (Q .place) (Q .own) k chosen sieve x ≡ f → (r : Bool) → (resumes && eqb x (getD (Q .low) k 0)) ≡ r → Known Q k resumes chosen after
       go false f r e = subst (Known Q k resumes chosen) (sym (M .same (inl f))) K
       go true f true e = subst (Known Q k resumes chosen) (sym (M .same (inr e))) K
       go true f false e =
-          let own : Failing Q k resumes chosen x = record { from-start = from-start; to-end = to-end; lives = lives; fitting = f; past = e; fails = fails } in (
+          let own : Failing Q k resumes chosen x = record { from-start = from-start; to-end = to-end; lives = lives; fitting = fitted f; past = e; fails = fails } in (
             M .entered .0 ∙ K .0,
             λ i h d.
                 ⊎-elim
@@ -205,13 +259,14 @@ module _ {Q : Search} {k : ℕ} {resumes : Bool} {chosen : List ℕ} {table afte
 
   -- a tuple that may not lead to a support leads to none
   module _ (T : Turn Q k resumes chosen (span Q k resumes .first) (span Q k resumes .start) (span Q k resumes .end)) (covers : CoversFrom (netOf Q) (Q .members) (Q .place) (k + 1) (isSet set′)) (from-start : span Q k resumes .start ≤ span Q k resumes .first + x) (to-end : span Q k resumes .first + x < span Q k resumes .end) where
-    pub leads-nowhere : b ≡ false → onward Q k chosen (span Q k resumes .first + x) ≡ none
-    leads-nowhere e = go (fits (netOf Q) (Q .members) (Q .place) (Q .own) k chosen x) refl
+    pub leads-nowhere : Sifts (netOf Q) (Q .members) (Q .place) k (Q .words) sieve → b ≡ false → onward Q k chosen (span Q k resumes .first + x) ≡ none
+    leads-nowhere sifts e = go (passesSieve (netOf Q) (getD (Q .members) k 0) sieve x) refl (fits (netOf Q) (Q .members) (Q .place) (Q .own) k chosen x) refl
       where
-        go : (f : Bool) → fits (netOf Q) (Q .members) (Q .place) (Q .own) k chosen x ≡ f → onward Q k chosen (span Q k resumes .first + x) ≡ none
-        go false f = come-clash T x from-start to-end f
-        go true f =
-            let R = M .wrong e f .1 in
+        go : (p : Bool) → passesSieve (netOf Q) (getD (Q .members) k 0) sieve x ≡ p → (f : Bool) → fits (netOf Q) (Q .members) (Q .place) (Q .own) k chosen x ≡ f → onward Q k chosen (span Q k resumes .first + x) ≡ none
+        go false p f q = alone-nowhere T x (sifts x (index-below T x from-start to-end) p)
+        go true p false f = come-clash T x from-start to-end f
+        go true p true f =
+            let R = M .wrong e (and-intro p f) .1 in
             let y = getD table (R .i) 0 in
             let few = few-tuples Q (T .ready) in
             let free : y ≡ noSupport → ⊥ = λ n. omega (arith, n, R .before, index-below T x from-start to-end, member-within Q (T .ready) k (T .inside), few) in

@@ -1,6 +1,6 @@
 -- What the search for a support asks of its lists, what it knows of the tuples chosen so far, and what its answer stands for.
 use mathlib.Core.Path.{_≡_}
-use mathlib.Core.Bool.{Bool, true, false, cond}
+use mathlib.Core.Bool.{Bool, true, false, _&&_, cond}
 use mathlib.Core.Option.{Option, none, some}
 use mathlib.Core.Logic.{_⊎_}
 use mathlib.Core.List.{List, [], _∷_, _++_, map}
@@ -19,6 +19,9 @@ use Rattle.model.specs.Fault.{properMembers}
 use Rattle.layout.specs.Starts.{tupleStart}
 use Rattle.layout.specs.Setting.{Lists, lists, networkIn, SoundLists}
 use Rattle.value_index.specs.Index.{Indexed}
+use Rattle.narrowing.specs.Narrows.{Later}
+use Rattle.narrowing.specs.declared.sieve.Sieve.{Sieve}
+use Rattle.narrowing.specs.Sieve.{passesSieve}
 use Rattle.doubles.specs.Alike.{Alike}
 use Rattle.doubles.specs.Doubles.{Entered}
 use Rattle.support.specs.declared.Found.{Found}
@@ -181,7 +184,24 @@ pub record Walks (Q : Search) (k : ℕ) (resumes : Bool) (chosen : List ℕ) (w 
   pub found : w .ok ≡ true → sought Q k chosen ≡ some (take (length (Q .members)) (w .tuples))
   pub on : w .ok ≡ false → WalkAt Q k resumes chosen (w .at)
 
--- ---- Tuples that failed
+-- ---- Tuples that lead to nothing
+
+-- It is the turn of member k, which is not the one at `place`.
+pub record TurnOf (members : List ℕ) (place k : ℕ) : Type 0 where
+  pub inside : k < length members
+  pub place-in : place < length members
+  pub other : k ≡ place → ⊥
+
+-- Tuple x of member k agrees with no live tuple of a member behind.
+pub record Alone (N : Network) (members : Combination) (place k : ℕ) (words : List ℕ) (x : ℕ) : Type 0 where
+  pub j : ℕ
+  pub later : Later members place (k + 1) j
+  pub none : (z : ℕ) → z < size N (getD members j 0) → isLive words (idAt N members j z) ≡ true → agree N (idAt N members k x) (idAt N members j z) ≡ true → ⊥
+
+-- a tuple that does not pass the sieve does so
+abbrev pub Sifts : Network → Combination → ℕ → ℕ → List ℕ → Sieve → Type 0
+Sifts N members place k words sieve =
+    (x : ℕ) → x < size N (getD members k 0) → passesSieve N (getD members k 0) sieve x ≡ false → Alone N members place k words x
 
 -- An entry y before x, with x's values under the variables of the set.
 pub record Repeats (L : Lists) (set r x : ℕ) (table : List ℕ) : Type 0 where
@@ -190,10 +210,14 @@ pub record Repeats (L : Lists) (set r x : ℕ) (table : List ℕ) : Type 0 where
   pub before : getD table i 0 < x
   pub alike : Alike L set r x (getD table i 0)
 
--- Tuple x of member k may lead to a support only if it fits; if it fits and may not, it is not the one at which the search resumes, and repeats
--- an entry. It is entered only if it fits and is not that one.
-pub record MayLead (L : Lists) (c : Combination) (place own k : ℕ) (chosen : List ℕ) (x set : ℕ) (resumed : Bool) (before : List ℕ) (b : Bool) (after : List ℕ) : Type 0 where
+-- it passes the sieve and fits
+abbrev pub hopeful : Network → Combination → ℕ → ℕ → ℕ → List ℕ → Sieve → ℕ → Bool
+hopeful N c place own k chosen sieve x = passesSieve N (getD c k 0) sieve x && fits N c place own k chosen x
+
+-- Tuple x of member k may lead to a support only if it is hopeful; if it is and may not, it is not the one at which the search resumes, and
+-- repeats an entry. It is entered only if it is hopeful and not that one.
+pub record MayLead (L : Lists) (c : Combination) (place own k : ℕ) (chosen : List ℕ) (x : ℕ) (sieve : Sieve) (set : ℕ) (resumed : Bool) (before : List ℕ) (b : Bool) (after : List ℕ) : Type 0 where
   pub entered : Entered x before after
-  pub same : (fits (networkIn L) c place own k chosen x ≡ false) ⊎ (resumed ≡ true) → after ≡ before
-  pub right : b ≡ true → fits (networkIn L) c place own k chosen x ≡ true
-  pub wrong : b ≡ false → fits (networkIn L) c place own k chosen x ≡ true → (resumed ≡ false) × Repeats L set (getD c k 0) x before
+  pub same : (hopeful (networkIn L) c place own k chosen sieve x ≡ false) ⊎ (resumed ≡ true) → after ≡ before
+  pub right : b ≡ true → hopeful (networkIn L) c place own k chosen sieve x ≡ true
+  pub wrong : b ≡ false → hopeful (networkIn L) c place own k chosen sieve x ≡ true → (resumed ≡ false) × Repeats L set (getD c k 0) x before

@@ -4,12 +4,13 @@ ghost use mathlib.Core.Path.{_≡_};
 ghost use Prim.Native.Nat.{_+_, _<_};
 ghost use Rattle.model.specs.Limits.{maxRelations, maxMembers};
 ghost use lib.ListN.{length};
+ghost use Rattle.doubles.specs.Alike.{MembersIn};
 ghost use Rattle.doubles.specs.Doubles.{places};
 ghost use Rattle.layout.specs.Loan.{entry, exit};
 ghost use Rattle.layout.specs.Starts.{tupleStart};
 ghost use Rattle.layout.specs.Setting.{lists, networkIn};
 ghost use Rattle.narrowing.specs.Narrows.{Long};
-ghost use Rattle.support.specs.Search.{searching, Seeking, SearchAt, pastOwn, spanAt, fits, Trial, MayLead, AttemptAt, Attempts, WalkAt, Walks, Finds, FindsFirst};
+ghost use Rattle.support.specs.Search.{searching, Seeking, SearchAt, pastOwn, spanAt, fits, Trial, TurnOf, Sifts, MayLead, AttemptAt, Attempts, WalkAt, Walks, Finds, FindsFirst};
 use doubles::PLACES;
 use doubles::Table;
 use doubles::alike::variables_from;
@@ -20,9 +21,13 @@ use live::Words;
 use live::is_live;
 use live::next;
 use model::MAX_MEMBERS;
+use model::MAX_WIDTH;
 use model::NO_SUPPORT;
 use model::Value;
 use narrowing::narrow_members;
+use narrowing::sieve::Sieve;
+use narrowing::sieve::passes;
+use narrowing::sieve::sieve_for;
 use network::agreement::tuples_agree;
 use spreading::spread_members;
 use spreading::steps::steps_between;
@@ -277,8 +282,42 @@ fn walk(
     }
 }
 
-// Whether tuple x of member k may lead to a support: it fits, and no tuple that failed has its values under the variables of the set. It is
-// entered in the table, unless it fits not or is the one at which a search resumes.
+// The last of so many places but this one.
+fn last_but(places: usize, place: usize) -> usize
+    requires { ⌜ 1 < places ⌝ }
+    ensures { λ n. ⌜ (n < places) × (n ≡ place → ⊥) ⌝ }
+{
+    if place == places - 1 {
+        return places - 2;
+    }
+    places - 1
+}
+
+// A sieve of member k's tuples, by the live tuples of the last member but the one at `place`; nothing is sieved if k is the last.
+fn sieve_behind(
+    variables: &[u16],
+    values: &[Value],
+    starts: &Starts,
+    words: &Words,
+    members: &[u16],
+    place: usize,
+    k: usize,
+) -> Sieve
+    requires { ⌜ Long (now words) × (MembersIn (lists now variables values starts) (now members) × TurnOf (now members) place k) ⌝ }
+    ensures { λ sieve. ⌜ Sifts (networkIn (lists entry variables values starts)) (entry members) place k (entry words) sieve ⌝ }
+{
+    let last = last_but(members.len(), place);
+    if last <= k {
+        return Sieve {
+            column: MAX_WIDTH as u16,
+            bits: 0,
+        };
+    }
+    sieve_for(variables, values, starts, words, members[k], members[last])
+}
+
+// Whether tuple x of member k may lead to a support: it passes the sieve and fits, and no tuple that failed has its values under the variables of
+// the set. It is entered in the table, unless it fails these tests or is the one at which a search resumes.
 fn may_lead(
     variables: &[u16],
     values: &[Value],
@@ -290,12 +329,16 @@ fn may_lead(
     chosen: Indices,
     failed: &mut Table,
     x: u16,
+    sieve: Sieve,
     common: u64,
     resumed: bool,
 ) -> bool
     requires { ⌜ Trial (lists now variables values starts) (now members) place own k chosen x × (length (now failed) ≡ places) ⌝ }
-    ensures { λ b. ⌜ MayLead (lists entry variables values starts) (entry members) place own k chosen x common resumed (entry failed) b (exit failed) ⌝ }
+    ensures { λ b. ⌜ MayLead (lists entry variables values starts) (entry members) place own k chosen x sieve common resumed (entry failed) b (exit failed) ⌝ }
 {
+    if !passes(variables, values, starts, sieve, members[k], x) {
+        return false;
+    }
     if !fits(variables, values, starts, members, place, own, k, chosen, x) {
         return false;
     }
@@ -331,6 +374,7 @@ fn comb(
     let end = tuple_start(starts, r + 1);
     let lowest = low[k];
     let common = variables_from(variables, values, starts, members, place, k + 1);
+    let sieve = sieve_behind(variables, values, starts, words, members, place, k);
     let mut failed = [NO_SUPPORT; PLACES];
     let mut g = from;
     while g < end {
@@ -347,6 +391,7 @@ fn comb(
             chosen,
             &mut failed,
             x,
+            sieve,
             common,
             resumed,
         ) {

@@ -24,6 +24,7 @@ use Rattle.model.proofs.LiveWords.{nextLive-first}
 use Rattle.layout.specs.Starts.{tupleStart}
 use Rattle.support.specs.declared.Span.{Span}
 use Rattle.support.specs.declared.Stage.{Stage}
+use Rattle.narrowing.specs.declared.sieve.Sieve.{Sieve}
 use Rattle.support.specs.Search.{Search, netOf, liveOf, idAt, seeker, SoundSearch, chosenIds, Prefix, SearchAt, pastOwn, span, onward, left, WalkAt, MayLead, fits, sought, answer}
 use Rattle.support.proofs.Chosen.{chosen-mem}
 use Rattle.support.proofs.Walking.{member-below, exists}
@@ -54,6 +55,7 @@ use Rattle.support.proofs.fits.Reads as fits-reads
 use Rattle.support.proofs.past_own.Reads as past-own-reads
 use Rattle.support.proofs.span_of.Reads as span-of-reads
 use Rattle.support.proofs.may_lead.Reads as may-lead-reads
+use Rattle.support.proofs.sieve_behind.Reads as sieve-behind-reads
 use Rattle.support.proofs.+attempt+comb+search+walk.{statement}
 use Rattle.support.proofs.+attempt+comb+search+walk.Tie.{close}
 
@@ -120,7 +122,7 @@ walk-callees t =
 
 abbrev comb-callees : ℕ → comb-lts.Claims
 comb-callees t =
-    (tuple-start-reads.Asked, tuple-start-reads.Learnt, variables-from-reads.Asked, variables-from-reads.Learnt, may-lead-reads.Asked, may-lead-reads.Learnt, attempt-below t, attempt.Post, next-reads.Asked, next-reads.Learnt)
+    (tuple-start-reads.Asked, tuple-start-reads.Learnt, variables-from-reads.Asked, variables-from-reads.Learnt, sieve-behind-reads.Asked, sieve-behind-reads.Learnt, may-lead-reads.Asked, may-lead-reads.Learnt, attempt-below t, attempt.Post, next-reads.Asked, next-reads.Learnt)
 
 -- ---- The turn of a member
 
@@ -419,11 +421,11 @@ module _ (t : ℕ) where
 -- ---- comb
 
 abbrev comb-Inv-loop : comb-lts.InvT-loop
-comb-Inv-loop variables values starts index words members place own k resumes chosen from low r first end lowest common failed₀ g₀ failed g =
+comb-Inv-loop variables values starts index words members place own k resumes chosen from low r first end lowest common sieve failed₀ g₀ failed g =
     let Q = searchOn variables values starts words members place own low in WalkAt Q k resumes chosen g × Known Q k resumes chosen failed
 
 abbrev comb-μ-loop : comb-lts.MeasureT-loop
-comb-μ-loop variables values starts index words members place own k resumes chosen from low r first end lowest common failed₀ g₀ failed g = end - g
+comb-μ-loop variables values starts index words members place own k resumes chosen from low r first end lowest common sieve failed₀ g₀ failed g = end - g
 
 module _ (t : ℕ) where
   abbrev Comb : Type 0
@@ -447,7 +449,7 @@ module _ (t : ℕ) where
 
   module _ (l : comb-lts.In-loop (comb-callees t) (comb-at t) comb.Post comb-Inv-loop comb-μ-loop) where
     abbrev covering : comb-lts.After-variables-from (comb-callees t) (comb-at t) comb.Post comb-Inv-loop comb-μ-loop
-    covering = l .before .before
+    covering = l .before .before .before
 
     abbrev origin : Comb
     origin = covering .before .before .before .before .before .before .before
@@ -466,6 +468,9 @@ module _ (t : ℕ) where
 
     from-head : line origin .first ≤ l .before .loop .g
     from-head = come-from (combing origin) (l .before .loop .g) arrived .0
+
+    abbrev l-sieve : Sieve
+    l-sieve = l .before .before .sieve-behind .result
 
     -- the tuple's index
     abbrev x : ℕ
@@ -497,11 +502,11 @@ module _ (t : ℕ) where
     abbrev after : List ℕ
     after = m .may-lead .last .1 .1 .1 .1 .1 .1 .1 .1 .0
 
-    lead : MayLead (combed (origin here) .lists) (combed (origin here) .members) (combed (origin here) .place) (combed (origin here) .own) (origin here .args .k) (origin here .args .chosen) (x here) (covering here .variables-from .result) (origin here .args .resumes && eqb (x here) (getD (origin here .args .t9) (origin here .args .k) 0)) (here .before .loop .failed) (m .may-lead .result) after
+    lead : MayLead (combed (origin here) .lists) (combed (origin here) .members) (combed (origin here) .place) (combed (origin here) .own) (origin here .args .k) (origin here .args .chosen) (x here) (l-sieve here) (covering here .variables-from .result) (origin here .args .resumes && eqb (x here) (getD (origin here .args .t9) (origin here .args .k) 0)) (here .before .loop .failed) (m .may-lead .result) after
     lead =
         let a = origin here in
         let e = flag (a .args .resumes) (eqb (x here) (getD (a .args .t9) (a .args .k) 0)) (flagged .if1 .resumed) (⊎-elim (λ w. _⊎_.inl (w .0 .taken, w .1)) (λ w. _⊎_.inr (w .0 .left, w .1)) (flagged .if1 .came)) in
-        subst (λ (r : Bool). MayLead (combed a .lists) (combed a .members) (combed a .place) (combed a .own) (a .args .k) (a .args .chosen) (x here) (covering here .variables-from .result) r (here .before .loop .failed) (m .may-lead .result) after) (sym e) (m .may-lead .ensures)
+        subst (λ (r : Bool). MayLead (combed a .lists) (combed a .members) (combed a .place) (combed a .own) (a .args .k) (a .args .chosen) (x here) (l-sieve here) (covering here .variables-from .result) r (here .before .loop .failed) (m .may-lead .result) after) (sym e) (m .may-lead .ensures)
 
   module _ (c : comb-lts.After-next (comb-callees t) (comb-at t) comb.Post comb-Inv-loop comb-μ-loop) where
     abbrev joined : comb-lts.Joined2 (comb-callees t) (comb-at t) comb.Post comb-Inv-loop comb-μ-loop
@@ -520,7 +525,7 @@ module _ (t : ℕ) where
         let a = origin l in
         ⊎-elim
         (λ w. sym (w .1 .ensures) ∙ ap (λ (b : Bool). answer b (take (length (a .args .members .now)) (w .1 .result .tuples))) (w .2 .left))
-        (λ w. leads-nowhere (l .before .loop .inv .1) (lead led) (combing a) (covering l .variables-from .ensures) (x-from l) (x-to l) (w .left))
+        (λ w. leads-nowhere (l .before .loop .inv .1) (lead led) (combing a) (covering l .variables-from .ensures) (x-from l) (x-to l) (l .before .before .sieve-behind .ensures) (w .left))
         (joined .if2 .came)
 
     nextly : WalkAt (combed (origin at-loop)) (origin at-loop .args .k) (origin at-loop .args .resumes) (origin at-loop .args .chosen) (c .next .result)
@@ -696,7 +701,8 @@ pub +attempt+comb+search+walk-spec : {M : Type 1} → statement M
     (λ c. let a = c .before .before .before .before .before .before in omega (arith, combing t a .ready .few, combing t a .inside))
     (λ c. let a = c .before .before .before .before .before .before in omega (arith, combing t a .ready .few, combing t a .inside))
     (λ c κs. let a = c .before .before .before .before .before .before in record { laid = combing t a .ready .laid; exist = λ j h. exists (combed t a) (combing t a .ready) j h })
-    (λ c. let a = c .before .before .before .before .before .before .before in (a .pre .1 .1, known-none (combed t a) (a .args .k) (a .args .resumes) (a .args .chosen)))
+    (λ c κs. let a = c .before .before .before .before .before .before .before in (a .pre .1 .0 .0, (record { laid = combing t a .ready .laid; exist = λ j h. exists (combed t a) (combing t a .ready) j h }, record { inside = combing t a .inside; place-in = combing t a .ready .place; other = combing t a .other })))
+    (λ c. let a = c .before .before .before .before .before .before .before .before in (a .pre .1 .1, known-none (combed t a) (a .args .k) (a .args .resumes) (a .args .chosen)))
     (λ l. omega (arith, head-is t l, from-head t l))
     (λ c κs. let l = c .before .before in (trial (combing t (origin t l)) (x t l) (x-from t l) (x-to t l), l .before .loop .inv .1 .0))
     (λ c κs.
@@ -720,8 +726,8 @@ pub +attempt+comb+search+walk-spec : {M : Type 1} → statement M
     let l = at-loop t c in
     (nextly t c, known-next (l .before .loop .inv .1) (lead t (led t c)) (x-from t l) (x-to t l) (x-lives t l) (barren t c)))
     (λ c.
-    let a = c .before .before .before .before .before .before .before .before .before in
-    sym (come-none (combing t a) (c .before .loop .g) (c .before .loop .inv .0) (omega (arith, c .loop-test .left, c .before .before .before .tuple-start2 .ensures)))))
+    let a = c .before .before .before .before .before .before .before .before .before .before in
+    sym (come-none (combing t a) (c .before .loop .g) (c .before .loop .inv .0) (omega (arith, c .loop-test .left, c .before .before .before .before .tuple-start2 .ensures)))))
     (λ t. search-lts.spec (search-callees t) (search-at t) search′.Post
     (λ c. let a = c .before .before .before in omega (arith, sound t a .few, asked t a .inside))
     (λ c. asked t (c .before .before .before .before) .inside)
