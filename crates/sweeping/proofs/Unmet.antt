@@ -56,6 +56,10 @@ module _ (L : Lists) where
   pub revises-none : (r s : ℕ) {words : List ℕ} → WordArray words → Revises L r s words words
   revises-none r s {words} w = (w, λ m members _. shrunk-refl (combining L m members) words (w .small))
 
+  pub revises-then : (r s : ℕ) {words now after : List ℕ} → Revises L r s words now → Revises L r s now after → Revises L r s words after
+  revises-then r s {words} {now} {after} a b =
+      (b .0, λ m members t. shrunk-trans (combining L m members) words now after (a .1 m members t) (b .1 m members t))
+
   -- a tuple of relation r that no live tuple of relation s agrees with is removed
   pub revises-more : SoundStarts (L .starts) → {r s x : ℕ} {words now : List ℕ} → x < size (networkIn L) r → Unmet (networkIn L) now r x s → Revises L r s words now → Revises L r s words (cleared (firstId (networkIn L) r + x) now)
   revises-more framed {r} {s} {x} {words} {now} h none (array, shrunk) =

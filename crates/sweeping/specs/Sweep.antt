@@ -89,4 +89,4 @@ Sweeps L table words after =
 
 -- both numbers are at most so many times all tuples
 abbrev pub AtMost : ℕ → Swept → Type 0
-AtMost times n = (n .tested ≤ times * maxTuples) × (n .left ≤ times * maxTuples)
+AtMost times n = (n .tested ≤ times * maxTuples) × (n .fell ≤ times * maxTuples)

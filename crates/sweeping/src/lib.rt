@@ -17,7 +17,6 @@ use live::WORDS;
 use live::Words;
 use live::clear;
 use live::copy_between;
-use live::count;
 use live::next;
 use live::set;
 use model::Value;
@@ -25,10 +24,13 @@ use narrowing::narrow_member;
 use value_index::Index;
 use value_index::scope_bits;
 
-// How many tuples were tested, and how many of them are left.
+// So many tuples of a relation are tested before it is asked whether too few fall.
+const SAMPLE: u32 = 32;
+
+// How many tuples were tested, and how many of them fell.
 pub struct Swept {
     pub tested: u32,
-    pub left: u32,
+    pub fell: u32,
 }
 
 // Whether a live tuple of relation s may agree with tuple x of relation r. What is in `scratch` does not matter.
@@ -51,8 +53,47 @@ fn meets(
     narrow_member(variables, values, starts, index, scratch, r, x, s)
 }
 
-// Live tuples of relation r fall, and only such ones as no live tuple of relation s agrees with.
+// Tuple x of relation r falls if no live tuple of relation s agrees with it. How many fell: 1 or 0.
 fn clear_unmet(
+    variables: &[u16],
+    values: &[Value],
+    starts: &Starts,
+    index: &Index,
+    words: &mut Words,
+    scratch: &mut Words,
+    r: u16,
+    x: u16,
+    s: u16,
+) -> u32
+    requires { ⌜ WordArray (now words) × (Long (now scratch) × (Seeks (lists now variables values starts) (now index) r x × (s < maxRelations))) ⌝ }
+    ensures { λ n. ⌜ (n ≤ 1) × (Long (exit scratch) × Revises (lists entry variables values starts) r s (entry words) (exit words)) ⌝ }
+{
+    if meets(variables, values, starts, index, words, scratch, r, x, s) {
+        return 0;
+    }
+    clear(words, tuple_start(starts, r) + x);
+    1
+}
+
+// Whether so few of the tuples tested fell that it does not pay to test more: less than a sixteenth.
+fn few_fell(tested: u32, fell: u32) -> bool
+    requires { ⌜ fell ≤ maxRelations * maxRelations * maxTuples ⌝ }
+{
+    fell * 16 < tested
+}
+
+// .. where enough were tested to know.
+fn stops(tested: u32, fell: u32) -> bool
+    requires { ⌜ fell ≤ maxTuples ⌝ }
+{
+    if tested < SAMPLE {
+        return false;
+    }
+    few_fell(tested, fell)
+}
+
+// Live tuples of relation r fall, and only such ones as no live tuple of relation s agrees with. Not all are tested where too few fall.
+fn clear_tuples(
     variables: &[u16],
     values: &[Value],
     starts: &Starts,
@@ -60,16 +101,21 @@ fn clear_unmet(
     words: &mut Words,
     r: u16,
     s: u16,
-)
+) -> Swept
     requires { ⌜ WordArray (now words) × (Searchable (lists now variables values starts) (now index) × ((r < maxRelations) × (s < maxRelations))) ⌝ }
-    ensures { λ _. ⌜ Revises (lists entry variables values starts) r s (entry words) (exit words) ⌝ }
+    ensures { λ n. ⌜ AtMost 1 n × Revises (lists entry variables values starts) r s (entry words) (exit words) ⌝ }
 {
     let first = tuple_start(starts, r);
     let end = tuple_start(starts, r + 1);
     let mut scratch = [0u64; WORDS];
+    let mut tested = 0;
+    let mut fell = 0;
     let mut g = next(words, first, end);
     while g < end {
-        if !meets(
+        if stops(tested, fell) {
+            return Swept { tested, fell };
+        }
+        let n = clear_unmet(
             variables,
             values,
             starts,
@@ -79,11 +125,12 @@ fn clear_unmet(
             r,
             g - first,
             s,
-        ) {
-            clear(words, g);
-        }
+        );
+        fell += n;
+        tested += 1;
         g = next(words, g + 1, end);
     }
+    Swept { tested, fell }
 }
 
 // The same where the two relations share a variable; tuples of relations that share none agree, and are not tested.
@@ -100,16 +147,9 @@ fn revise(
     ensures { λ n. ⌜ AtMost 1 n × Revises (lists entry variables values starts) r s (entry words) (exit words) ⌝ }
 {
     if scope_bits(index, r) & scope_bits(index, s) == 0 {
-        return Swept { tested: 0, left: 0 };
+        return Swept { tested: 0, fell: 0 };
     }
-    let first = tuple_start(starts, r);
-    let end = tuple_start(starts, r + 1);
-    let tested = count(words, first, end);
-    clear_unmet(variables, values, starts, index, words, r, s);
-    Swept {
-        tested: tested as u32,
-        left: count(words, first, end) as u32,
-    }
+    clear_tuples(variables, values, starts, index, words, r, s)
 }
 
 // The same for relation r and each relation beside it.
@@ -128,29 +168,18 @@ fn sweep_relation(
     let base = r * 64;
     let end = base + 64;
     let mut tested = 0;
-    let mut left = 0;
+    let mut fell = 0;
     let mut k = next(beside, base, end);
     while k < end {
         let swept = revise(variables, values, starts, index, words, r, k - base);
         tested += swept.tested;
-        left += swept.left;
+        fell += swept.fell;
         k = next(beside, k + 1, end);
     }
-    Swept { tested, left }
+    Swept { tested, fell }
 }
 
-// Whether so few of the tuples tested fell that it does not pay to go on: less than a quarter in combinations of two, whose visits
-// cost no more than the tests, and less than a sixteenth in larger ones.
-fn few_fell(tested: u32, left: u32, m: u16) -> bool
-    requires { ⌜ (tested ≤ maxRelations * maxRelations * maxTuples) × (left ≤ maxRelations * maxRelations * maxTuples) ⌝ }
-{
-    if m == 2 {
-        return tested * 3 < left * 4;
-    }
-    tested * 15 < left * 16
-}
-
-// A sweep over all relations. It stops, and is false, where too few fell so far.
+// A sweep over all relations. It is false where too few fell for another one.
 fn sweep(
     variables: &[u16],
     values: &[Value],
@@ -158,25 +187,21 @@ fn sweep(
     index: &Index,
     beside: &Words,
     words: &mut Words,
-    m: u16,
 ) -> bool
     requires { ⌜ WordArray (now words) × (Long (now beside) × Searchable (lists now variables values starts) (now index)) ⌝ }
     ensures { λ _. ⌜ Sweeps (lists entry variables values starts) (entry beside) (entry words) (exit words) ⌝ }
 {
     let relations = relation_count(starts);
     let mut tested = 0;
-    let mut left = 0;
+    let mut fell = 0;
     let mut r = 0;
     while r < relations {
         let swept = sweep_relation(variables, values, starts, index, beside, words, r);
         tested += swept.tested;
-        left += swept.left;
-        if few_fell(tested, left, m) {
-            return false;
-        }
+        fell += swept.fell;
         r += 1;
     }
-    true
+    !few_fell(tested, fell)
 }
 
 // Relation r is beside each other member from `base` on and below `end`.
@@ -210,7 +235,7 @@ fn all_beside(members: &[u16], m: u16) -> Words
     beside
 }
 
-// Two sweeps at most, the second where the first went through.
+// Two sweeps at most, the second where enough fell in the first.
 pub fn sweeps(
     variables: &[u16],
     values: &[Value],
@@ -225,7 +250,7 @@ pub fn sweeps(
     ensures { λ _. ⌜ Shrunk (setting entry variables values starts members m) (entry words) (exit words) ⌝ }
 {
     let beside = all_beside(members, m);
-    if sweep(variables, values, starts, index, &beside, words, m) {
-        sweep(variables, values, starts, index, &beside, words, m);
+    if sweep(variables, values, starts, index, &beside, words) {
+        sweep(variables, values, starts, index, &beside, words);
     }
 }
