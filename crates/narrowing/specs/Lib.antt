@@ -1,3 +1,4 @@
 -- The definitions that the contracts cite.
 pub mod Narrows
 pub mod Columns
+pub mod TupleRows

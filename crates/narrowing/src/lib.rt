@@ -27,6 +27,9 @@ use value_index::hash_of;
 use value_index::row_of;
 use value_index::scope_bits;
 
+pub mod columns; // the columns that two relations share
+pub mod rows; // the rows of a tuple's values in them
+
 // The word whose bit j is 1 where base + j is below the bound.
 fn below(base: usize, bound: usize) -> u64
     ensures { λ w. ⌜ (w < 2 ^ 64) × ((j : ℕ) → j < 64 → isSet w j ≡ ltb (base + j) bound) ⌝ }
