@@ -134,8 +134,8 @@ place-tuple {L} laid r x h p e =
     let w = width-in (laid .framed) r below in
     let v = value-start (laid .framed) r (omega (arith, below)) in
     rw e (
-      let long : valueStart (L .starts) r + x * widthIn (L .starts) r + widthIn (L .starts) r - (valueStart (L .starts) r + x * widthIn (L .starts) r) ≡ width N r = omega (arith, w) in
-      ap₂ (λ (n m : ℕ). take n (drop m (L .values))) long (ap₂ (λ (a b : ℕ). a + x * b) v w)
+    let long : valueStart (L .starts) r + x * widthIn (L .starts) r + widthIn (L .starts) r - (valueStart (L .starts) r + x * widthIn (L .starts) r) ≡ width N r = omega (arith, w) in
+    ap₂ (λ (n m : ℕ). take n (drop m (L .values))) long (ap₂ (λ (a b : ℕ). a + x * b) v w)
     )
 
 module _ {L : Lists} (laid : SoundLists L) {index : List ℕ} (indexed : Indexed (networkIn L) index) (r x s z : ℕ) where

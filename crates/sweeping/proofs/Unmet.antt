@@ -1,38 +1,58 @@
--- Laws of tuples that none of a relation's live tuples agrees with: they are found by narrowing, and have no support.
--- From the model's laws of supports, and the laws of words copied and narrowed.
+-- Laws of tuples that none of a relation's live tuples agrees with: they are found by the rows of their values, and have no support.
+-- From the model's laws of supports, and the law that whatever agrees is in all these rows.
 use mathlib.Core.Path.{_≡_, sym, _∙_, ap, subst}
-use mathlib.Core.Bool.{true}
+use mathlib.Core.Bool.{true, not}
 use mathlib.Core.List.{List, List·Memᴰ, Memᴰ·cast}
-use Prim.Native.Nat.{ℕ, _+_, _-_, _<_}
+use Prim.Native.Nat.{ℕ, _+_, _-_, _*_, _≤_, _<_}
 use native.Mathlib.Omega.{arith}
-use lib.ListN.{getD}
-use Rattle.model.specs.Limits.{maxRelations}
+use lib.Dec.{eqb}
+use lib.ListN.{length, getD}
+use borrow.Author.Tests.{le-leb, lt-ltb}
+use Rattle.model.specs.Limits.{maxRelations, wordBits}
 use Rattle.model.specs.TupleSet.{has}
-use Rattle.model.specs.Network.{Network, size, firstId, total, idsOf, relationOf}
+use Rattle.model.specs.Network.{Network, size, firstId, total, idsOf, relationOf, valuesAt}
 use Rattle.model.specs.Combination.{Combination}
 use Rattle.model.specs.Agreement.{agree}
 use Rattle.model.specs.LiveWords.{isLive, living, cleared}
-use Rattle.model.proofs.Bools.{not-both}
+use Rattle.model.proofs.Bools.{and-left, and-intro}
 use Rattle.model.proofs.Lists.{all-at, pairwise-at, mem-getD, from-mem, mem-from}
 use Rattle.model.proofs.Network.{ids-below, relationOf-ids, relationOf-at}
 use Rattle.model.proofs.Agreement.{agree-sym}
 use Rattle.model.proofs.Support.{Supported, isSupport-self, isSupport-live, isSupport-agree, candidates-at}
 use Rattle.model.proofs.LiveWords.{living-has, cleared-length, cleared-below}
-use Rattle.live.specs.Words.{WordArray, CopiedBetween}
-use Rattle.live.proofs.Copies.{between-live}
+use Rattle.live.specs.Words.{WordArray}
+use Rattle.live.proofs.Stores.{cleared-live}
 use Rattle.layout.specs.Starts.{SoundStarts}
 use Rattle.layout.specs.Setting.{Lists, networkIn}
 use Rattle.layout.proofs.SoundStarts.{tuples-few}
-use Rattle.narrowing.specs.Narrows.{Agreeing, Dead}
-use Rattle.sweeping.specs.Sweep.{bitOf, Unmet, combining, Revises, Sweeps}
+use Rattle.narrowing.specs.TupleRows.{RowsOf, Apart, LiveBetween}
+use Rattle.narrowing.proofs.TupleRows.{agreeing-rows}
+use Rattle.sweeping.specs.Sweep.{bitOf, Prepared, Unmet, Covers, combining, Revises, Sweeps}
 use Rattle.sweeping.proofs.Shrunk.{shrunk-refl, shrunk-trans, shrunk-removed}
 
-module _ (N : Network) (r x s : ℕ) (words : List ℕ) where
-  -- narrowed in a copy, relation s has no live tuple left
-  pub dead-unmet : {start end : ℕ} {before copy after : List ℕ} → start ≡ firstId N s → end ≡ firstId N s + size N s → CopiedBetween start end words before copy → Agreeing N r x s copy after → Dead N s after → Unmet N words r x s
-  dead-unmet b e c a d z h l g =
-      not-both (a .keeps z h g (between-live c (firstId N s + z) (omega (arith, b)) (omega (arith, e)) ∙ l)) (d z h)
+-- ---- Tuples that none agrees with
 
+-- no live tuple of relation s is in all rows of the tuple's values
+pub apart-unmet : {L : Lists} {index columns rows : List ℕ} {r s : ℕ} (alive : List ℕ) (x n from to : ℕ) → Prepared L index columns r s → x < size (networkIn L) r → RowsOf index columns (valuesAt (networkIn L) r x) n rows → wordBits * from ≤ firstId (networkIn L) s → firstId (networkIn L) s + size (networkIn L) s ≤ wordBits * to → Apart index n rows from to alive → Unmet (networkIn L) alive r x s
+apart-unmet {L} {r = r} {s} alive x n from to p h rows b e apart z l live agrees =
+    apart (firstId (networkIn L) s + z) (omega arith) (omega arith) live (agreeing-rows (p .laid) (p .indexed) r x s z h l agrees (p .shares) rows)
+
+-- all live ids of relation s are
+pub between-covers : (N : Network) (s : ℕ) (words alive : List ℕ) {start end : ℕ} → start ≡ firstId N s → end ≡ firstId N s + size N s → LiveBetween start end words alive → Covers N s words alive
+between-covers N s words alive {start} {end} b e between z h live =
+    let g = firstId N s + z in
+    between g ∙ and-intro live (and-intro (le-leb start g (omega arith)) (lt-ltb g end (omega arith)))
+
+module _ (N : Network) (s : ℕ) (words alive : List ℕ) (covers : Covers N s words alive) where
+  pub covers-unmet : (r x : ℕ) → Unmet N alive r x s → Unmet N words r x s
+  covers-unmet r x none z h live agrees = none z h (covers z h live) agrees
+
+  pub covers-cleared : (g : ℕ) → g < wordBits * length words → Covers N s (cleared g words) alive
+  covers-cleared g l z h live =
+      let i = firstId N s + z in
+      covers z h (and-left (isLive words i) (not (eqb g i)) (sym (cleared-live words g i l) ∙ live))
+
+module _ (N : Network) (r x s : ℕ) (words : List ℕ) where
   -- a support would hold a live tuple of relation s that agrees
   pub unmet-unsupported : (c : Combination) → x < size N r → List·Memᴰ s c → (r ≡ s → ⊥) → Unmet N words r x s → Supported N (living (total N) words) c (firstId N r + x) → ⊥
   unmet-unsupported c own m d none (t, k, e) =

@@ -6,13 +6,14 @@ use mathlib.Core.Logic.{_⊎_}
 use Prim.Native.Nat.{ℕ, _+_, _*_, _≤_, _<_}
 use lib.ListN.{length, getD}
 use Rattle.model.specs.Limits.{maxRelations, maxTuples, wordBits}
-use Rattle.model.specs.Network.{Network, size, firstId}
+use Rattle.model.specs.Network.{Network, size, firstId, scopeOf}
 use Rattle.model.specs.Agreement.{agree}
 use Rattle.model.specs.Combination.{Combination, combinations}
 use Rattle.model.specs.LiveWords.{isLive}
 use Rattle.live.specs.Words.{WordArray}
-use Rattle.layout.specs.Setting.{Lists, Setting, networkIn}
-use Rattle.narrowing.specs.Narrows.{Long}
+use Rattle.layout.specs.Setting.{Lists, Setting, networkIn, SoundLists}
+use Rattle.value_index.specs.Index.{Indexed}
+use Rattle.narrowing.specs.TupleRows.{tupleRows, Shares}
 use Rattle.sweeping.specs.declared.Swept.{Swept}
 use Rattle.sweeping.specs.Shrunk.{Shrunk}
 
@@ -67,9 +68,25 @@ abbrev pub Unmet : Network → List ℕ → ℕ → ℕ → ℕ → Type 0
 Unmet N words r x s =
     (z : ℕ) → z < size N s → isLive words (firstId N s + z) ≡ true → agree N (firstId N r + x) (firstId N s + z) ≡ true → ⊥
 
--- false only where no live tuple of relation s agrees with tuple x of relation r
+-- What is found once for relations r and s, in sound lists with their index: the columns that they share.
+pub record Prepared (L : Lists) (index columns : List ℕ) (r s : ℕ) : Type 0 where
+  pub laid : SoundLists L
+  pub indexed : Indexed (networkIn L) index
+  pub own : r < maxRelations
+  pub other : s < maxRelations
+  pub shares : Shares (scopeOf (networkIn L) r) (scopeOf (networkIn L) s) index s columns
+
+-- .. for a tuple x of relation r
+abbrev pub Tests : Lists → List ℕ → List ℕ → ℕ → ℕ → ℕ → Type 0
+Tests L index columns r x s = Prepared L index columns r s × (x < size (networkIn L) r)
+
+-- false only where no tuple of relation s that is live in `alive` agrees with tuple x of relation r
 abbrev pub Meets : Lists → List ℕ → ℕ → ℕ → ℕ → List ℕ → Bool → Type 0
-Meets L words r x s scratch met = Long scratch × (met ≡ false → Unmet (networkIn L) words r x s)
+Meets L alive r x s rows met = (length rows ≡ tupleRows) × (met ≡ false → Unmet (networkIn L) alive r x s)
+
+-- the live tuples of relation s are live in `alive` too
+abbrev pub Covers : Network → ℕ → List ℕ → List ℕ → Type 0
+Covers N s words alive = (z : ℕ) → z < size N s → isLive words (firstId N s + z) ≡ true → isLive alive (firstId N s + z) ≡ true
 
 -- ---- Sweeps
 
@@ -81,6 +98,13 @@ combining L m members = record { lists = L; members = members; m = m }
 abbrev pub Revises : Lists → ℕ → ℕ → List ℕ → List ℕ → Type 0
 Revises L r s words after =
     WordArray after × ((m : ℕ) (members : List ℕ) → Beside (combinations m members) r s → Shrunk (combining L m members) words after)
+
+-- .. one tuple at most, and the live tuples of relation s are live in `alive` still
+pub record Clears (L : Lists) (r s : ℕ) (alive rows words after : List ℕ) (n : ℕ) : Type 0 where
+  pub one : n ≤ 1
+  pub long : length rows ≡ tupleRows
+  pub covers : Covers (networkIn L) s after alive
+  pub revises : Revises L r s words after
 
 -- .. which the table is of
 abbrev pub Sweeps : Lists → List ℕ → List ℕ → List ℕ → Type 0

@@ -1,26 +1,37 @@
 // Sweeps before the visits: tuples fall that no live tuple of a relation beside theirs, another member of a combination, agrees with.
+ghost use mathlib.Core.Path.{_≡_};
 ghost use Prim.Native.Nat.{_*_, _≤_, _<_};
+ghost use lib.ListN.{length};
 ghost use Rattle.model.specs.Limits.{maxRelations, maxTuples};
 ghost use Rattle.model.specs.Combination.{combinations};
 ghost use Rattle.live.specs.Words.{WordArray};
 ghost use Rattle.layout.specs.Loan.{entry, exit};
 ghost use Rattle.layout.specs.Setting.{lists, networkIn, setting, Whole, Sound};
 ghost use Rattle.value_index.specs.Index.{Indexed};
-ghost use Rattle.narrowing.specs.Narrows.{Long, Seeks, Searchable};
+ghost use Rattle.narrowing.specs.Narrows.{Long, Searchable};
+ghost use Rattle.narrowing.specs.TupleRows.{tupleRows};
 ghost use Rattle.sweeping.specs.Shrunk.{Shrunk};
-ghost use Rattle.sweeping.specs.Sweep.{Besides, Few, PutAsks, Put, Meets, Revises, Sweeps, AtMost};
+ghost use Rattle.sweeping.specs.Sweep.{Besides, Few, PutAsks, Put, Prepared, Tests, Meets, Covers, Clears, Revises, Sweeps, AtMost};
 use layout::Starts;
+use layout::place_of;
 use layout::relation_count;
 use layout::tuple_start;
+use layout::variable_start;
 use layout::wide;
 use live::WORDS;
 use live::Words;
 use live::clear;
-use live::copy_between;
 use live::next;
 use live::set;
+use live::words_for;
 use model::Value;
-use narrowing::narrow_member;
+use narrowing::columns::Columns;
+use narrowing::columns::shared_columns;
+use narrowing::rows::Rows;
+use narrowing::rows::TUPLE_ROWS;
+use narrowing::rows::live_between;
+use narrowing::rows::meet;
+use narrowing::rows::rows_of;
 use value_index::Index;
 use value_index::scope_bits;
 
@@ -33,42 +44,61 @@ pub struct Swept {
     pub fell: u32,
 }
 
-// Whether a live tuple of relation s may agree with tuple x of relation r. What is in `scratch` does not matter.
+// Whether a tuple of relation s that is live in `alive` may agree with tuple x of relation r. What is in `rows` does not matter.
 fn meets(
     variables: &[u16],
     values: &[Value],
     starts: &Starts,
     index: &Index,
-    words: &Words,
-    scratch: &mut Words,
+    columns: &Columns,
+    alive: &Words,
+    rows: &mut Rows,
     r: u16,
     x: u16,
     s: u16,
 ) -> bool
-    requires { ⌜ WordArray (now words) × (Long (now scratch) × (Seeks (lists now variables values starts) (now index) r x × (s < maxRelations))) ⌝ }
-    ensures { λ b. ⌜ Meets (lists entry variables values starts) (entry words) r x s (exit scratch) b ⌝ }
+    requires { ⌜ (length (now rows) ≡ tupleRows) × Tests (lists now variables values starts) (now index) (now columns) r x s ⌝ }
+    ensures { λ b. ⌜ Meets (lists entry variables values starts) (entry alive) r x s (exit rows) b ⌝ }
 {
-    let start = tuple_start(starts, s);
-    copy_between(words, scratch, start, tuple_start(starts, s + 1));
-    narrow_member(variables, values, starts, index, scratch, r, x, s)
+    let p = place_of(starts, r, x);
+    let a = p.tuple;
+    let a_end = p.tuple_end;
+    let n = rows_of(index, columns, &values[a..a_end], rows);
+    let from = wide(tuple_start(starts, s)) / 64;
+    let to = words_for(tuple_start(starts, s + 1));
+    meet(index, rows, n, alive, from, to)
 }
 
-// Tuple x of relation r falls if no live tuple of relation s agrees with it. How many fell: 1 or 0.
+// Tuple x of relation r falls if no live tuple of relation s agrees with it; these are live in `alive` too. How many fell: 1 or 0.
 fn clear_unmet(
     variables: &[u16],
     values: &[Value],
     starts: &Starts,
     index: &Index,
+    columns: &Columns,
+    alive: &Words,
+    rows: &mut Rows,
     words: &mut Words,
-    scratch: &mut Words,
     r: u16,
     x: u16,
     s: u16,
 ) -> u32
-    requires { ⌜ WordArray (now words) × (Long (now scratch) × (Seeks (lists now variables values starts) (now index) r x × (s < maxRelations))) ⌝ }
-    ensures { λ n. ⌜ (n ≤ 1) × (Long (exit scratch) × Revises (lists entry variables values starts) r s (entry words) (exit words)) ⌝ }
+    requires { ⌜ (length (now rows) ≡ tupleRows) × Tests (lists now variables values starts) (now index) (now columns) r x s ⌝ }
+    requires { ⌜ WordArray (now words) × Covers (networkIn (lists now variables values starts)) s (now words) (now alive) ⌝ }
+    ensures { λ n. ⌜ Clears (lists entry variables values starts) r s (entry alive) (exit rows) (entry words) (exit words) n ⌝ }
 {
-    if meets(variables, values, starts, index, words, scratch, r, x, s) {
+    if meets(
+        variables,
+        values,
+        starts,
+        index,
+        columns,
+        alive,
+        rows,
+        r,
+        x,
+        s,
+    ) {
         return 0;
     }
     clear(words, tuple_start(starts, r) + x);
@@ -92,22 +122,26 @@ fn stops(tested: u32, fell: u32) -> bool
     few_fell(tested, fell)
 }
 
-// Live tuples of relation r fall, and only such ones as no live tuple of relation s agrees with. Not all are tested where too few fall.
+// Live tuples of relation r fall, and only such ones as no live tuple of relation s agrees with; these are live in `alive` too. Not all
+// are tested where too few fall.
 fn clear_tuples(
     variables: &[u16],
     values: &[Value],
     starts: &Starts,
     index: &Index,
+    columns: &Columns,
+    alive: &Words,
     words: &mut Words,
     r: u16,
     s: u16,
 ) -> Swept
-    requires { ⌜ WordArray (now words) × (Searchable (lists now variables values starts) (now index) × ((r < maxRelations) × (s < maxRelations))) ⌝ }
+    requires { ⌜ Prepared (lists now variables values starts) (now index) (now columns) r s ⌝ }
+    requires { ⌜ WordArray (now words) × Covers (networkIn (lists now variables values starts)) s (now words) (now alive) ⌝ }
     ensures { λ n. ⌜ AtMost 1 n × Revises (lists entry variables values starts) r s (entry words) (exit words) ⌝ }
 {
     let first = tuple_start(starts, r);
     let end = tuple_start(starts, r + 1);
-    let mut scratch = [0u64; WORDS];
+    let mut rows = [0; TUPLE_ROWS];
     let mut tested = 0;
     let mut fell = 0;
     let mut g = next(words, first, end);
@@ -120,8 +154,10 @@ fn clear_tuples(
             values,
             starts,
             index,
+            columns,
+            alive,
+            &mut rows,
             words,
-            &mut scratch,
             r,
             g - first,
             s,
@@ -149,7 +185,23 @@ fn revise(
     if scope_bits(index, r) & scope_bits(index, s) == 0 {
         return Swept { tested: 0, fell: 0 };
     }
-    clear_tuples(variables, values, starts, index, words, r, s)
+    let a = variable_start(starts, r);
+    let a_end = variable_start(starts, r + 1);
+    let b = variable_start(starts, s);
+    let b_end = variable_start(starts, s + 1);
+    let columns = shared_columns(index, &variables[a..a_end], &variables[b..b_end], s);
+    let alive = live_between(words, tuple_start(starts, s), tuple_start(starts, s + 1));
+    clear_tuples(
+        variables,
+        values,
+        starts,
+        index,
+        &columns,
+        &alive,
+        words,
+        r,
+        s,
+    )
 }
 
 // The same for relation r and each relation beside it.

@@ -5,6 +5,7 @@ use mathlib.Core.Path.{_≡_, refl, _∙_}
 use mathlib.Core.List.{List}
 use Prim.Native.Nat.{ℕ, _+_, _-_, _≤_, _<_}
 use native.Mathlib.Omega.{arith}
+use lib.ListN.{length}
 use borrow.Author.Needs.{needs}
 use Rattle.model.specs.Network.{size, firstId}
 use Rattle.model.specs.LiveWords.{nextLive}
@@ -13,8 +14,7 @@ use Rattle.layout.specs.Starts.{SoundStarts}
 use Rattle.layout.specs.Setting.{Lists, networkIn}
 use Rattle.layout.proofs.SoundStarts.{tuple-start, tuple-end, ids-few}
 use Rattle.layout.proofs.Rows.{next-ahead}
-use Rattle.narrowing.specs.Narrows.{Long}
-use Rattle.sweeping.specs.Sweep.{Revises}
+use Rattle.sweeping.specs.Sweep.{Covers, Revises}
 use Rattle.sweeping.proofs.Unmet.{revises-none, revises-then}
 use Rattle.sweeping.proofs.clear_tuples.Statement.{statement}
 use Rattle.sweeping.proofs.clear_tuples.Tie as tie
@@ -30,11 +30,12 @@ record Walk (first end tested fell g : ℕ) : Type 0 where
   few-fell : fell ≤ tested
 
 abbrev Inv-loop : tie.InvT-loop
-Inv-loop variables values starts index words₀ r s first end scratch₀ tested₀ fell₀ g₀ words scratch tested fell g =
-    Revises (listsOf variables values starts) r s words₀ words × (Long scratch × Walk first end tested fell g)
+Inv-loop variables values starts index columns alive words₀ r s first end rows₀ tested₀ fell₀ g₀ words rows tested fell g =
+    (Revises (listsOf variables values starts) r s words₀ words × Covers (networkIn (listsOf variables values starts)) s words alive)
+    × ((length rows ≡ 32) × Walk first end tested fell g)
 
 abbrev μ-loop : tie.MeasureT-loop
-μ-loop variables values starts index words₀ r s first end scratch₀ tested₀ fell₀ g₀ words scratch tested fell g = end - g
+μ-loop variables values starts index columns alive words₀ r s first end rows₀ tested₀ fell₀ g₀ words rows tested fell g = end - g
 
 -- ---- The relation's ids
 
@@ -49,16 +50,16 @@ module _ (c : tie.After-tuple-start2 Inv-loop μ-loop) where
   r = start .args .r
 
   abbrev framed : SoundStarts (L .starts)
-  framed = start .pre .1 .0 .laid .framed
+  framed = start .pre .0 .laid .framed
 
   first-is : c .before .tuple-start .result ≡ firstId (networkIn L) r
-  first-is = c .before .tuple-start .ensures ∙ tuple-start framed r (omega (arith, start .pre .1 .1 .0))
+  first-is = c .before .tuple-start .ensures ∙ tuple-start framed r (omega (arith, start .pre .0 .own))
 
   end-is : c .tuple-start2 .result ≡ firstId (networkIn L) r + size (networkIn L) r
-  end-is = c .tuple-start2 .ensures ∙ tuple-end framed r (start .pre .1 .1 .0)
+  end-is = c .tuple-start2 .ensures ∙ tuple-end framed r (start .pre .0 .own)
 
   few : c .tuple-start2 .result ≤ 4096
-  few = omega (arith, c .tuple-start2 .ensures, ids-few framed r (start .pre .1 .1 .0))
+  few = omega (arith, c .tuple-start2 .ensures, ids-few framed r (start .pre .0 .own))
 
 -- ---- One turn
 
@@ -88,30 +89,28 @@ loop-holds c =
     let k = c .before .before .before in
     let f = nextLive-first (start k .args .words .now) (k .before .tuple-start .result) (k .tuple-start2 .result) (omega (arith, first-is k, end-is k)) in
     let e = c .next .ensures in (
-      revises-none (L k) (r k) (start k .args .s) (start k .pre .0),
+      (revises-none (L k) (r k) (start k .args .s) (start k .pre .1 .0), start k .pre .1 .1),
       (refl, record { from-first = omega (arith, e, f .from-i); to-end = omega (arith, e, f .to-end); few-tested = omega arith; few-fell = omega arith }),
     )
 
 clear-unmet-requires : tie.Need-clear-unmet-requires Inv-loop μ-loop
 clear-unmet-requires c κs =
     let turn = c .before .before .before .before in
-    let s = start (known turn) in (
-      turn .before .loop .inv .0 .0,
-      (turn .before .loop .inv .1 .0, (record { laid = s .pre .1 .0 .laid; indexed = s .pre .1 .0 .indexed; own = index turn }, s .pre .1 .1 .1)),
-    )
+    let i = turn .before .loop .inv in
+    ((i .1 .0, (start (known turn) .pre .0, index turn)), (i .0 .0 .0, i .0 .1))
 
 abbrev turn-of : tie.After-clear-unmet Inv-loop μ-loop → tie.In-loop Inv-loop μ-loop
 turn-of c = c .before .before .before .before .before
 
 abbrev after : tie.After-clear-unmet Inv-loop μ-loop → List ℕ
-after c = c .clear-unmet .last .1 .1 .1 .1 .0
+after c = c .clear-unmet .last .1 .1 .1 .1 .1 .1 .1 .0
 
 next-requires-2 : tie.Need-next-requires-2 Inv-loop μ-loop
 next-requires-2 c κs =
     let cleared = c .before .before in
     let t = turn-of cleared in
     let k = known t in
-    (omega (arith, t .loop-test .taken), omega (arith, few k, cleared .clear-unmet .ensures .1 .1 .0 .long), few k)
+    (omega (arith, t .loop-test .taken), omega (arith, few k, cleared .clear-unmet .ensures .revises .0 .long), few k)
 
 loop-again : tie.Need-loop-again Inv-loop μ-loop
 loop-again c =
@@ -119,15 +118,16 @@ loop-again c =
     let t = turn-of cleared in
     let k = known t in
     let a = ahead t (after cleared) in
-    let e = c .next2 .ensures in (
-      revises-then (L k) (r k) (start k .args .s) (t .before .loop .inv .0) (cleared .clear-unmet .ensures .1 .1),
+    let e = c .next2 .ensures in
+    let done = cleared .clear-unmet .ensures in (
+      (revises-then (L k) (r k) (start k .args .s) (t .before .loop .inv .0 .0) (done .revises), done .covers),
       (
-        cleared .clear-unmet .ensures .1 .0,
+        done .long,
         record {
           from-first = omega (arith, a, e, walk t);
           to-end = omega (arith, a, e);
           few-tested = omega (arith, a, e, walk t);
-          few-fell = omega (arith, walk t, cleared .clear-unmet .ensures .0);
+          few-fell = omega (arith, walk t, done .one);
         },
       ),
     )
@@ -139,16 +139,16 @@ clear-tuples-spec =
     Inv-loop
     μ-loop
     (λ c κs. search needs) (λ c. search needs) (λ c κs. search needs)
-    (λ c κs. let k = c .before .before in (omega (arith, first-is k, end-is k), omega (arith, few k, start k .pre .0 .long), few k))
+    (λ c κs. let k = c .before .before in (omega (arith, first-is k, end-is k), omega (arith, few k, start k .pre .1 .0 .long), few k))
     loop-holds
     (λ c κs. omega (arith, short c, walk c))
-    (λ c. let t = c .before .before in ((omega (arith, short t), omega (arith, short t, walk t)), t .before .loop .inv .0))
+    (λ c. let t = c .before .before in ((omega (arith, short t), omega (arith, short t, walk t)), t .before .loop .inv .0 .0))
     (λ c. omega (arith, walk (c .before .before .before .before)))
     clear-unmet-requires
-    (λ c. let t = turn-of c in omega (arith, short t, walk t, c .clear-unmet .ensures .0))
+    (λ c. let t = turn-of c in omega (arith, short t, walk t, c .clear-unmet .ensures .one))
     (λ c. let t = turn-of c in omega (arith, short t))
     (λ c. let t = turn-of (c .before .before) in omega (arith, few (known t), t .loop-test .taken))
     next-requires-2
     (λ c. let cleared = c .before .before .before in omega (arith, ahead (turn-of cleared) (after cleared), c .next2 .ensures))
     loop-again
-    (λ c. let l = c .before .loop in let k = ids (c .before) in ((omega (arith, few k, l .inv .1 .1), omega (arith, few k, l .inv .1 .1)), l .inv .0)))
+    (λ c. let l = c .before .loop in let k = ids (c .before) in ((omega (arith, few k, l .inv .1 .1), omega (arith, few k, l .inv .1 .1)), l .inv .0 .0)))
