@@ -4,14 +4,14 @@ use mathlib.Core.Path.{_≡_, refl, sym, _∙_, ap, ap₂, subst}
 use mathlib.Core.Bool.{Bool, true, false, not, _&&_, and-true, and-false}
 use mathlib.Core.List.{List}
 use mathlib.Core.Logic.{_⊎_, inl, inr, ⊎-elim}
-use Prim.Native.Nat.{ℕ, _+_, _-_, _*_, _/_, _%_, _^_, _≤_, _<_}
+use Prim.Native.Nat.{ℕ, zero, suc, _+_, _-_, _*_, _/_, _%_, _^_, _≤_, _<_}
 use native.Mathlib.Nat.{zero-add}
 use native.Mathlib.Omega.{arith}
 use native.Mathlib.Decide.{ℕ-discrete, decLt}
 use lib.Dec.{ltb, leb}
 use lib.ListN.{length, getD, set, take, drop, replicate, length-set, getD-replicate, List·getD-eq-default}
 use lib.Seq.{getD-set-same, getD-set-other}
-use lib.Bits.{bitAnd}
+use lib.Bits.{bitAnd, bitOr, and-le-l, or-add-and}
 use borrow.Author.Tests.{lt-leb, le-ltb}
 use Rattle.model.specs.Limits.{maxWidth, wordBits}
 use Rattle.model.specs.Lists.{from, all}
@@ -22,17 +22,17 @@ use Rattle.model.proofs.Bools.{and-intro, not-both}
 use Rattle.model.proofs.Lists.{all-at, all-intro, from-mem, mem-from, from-append, all-of-append}
 use Rattle.model.proofs.LiveWords.{isLive-at}
 use Rattle.model.proofs.Agreement.{fit-equal, agree-at}
-use Rattle.live.proofs.Bits.{isSet-high, isSet-not, isSet-and}
+use Rattle.live.proofs.Bits.{isSet-high, isSet-not, isSet-and, le-or}
 use Rattle.layout.specs.declared.Place.{Place}
 use Rattle.layout.specs.Starts.{valueStart}
 use Rattle.layout.specs.Places.{widthIn, placeAt}
 use Rattle.layout.specs.Setting.{Lists, networkIn, SoundLists}
 use Rattle.layout.proofs.SoundStarts.{value-start, width-in}
 use Rattle.layout.proofs.Places.{below-limit, scope-length, values-length}
-use Rattle.value_index.specs.Plan.{columnStart, digitCount, hashAt, rowAt, ColumnRows, SoundPlan}
+use Rattle.value_index.specs.Plan.{indexWords, columnStart, rowWords, digitCount, hashAt, rowAt, ColumnRows, SoundPlan}
 use Rattle.value_index.specs.Index.{rowBit, isIndexed, Indexed}
 use Rattle.value_index.proofs.ValueRows.{hash-below, row-within, row-is, rows-begin}
-use Rattle.narrowing.specs.TupleRows.{Shares, HasRows, Adds, RowOf, RowsOf, Within, inRows, BitsInRows, Apart, LiveBetween}
+use Rattle.narrowing.specs.TupleRows.{Shares, HasRows, Adds, RowOf, RowsOf, Within, both, inRows, BitsInRows, Apart, LiveBetween}
 use Rattle.narrowing.proofs.Words.{not-ltb, row-at}
 use Rattle.narrowing.proofs.Narrowing.{values-fit}
 
@@ -92,6 +92,23 @@ module _ (index rows : List ℕ) where
       all-intro (λ (k : ℕ). rowBit index (getD rows k 0) g) (from 0 n)
       (λ k m. f k (let b = from-mem 0 n k m in omega (arith, b)))
 
+  pub rows-at : (n g k : ℕ) → k < n → inRows index rows n g ≡ true → rowBit index (getD rows k 0) g ≡ true
+  unfolding inRows
+  rows-at n g k h e = all-at (λ (j : ℕ). rowBit index (getD rows j 0) g) (from 0 n) e (mem-from 0 n k (omega arith) (omega arith))
+
+  -- two of them
+  pub both-in : (n g j k : ℕ) → j < n → k < n → inRows index rows n g ≡ true → inRows index (both (getD rows j 0) (getD rows k 0)) 2 g ≡ true
+  unfolding inRows
+  both-in n g j k hj hk e = and-intro (rows-at n g j hj e) (and-intro (rows-at n g k hk e) refl)
+
+  pub both-within : (n j k : ℕ) → j < n → k < n → Within index n rows → Within index 2 (both (getD rows j 0) (getD rows k 0))
+  both-within n j k hj hk w = record { few = omega arith; inside = one }
+    where
+      one : (i : ℕ) → i < 2 → getD (both (getD rows j 0) (getD rows k 0)) i 0 + rowWords index ≤ indexWords
+      one zero h = w .inside j hj
+      one (suc zero) h = w .inside k hk
+      one (suc (suc i)) h = absurd (omega arith)
+
   module _ (i : ℕ) where
     -- of one word
     pub bits-none : (w : ℕ) → BitsInRows index 0 rows i w w
@@ -122,6 +139,12 @@ module _ (index rows : List ℕ) where
             not-both
             (bits j k ∙ and-intro (sym (isLive-at words i j k) ∙ ap (isLive words) e ∙ live) (ap (inRows index rows n) e ∙ inside))
             (isSet-high 0 0 j (omega arith) (omega arith))
+
+-- no bit is set in the one word nor in the other
+pub or-none : (a b : ℕ) → bitOr a b ≡ 0 → (a ≡ 0) × (b ≡ 0)
+or-none a b e =
+    let z : a ≡ 0 = omega (arith, le-or a b) in
+    (z, omega (arith, or-add-and a b, and-le-l a b))
 
 -- ---- What agrees is in all rows
 

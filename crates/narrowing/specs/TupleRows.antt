@@ -1,13 +1,14 @@
 -- The columns that two relations share, the rows of a tuple's values in them, and the ids that are in all of these rows.
 use mathlib.Core.Path.{_≡_}
 use mathlib.Core.Bool.{Bool, true, _&&_}
-use mathlib.Core.List.{List}
+use mathlib.Core.List.{List, [], _∷_}
 use Prim.Native.Nat.{ℕ, _+_, _*_, _≤_, _<_}
 use lib.Dec.{ltb, leb}
 use lib.ListN.{length, getD}
 use Rattle.model.specs.Limits.{maxWidth, wordBits}
 use Rattle.model.specs.Lists.{from, all}
 use Rattle.model.specs.LiveWords.{isSet, isLive}
+use Rattle.model.specs.Edges.{maxWords}
 use Rattle.value_index.specs.Plan.{indexWords, maxDigits, columnStart, rowWords, digitCount, rowAt, ColumnRows}
 use Rattle.value_index.specs.Index.{rowBit}
 
@@ -72,6 +73,14 @@ pub record RowsOf (index columns tuple : List ℕ) (n : ℕ) (rows : List ℕ) :
 pub record Within (index : List ℕ) (n : ℕ) (rows : List ℕ) : Type 0 where
   pub few : n ≤ tupleRows
   pub inside : (k : ℕ) → k < n → getD rows k 0 + rowWords index ≤ indexWords
+
+-- the words below `to` are words of an array, and of every row
+abbrev pub Spans : List ℕ → ℕ → Type 0
+Spans index to = (to ≤ maxWords) × (to ≤ rowWords index)
+
+-- two rows
+abbrev pub both : ℕ → ℕ → List ℕ
+both a b = a ∷ b ∷ []
 
 -- id g is in all of the first n rows
 unfoldable pub inRows : List ℕ → List ℕ → ℕ → ℕ → Bool

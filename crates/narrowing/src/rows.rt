@@ -7,7 +7,7 @@ ghost use Rattle.model.specs.Limits.{maxWidth, maxTuples};
 ghost use Rattle.layout.specs.Loan.{entry, exit};
 ghost use Rattle.value_index.specs.Plan.{maxDigits, rowWords, ColumnRows, SoundPlan};
 ghost use Rattle.narrowing.specs.Narrows.{Long};
-ghost use Rattle.narrowing.specs.TupleRows.{tupleRows, HasRows, Adds, RowsOf, Within, BitsInRows, Apart, LiveBetween};
+ghost use Rattle.narrowing.specs.TupleRows.{tupleRows, HasRows, Adds, RowsOf, Within, Spans, both, BitsInRows, Apart, LiveBetween};
 use super::below;
 use super::columns::Columns;
 use layout::wide;
@@ -78,10 +78,25 @@ pub fn in_rows(index: &Index, rows: &Rows, n: usize, word: u64, i: usize) -> u64
     w
 }
 
-// Whether some id of the words from `from` on and below `to` is live and in all of the first n rows.
-pub fn meet(index: &Index, rows: &Rows, n: usize, words: &Words, from: usize, to: usize) -> bool
-    requires { ⌜ Within (now index) n (now rows) × ((to ≤ 64) × (to ≤ rowWords (now index))) ⌝ }
-    ensures { λ b. ⌜ (b ≡ false → Apart (entry index) n (entry rows) from to (entry words)) ⌝ }
+// Whether some id of the words from `from` on and below `to` is live and in both rows. All words are looked at: they are few, and a way out
+// before the end would cost more.
+fn meet_both(index: &Index, a: usize, b: usize, words: &Words, from: usize, to: usize) -> bool
+    requires { ⌜ Within (now index) 2 (both a b) × Spans (now index) to ⌝ }
+    ensures { λ met. ⌜ (met ≡ false → Apart (entry index) 2 (both a b) from to (entry words)) ⌝ }
+{
+    let mut any = 0;
+    let mut i = from;
+    while i < to {
+        any = any | (words[i] & index[a + i] & index[b + i]);
+        i += 1;
+    }
+    any != 0
+}
+
+// .. in all of the first n rows. It ends at the first such word.
+fn meet_all(index: &Index, rows: &Rows, n: usize, words: &Words, from: usize, to: usize) -> bool
+    requires { ⌜ Within (now index) n (now rows) × Spans (now index) to ⌝ }
+    ensures { λ met. ⌜ (met ≡ false → Apart (entry index) n (entry rows) from to (entry words)) ⌝ }
 {
     let mut i = from;
     while i < to {
@@ -91,6 +106,20 @@ pub fn meet(index: &Index, rows: &Rows, n: usize, words: &Words, from: usize, to
         i += 1;
     }
     false
+}
+
+// The same, by the one or the other.
+pub fn meet(index: &Index, rows: &Rows, n: usize, words: &Words, from: usize, to: usize) -> bool
+    requires { ⌜ Within (now index) n (now rows) × Spans (now index) to ⌝ }
+    ensures { λ met. ⌜ (met ≡ false → Apart (entry index) n (entry rows) from to (entry words)) ⌝ }
+{
+    if n == 1 {
+        return meet_both(index, rows[0], rows[0], words, from, to);
+    }
+    if n == 2 {
+        return meet_both(index, rows[0], rows[1], words, from, to);
+    }
+    meet_all(index, rows, n, words, from, to)
 }
 
 // The live ids from start on and below end, and no others.

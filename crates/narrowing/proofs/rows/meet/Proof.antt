@@ -1,51 +1,65 @@
--- `meet` goes word by word. The loop's invariant: none of the words passed has such an id.
--- From what `in_rows` ensures, and the law of one word more.
-use mathlib.Core.Path.{_≡_, sym, subst}
-use mathlib.Core.Bool.{true, false, false≢true}
-use Prim.Native.Nat.{ℕ, _-_, _*_, _≤_, _<_}
+-- `meet` is `meet_both` of one or two rows, and `meet_all` of others.
+-- From the contracts of these, and the laws of two rows of a list.
+use Prim.Native.Nat.{_<_}
 use native.Mathlib.Omega.{arith}
-use lib.ListN.{getD}
 use borrow.Author.Needs.{needs}
-use Rattle.narrowing.specs.TupleRows.{BitsInRows, Apart}
-use Rattle.narrowing.proofs.TupleRows.{apart-more}
+use Rattle.narrowing.proofs.TupleRows.{both-in, both-within}
 use Rattle.narrowing.proofs.rows.meet.Statement.{statement}
 use Rattle.narrowing.proofs.rows.meet.Tie as tie
 
-abbrev Inv-loop : tie.InvT-loop
-Inv-loop index rows n words from to i₀ i = Apart index n rows from i words
+-- ---- One row
 
-abbrev μ-loop : tie.MeasureT-loop
-μ-loop index rows n words from to i₀ i = to - i
+module _ (c : tie.Then1) where
+  abbrev start : tie.Start
+  start = c .before
 
-module _ (c : tie.In-loop Inv-loop μ-loop) where
-  abbrev start : tie.Start Inv-loop μ-loop
-  start = c .before .before
+  one : 0 < start .args .n
+  one = omega (arith, c .if1 .taken)
 
-  few : c .before .loop .i < 64
-  few = omega (arith, c .loop-test .taken, start .pre .1 .0)
+meet-both-requires : tie.Need-meet-both-requires
+meet-both-requires c κs =
+    let t = c .before .before in
+    let s = start t in
+    (both-within (s .args .index .now) (s .args .rows .now) (s .args .n) 0 0 (one t) (one t) (s .pre .0), s .pre .1)
 
-loop-again : tie.Need-loop-again Inv-loop μ-loop
-loop-again c =
-    let found = c .before in
-    let turn = found .before .before in
-    let a = start turn .args in
-    let l = turn .before .loop in
-    apart-more (a .index .now) (a .rows .now) (l .i) (a .n) (a .from) (a .words .now)
-    (subst (BitsInRows (a .index .now) (a .n) (a .rows .now) (l .i) (getD (a .words .now) (l .i) 0)) (c .if1 .left) (found .in-rows .ensures))
-    (l .inv)
+returns : tie.Need-returns
+returns c e g l h live inside =
+    let t = c .before .before .before in
+    let s = start t in
+    c .meet-both .ensures e g l h live (both-in (s .args .index .now) (s .args .rows .now) (s .args .n) g 0 0 (one t) (one t) inside)
+
+-- ---- Two rows
+
+module _ (c : tie.Then2) where
+  abbrev start2 : tie.Start
+  start2 = c .before .before
+
+  two : 1 < start2 .args .n
+  two = omega (arith, c .if2 .taken)
+
+meet-both-requires-2 : tie.Need-meet-both-requires-2
+meet-both-requires-2 c κs =
+    let t = c .before .before in
+    let s = start2 t in
+    (both-within (s .args .index .now) (s .args .rows .now) (s .args .n) 0 1 (omega (arith, two t)) (two t) (s .pre .0), s .pre .1)
+
+returns-2 : tie.Need-returns-2
+returns-2 c e g l h live inside =
+    let t = c .before .before .before in
+    let s = start2 t in
+    c .meet-both2 .ensures e g l h live (both-in (s .args .index .now) (s .args .rows .now) (s .args .n) g 0 1 (omega (arith, two t)) (two t) inside)
 
 pub meet-spec : {M : Type 1} → statement M
 meet-spec =
     tie.close
     (tie.spec
-    Inv-loop
-    μ-loop
-    (λ c g l h e f. omega arith)
-    (λ c. omega (arith, few c))
-    (λ c. few c)
-    (λ c κs. let s = start (c .before) in (s .pre .0, omega (arith, c .before .loop-test .taken, s .pre .1 .1)))
-    (λ c e. absurd (false≢true (sym e)))
-    (λ c. omega (arith, few (c .before .before .before)))
-    (λ c. omega (arith, c .before .before .before .loop-test .taken))
-    loop-again
-    (λ c e g l h. c .before .loop .inv g l (omega (arith, c .loop-test .left))))
+    (λ c. search needs)
+    (λ c. search needs)
+    meet-both-requires
+    returns
+    (λ c. search needs)
+    (λ c. search needs)
+    meet-both-requires-2
+    returns-2
+    (λ c κs. search needs)
+    (λ c. c .meet-all .ensures))
