@@ -23,16 +23,14 @@ use Rattle.model.proofs.Lists.{all-at, all-intro, from-mem, mem-from, from-appe
 use Rattle.model.proofs.LiveWords.{isLive-at}
 use Rattle.model.proofs.Agreement.{fit-equal, agree-at}
 use Rattle.live.proofs.Bits.{isSet-high, isSet-not, isSet-and, le-or}
-use Rattle.layout.specs.declared.Place.{Place}
-use Rattle.layout.specs.Starts.{valueStart}
-use Rattle.layout.specs.Places.{widthIn, placeAt}
+use Rattle.layout.specs.Starts.{valueStart, recordsIn}
 use Rattle.layout.specs.Setting.{Lists, networkIn, SoundLists}
-use Rattle.layout.proofs.SoundStarts.{value-start, width-in}
-use Rattle.layout.proofs.Places.{below-limit, scope-length, values-length}
+use Rattle.layout.proofs.SoundStarts.{value-start}
+use Rattle.layout.proofs.Places.{below-limit, scope-length, tuple-fits, values-length}
 use Rattle.value_index.specs.Plan.{indexWords, columnStart, rowWords, digitCount, hashAt, rowAt, ColumnRows, SoundPlan}
 use Rattle.value_index.specs.Index.{rowBit, isIndexed, Indexed}
 use Rattle.value_index.proofs.ValueRows.{hash-below, row-within, row-is, rows-begin}
-use Rattle.narrowing.specs.TupleRows.{Shares, HasRows, Adds, RowOf, RowsOf, Within, both, inRows, BitsInRows, Apart, LiveBetween}
+use Rattle.narrowing.specs.TupleRows.{Shares, HasRows, Adds, RowOf, RowsOf, InEvery, Within, both, inRows, BitsInRows, Apart, LiveBetween}
 use Rattle.narrowing.proofs.Words.{not-ltb, row-at}
 use Rattle.narrowing.proofs.Narrowing.{values-fit}
 
@@ -96,6 +94,13 @@ module _ (index rows : List ℕ) where
   unfolding inRows
   rows-at n g k h e = all-at (λ (j : ℕ). rowBit index (getD rows j 0) g) (from 0 n) e (mem-from 0 n k (omega arith) (omega arith))
 
+  pub rows-fewer : (m n g : ℕ) → m ≤ n → inRows index rows n g ≡ true → inRows index rows m g ≡ true
+  rows-fewer m n g l e = rows-all m g (λ k h. rows-at n g k (omega arith) e)
+
+  -- in those that are a tuple's, where it is in every row of its values
+  pub rows-every : {columns tuple : List ℕ} (n g : ℕ) → RowsOf index columns tuple n rows → InEvery index columns tuple g → inRows index rows n g ≡ true
+  rows-every n g f every = rows-all n g (λ k h. every (getD rows k 0) (f .at k h))
+
   -- two of them
   pub both-in : (n g j k : ℕ) → j < n → k < n → inRows index rows n g ≡ true → inRows index (both (getD rows j 0) (getD rows k 0)) 2 g ≡ true
   unfolding inRows
@@ -126,6 +131,22 @@ module _ (index rows : List ℕ) where
         go true b c = refl
         go false b c = refl
 
+    -- of some rows, and then of all
+    pub bits-then : (m n w now after : ℕ) → m ≤ n → BitsInRows index m rows i w now → BitsInRows index n rows i now after → BitsInRows index n rows i w after
+    bits-then m n w now after l f s j h =
+        let g = wordBits * i + j in
+        s j h ∙ ap (λ (x : Bool). x && inRows index rows n g) (f j h) ∙ go (inRows index rows n g) refl
+      where
+        go : (x : Bool) → inRows index rows n (wordBits * i + j) ≡ x → ((isSet w j && inRows index rows m (wordBits * i + j)) && x) ≡ (isSet w j && x)
+        go true e = and-true (isSet w j && inRows index rows m (wordBits * i + j)) ∙ ap (λ (x : Bool). isSet w j && x) (rows-fewer m n (wordBits * i + j) l e)
+        go false e = and-false (isSet w j && inRows index rows m (wordBits * i + j)) ∙ sym (and-false (isSet w j))
+
+    -- no bit
+    pub bits-nought : (n : ℕ) → BitsInRows index n rows i 0 0
+    bits-nought n j h =
+        let e = isSet-high 0 0 j (omega arith) (omega arith) in
+        e ∙ sym (ap (λ (x : Bool). x && inRows index rows n (wordBits * i + j)) e)
+
     -- a word none of whose ids is in all of them
     pub apart-more : (n from : ℕ) (words : List ℕ) → BitsInRows index n rows i (getD words i 0) 0 → Apart index n rows from i words → Apart index n rows from (i + 1) words
     apart-more n from words bits f g l h live inside = go (decLt g (wordBits * i))
@@ -148,18 +169,21 @@ or-none a b e =
 
 -- ---- What agrees is in all rows
 
--- the part of the values where the tuple's place is
-pub place-tuple : {L : Lists} → SoundLists L → (let N = networkIn L in (r x : ℕ) → x < size N r → (p : Place) → p ≡ placeAt (L .starts) r x → take (p .«tuple_end» - p .tuple) (drop (p .tuple) (L .values)) ≡ valuesAt N r x)
-unfolding valuesAt
-place-tuple {L} laid r x h p e =
-    let N = networkIn L in
-    let below = below-limit laid r x h in
-    let w = width-in (laid .framed) r below in
-    let v = value-start (laid .framed) r (omega (arith, below)) in
-    rw e (
-    let long : valueStart (L .starts) r + x * widthIn (L .starts) r + widthIn (L .starts) r - (valueStart (L .starts) r + x * widthIn (L .starts) r) ≡ width N r = omega (arith, w) in
-    ap₂ (λ (n m : ℕ). take n (drop m (L .values))) long (ap₂ (λ (a b : ℕ). a + x * b) v w)
-    )
+-- from the tuple's first value to behind its last one
+module _ {L : Lists} (laid : SoundLists L) (r x columns at end : ℕ) (h : x < size (networkIn L) r) (w : columns ≡ width (networkIn L) r) (b : at ≡ valueStart (L .starts) r + x * columns) (e : end ≡ at + columns) where
+  begins : at ≡ before valuesIn (recordsIn (L .starts)) r + x * width (networkIn L) r
+  begins = b ∙ ap₂ (λ (a c : ℕ). a + x * c) (value-start (laid .framed) r (omega (arith, below-limit laid r x h))) w
+
+  -- there are its values
+  pub part-tuple : take (end - at) (drop at (L .values)) ≡ valuesAt (networkIn L) r x
+  unfolding valuesAt
+  part-tuple =
+      let long : end - at ≡ width (networkIn L) r = omega (arith, e, w) in
+      ap₂ (λ (n m : ℕ). take n (drop m (L .values))) long begins
+
+  -- within the list
+  pub part-fits : end ≤ length (L .values)
+  part-fits = omega (arith, begins, e, w, tuple-fits laid r x h)
 
 module _ {L : Lists} (laid : SoundLists L) {index : List ℕ} (indexed : Indexed (networkIn L) index) (r x s z : ℕ) where
   abbrev N : Network
@@ -187,8 +211,8 @@ module _ {L : Lists} (laid : SoundLists L) {index : List ℕ} (indexed : Indexed
         f .row .begins ∙ ap₂ (λ (n v : ℕ). rowAt index n v (f .row .digit)) (at .begins) same in
         ap (λ (n : ℕ). rowBit index n g) begins ∙ in-row
 
-    pub agreeing-rows : {n : ℕ} {rows : List ℕ} → RowsOf index columns (valuesAt N r x) n rows → inRows index rows n (firstId N s + z) ≡ true
-    agreeing-rows {n} {rows} f = rows-all index rows n (firstId N s + z) (λ k h. agreeing-row (f .at k h))
+    pub agreeing-every : InEvery index columns (valuesAt N r x) (firstId N s + z)
+    agreeing-every first f = agreeing-row f
 
 -- ---- The live ids between two
 

@@ -67,6 +67,10 @@ pub record RowsOf (index columns tuple : List ℕ) (n : ℕ) (rows : List ℕ) :
   pub few : n ≤ tupleRows
   pub at : (k : ℕ) → k < n → RowOf index columns tuple (getD rows k 0)
 
+-- id g is in every row of the values in a tuple's columns
+abbrev pub InEvery : List ℕ → List ℕ → List ℕ → ℕ → Type 0
+InEvery index columns tuple g = (first : ℕ) → RowOf index columns tuple first → rowBit index first g ≡ true
+
 -- ---- Ids in rows
 
 -- The first n rows lie within the index.

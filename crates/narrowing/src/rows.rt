@@ -93,14 +93,26 @@ fn meet_both(index: &Index, a: usize, b: usize, words: &Words, from: usize, to: 
     any != 0
 }
 
-// .. in all of the first n rows. It ends at the first such word.
+// Whether some id of word i is set and in all of the first n rows, of which there are two at least: most words have none in these.
+fn in_all(index: &Index, rows: &Rows, n: usize, word: u64, i: usize) -> bool
+    requires { ⌜ Within (now index) n (now rows) × ((2 ≤ n) × (i < rowWords (now index))) ⌝ }
+    ensures { λ found. ⌜ (found ≡ false → BitsInRows (entry index) n (entry rows) i word 0) ⌝ }
+{
+    let w = in_rows(index, rows, 2, word, i);
+    if w == 0 {
+        return false;
+    }
+    in_rows(index, rows, n, w, i) != 0
+}
+
+// Whether some id of the words from `from` on and below `to` is live and in all of the first n rows. It ends at the first such word.
 fn meet_all(index: &Index, rows: &Rows, n: usize, words: &Words, from: usize, to: usize) -> bool
-    requires { ⌜ Within (now index) n (now rows) × Spans (now index) to ⌝ }
+    requires { ⌜ Within (now index) n (now rows) × ((2 ≤ n) × Spans (now index) to) ⌝ }
     ensures { λ met. ⌜ (met ≡ false → Apart (entry index) n (entry rows) from to (entry words)) ⌝ }
 {
     let mut i = from;
     while i < to {
-        if in_rows(index, rows, n, words[i], i) != 0 {
+        if in_all(index, rows, n, words[i], i) {
             return true;
         }
         i += 1;
@@ -108,11 +120,14 @@ fn meet_all(index: &Index, rows: &Rows, n: usize, words: &Words, from: usize, to
     false
 }
 
-// The same, by the one or the other.
+// The same, by the one or the other. True where there are no rows.
 pub fn meet(index: &Index, rows: &Rows, n: usize, words: &Words, from: usize, to: usize) -> bool
     requires { ⌜ Within (now index) n (now rows) × Spans (now index) to ⌝ }
     ensures { λ met. ⌜ (met ≡ false → Apart (entry index) n (entry rows) from to (entry words)) ⌝ }
 {
+    if n == 0 {
+        return true;
+    }
     if n == 1 {
         return meet_both(index, rows[0], rows[0], words, from, to);
     }

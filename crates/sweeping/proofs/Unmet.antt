@@ -3,6 +3,7 @@
 use mathlib.Core.Path.{_≡_, sym, _∙_, ap, subst}
 use mathlib.Core.Bool.{true, not}
 use mathlib.Core.List.{List, List·Memᴰ, Memᴰ·cast}
+use mathlib.Core.Logic.{⊎-elim}
 use Prim.Native.Nat.{ℕ, _+_, _-_, _*_, _≤_, _<_}
 use native.Mathlib.Omega.{arith}
 use lib.Dec.{eqb}
@@ -24,18 +25,19 @@ use Rattle.live.specs.Words.{WordArray}
 use Rattle.live.proofs.Stores.{cleared-live}
 use Rattle.layout.specs.Starts.{SoundStarts}
 use Rattle.layout.specs.Setting.{Lists, networkIn}
-use Rattle.layout.proofs.SoundStarts.{tuples-few}
-use Rattle.narrowing.specs.TupleRows.{RowsOf, Apart, LiveBetween}
-use Rattle.narrowing.proofs.TupleRows.{agreeing-rows}
-use Rattle.sweeping.specs.Sweep.{bitOf, Prepared, Unmet, Covers, combining, Revises, Sweeps}
+use Rattle.layout.proofs.SoundStarts.{tuple-end, tuples-few, ids-few}
+use Rattle.narrowing.specs.TupleRows.{LiveBetween}
+use Rattle.narrowing.proofs.TupleRows.{agreeing-every}
+use Rattle.sweeping.specs.Sweep.{bitOf, Unmet, Prepared, Misses, Falls, Covers, combining, Revises, Sweeps}
 use Rattle.sweeping.proofs.Shrunk.{shrunk-refl, shrunk-trans, shrunk-removed}
 
 -- ---- Tuples that none agrees with
 
--- no live tuple of relation s is in all rows of the tuple's values
-pub apart-unmet : {L : Lists} {index columns rows : List ℕ} {r s : ℕ} (alive : List ℕ) (x n from to : ℕ) → Prepared L index columns r s → x < size (networkIn L) r → RowsOf index columns (valuesAt (networkIn L) r x) n rows → wordBits * from ≤ firstId (networkIn L) s → firstId (networkIn L) s + size (networkIn L) s ≤ wordBits * to → Apart index n rows from to alive → Unmet (networkIn L) alive r x s
-apart-unmet {L} {r = r} {s} alive x n from to p h rows b e apart z l live agrees =
-    apart (firstId (networkIn L) s + z) (omega arith) (omega arith) live (agreeing-rows (p .laid) (p .indexed) r x s z h l agrees (p .shares) rows)
+-- no live tuple of relation s is in every row of the tuple's values
+pub misses-unmet : {L : Lists} {index columns : List ℕ} {r s : ℕ} (alive : List ℕ) (x from to : ℕ) → Prepared L index columns r s from to → x < size (networkIn L) r → Misses index columns (valuesAt (networkIn L) r x) alive from to → Unmet (networkIn L) alive r x s
+misses-unmet {L} {r = r} {s} alive x from to p h misses z l live agrees =
+    misses (firstId (networkIn L) s + z) (omega (arith, p .begins)) (omega (arith, p .ends)) live
+    (agreeing-every (p .laid) (p .indexed) r x s z h l agrees (p .shares))
 
 -- all live ids of relation s are
 pub between-covers : (N : Network) (s : ℕ) (words alive : List ℕ) {start end : ℕ} → start ≡ firstId N s → end ≡ firstId N s + size N s → LiveBetween start end words alive → Covers N s words alive
@@ -76,10 +78,6 @@ module _ (L : Lists) where
   pub revises-none : (r s : ℕ) {words : List ℕ} → WordArray words → Revises L r s words words
   revises-none r s {words} w = (w, λ m members _. shrunk-refl (combining L m members) words (w .small))
 
-  pub revises-then : (r s : ℕ) {words now after : List ℕ} → Revises L r s words now → Revises L r s now after → Revises L r s words after
-  revises-then r s {words} {now} {after} a b =
-      (b .0, λ m members t. shrunk-trans (combining L m members) words now after (a .1 m members t) (b .1 m members t))
-
   -- a tuple of relation r that no live tuple of relation s agrees with is removed
   pub revises-more : SoundStarts (L .starts) → {r s x : ℕ} {words now : List ℕ} → x < size (networkIn L) r → Unmet (networkIn L) now r x s → Revises L r s words now → Revises L r s words (cleared (firstId (networkIn L) r + x) now)
   revises-more framed {r} {s} {x} {words} {now} h none (array, shrunk) =
@@ -94,6 +92,37 @@ module _ (L : Lists) where
             (Memᴰ·cast (relationOf-at N r x h) (b .has-r))
             (unmet-unsupported N r x s now (b .combination) h (b .has-s) (b .apart) none)),
       )
+
+  -- What comes of the test of a tuple: one falls at most, which might fall, and the live tuples of relation s are live in `alive` still.
+  pub record Tested (r s : ℕ) (alive words after : List ℕ) (n : ℕ) : Type 0 where
+    pub one : n ≤ 1
+    pub revises : Revises L r s words after
+    pub covers : Covers (networkIn L) s after alive
+
+  module _ {index columns : List ℕ} {r s from to : ℕ} (p : Prepared L index columns r s from to) (x g n : ℕ) (alive tuple words now after : List ℕ) (h : x < size (networkIn L) r) (id : g ≡ firstId (networkIn L) r + x) (values : tuple ≡ valuesAt (networkIn L) r x) (before : Revises L r s words now) (covers : Covers (networkIn L) s now alive) where
+    kept : (n ≡ 0) × (after ≡ now) → Tested r s alive words after n
+    kept (z, e) =
+        record {
+          one = omega arith;
+          revises = subst (Revises L r s words) (sym e) before;
+          covers = subst (λ (ws : List ℕ). Covers (networkIn L) s ws alive) (sym e) covers;
+        }
+
+    fallen : (n ≡ 1) × ((after ≡ cleared g now) × Misses index columns tuple alive from to) → Tested r s alive words after n
+    fallen (o, (e, misses)) =
+        let N = networkIn L in
+        let f = p .laid .framed in
+        let inside : g < wordBits * length now = omega (arith, id, h, before .0 .long, tuple-end f r (p .own), ids-few f r (p .own)) in
+        let missed = subst (λ (vs : List ℕ). Misses index columns vs alive from to) values misses in
+        let none = covers-unmet N s now alive covers r x (misses-unmet alive x from to p h missed) in
+        record {
+          one = omega arith;
+          revises = subst (Revises L r s words) (sym (e ∙ ap (λ (i : ℕ). cleared i now) id)) (revises-more f {now = now} h none before);
+          covers = subst (λ (ws : List ℕ). Covers N s ws alive) (sym e) (covers-cleared N s now alive covers g inside);
+        }
+
+    pub falls-tested : Falls index columns tuple alive from to g now after n → Tested r s alive words after n
+    falls-tested falls = ⊎-elim kept fallen falls
 
 module _ {L : Lists} {table : List ℕ} where
   pub sweeps-none : {words : List ℕ} → WordArray words → Sweeps L table words words

@@ -1,19 +1,20 @@
 -- Relations beside each other, tuples that none of a relation's live tuples agrees with, and what a sweep does to the live words.
 use mathlib.Core.Path.{_≡_}
-use mathlib.Core.Bool.{Bool, true, false}
+use mathlib.Core.Bool.{true}
 use mathlib.Core.List.{List, List·Memᴰ}
 use mathlib.Core.Logic.{_⊎_}
 use Prim.Native.Nat.{ℕ, _+_, _*_, _≤_, _<_}
 use lib.ListN.{length, getD}
-use Rattle.model.specs.Limits.{maxRelations, maxTuples, wordBits}
+use Rattle.model.specs.Limits.{maxRelations, maxWidth, maxTuples, wordBits}
 use Rattle.model.specs.Network.{Network, size, firstId, scopeOf}
 use Rattle.model.specs.Agreement.{agree}
 use Rattle.model.specs.Combination.{Combination, combinations}
-use Rattle.model.specs.LiveWords.{isLive}
+use Rattle.model.specs.LiveWords.{isLive, cleared}
 use Rattle.live.specs.Words.{WordArray}
 use Rattle.layout.specs.Setting.{Lists, Setting, networkIn, SoundLists}
+use Rattle.value_index.specs.Plan.{SoundPlan}
 use Rattle.value_index.specs.Index.{Indexed}
-use Rattle.narrowing.specs.TupleRows.{tupleRows, Shares}
+use Rattle.narrowing.specs.TupleRows.{Shares, HasRows, InEvery, Spans}
 use Rattle.sweeping.specs.declared.Swept.{Swept}
 use Rattle.sweeping.specs.Shrunk.{Shrunk}
 
@@ -68,21 +69,33 @@ abbrev pub Unmet : Network → List ℕ → ℕ → ℕ → ℕ → Type 0
 Unmet N words r x s =
     (z : ℕ) → z < size N s → isLive words (firstId N s + z) ≡ true → agree N (firstId N r + x) (firstId N s + z) ≡ true → ⊥
 
--- What is found once for relations r and s, in sound lists with their index: the columns that they share.
-pub record Prepared (L : Lists) (index columns : List ℕ) (r s : ℕ) : Type 0 where
+-- What is found once for relations r and s, in sound lists with their index: the columns that they share, and the words of s's ids.
+pub record Prepared (L : Lists) (index columns : List ℕ) (r s from to : ℕ) : Type 0 where
   pub laid : SoundLists L
   pub indexed : Indexed (networkIn L) index
   pub own : r < maxRelations
   pub other : s < maxRelations
   pub shares : Shares (scopeOf (networkIn L) r) (scopeOf (networkIn L) s) index s columns
+  pub begins : wordBits * from ≤ firstId (networkIn L) s
+  pub ends : firstId (networkIn L) s + size (networkIn L) s ≤ wordBits * to
+  pub spans : Spans index to
 
--- .. for a tuple x of relation r
-abbrev pub Tests : Lists → List ℕ → List ℕ → ℕ → ℕ → ℕ → Type 0
-Tests L index columns r x s = Prepared L index columns r s × (x < size (networkIn L) r)
+-- A tuple whose values have rows, of which the words below `to` are asked.
+pub record Testable (index columns tuple : List ℕ) (to : ℕ) : Type 0 where
+  pub plan : SoundPlan index
+  pub few : length tuple ≤ maxWidth
+  pub has : HasRows index columns (length tuple)
+  pub spans : Spans index to
 
--- false only where no tuple of relation s that is live in `alive` agrees with tuple x of relation r
-abbrev pub Meets : Lists → List ℕ → ℕ → ℕ → ℕ → List ℕ → Bool → Type 0
-Meets L alive r x s rows met = (length rows ≡ tupleRows) × (met ≡ false → Unmet (networkIn L) alive r x s)
+-- no id of the words from `from` on and below `to` is live in `alive`, and in every row of the tuple's values
+abbrev pub Misses : List ℕ → List ℕ → List ℕ → List ℕ → ℕ → ℕ → Type 0
+Misses index columns tuple alive from to =
+    (g : ℕ) → wordBits * from ≤ g → g < wordBits * to → isLive alive g ≡ true → InEvery index columns tuple g → ⊥
+
+-- none falls, or id g, where there is none such
+abbrev pub Falls : List ℕ → List ℕ → List ℕ → List ℕ → ℕ → ℕ → ℕ → List ℕ → List ℕ → ℕ → Type 0
+Falls index columns tuple alive from to g before after n =
+    ((n ≡ 0) × (after ≡ before)) ⊎ ((n ≡ 1) × ((after ≡ cleared g before) × Misses index columns tuple alive from to))
 
 -- the live tuples of relation s are live in `alive` too
 abbrev pub Covers : Network → ℕ → List ℕ → List ℕ → Type 0
@@ -98,13 +111,6 @@ combining L m members = record { lists = L; members = members; m = m }
 abbrev pub Revises : Lists → ℕ → ℕ → List ℕ → List ℕ → Type 0
 Revises L r s words after =
     WordArray after × ((m : ℕ) (members : List ℕ) → Beside (combinations m members) r s → Shrunk (combining L m members) words after)
-
--- .. one tuple at most, and the live tuples of relation s are live in `alive` still
-pub record Clears (L : Lists) (r s : ℕ) (alive rows words after : List ℕ) (n : ℕ) : Type 0 where
-  pub one : n ≤ 1
-  pub long : length rows ≡ tupleRows
-  pub covers : Covers (networkIn L) s after alive
-  pub revises : Revises L r s words after
 
 -- .. which the table is of
 abbrev pub Sweeps : Lists → List ℕ → List ℕ → List ℕ → Type 0

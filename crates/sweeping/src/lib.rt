@@ -1,5 +1,6 @@
 // Sweeps before the visits: tuples fall that no live tuple of a relation beside theirs, another member of a combination, agrees with.
 ghost use mathlib.Core.Path.{_≡_};
+ghost use mathlib.Core.Bool.{false};
 ghost use Prim.Native.Nat.{_*_, _≤_, _<_};
 ghost use lib.ListN.{length};
 ghost use Rattle.model.specs.Limits.{maxRelations, maxTuples};
@@ -11,11 +12,11 @@ ghost use Rattle.value_index.specs.Index.{Indexed};
 ghost use Rattle.narrowing.specs.Narrows.{Long, Searchable};
 ghost use Rattle.narrowing.specs.TupleRows.{tupleRows};
 ghost use Rattle.sweeping.specs.Shrunk.{Shrunk};
-ghost use Rattle.sweeping.specs.Sweep.{Besides, Few, PutAsks, Put, Prepared, Tests, Meets, Covers, Clears, Revises, Sweeps, AtMost};
+ghost use Rattle.sweeping.specs.Sweep.{Besides, Few, PutAsks, Put, Prepared, Testable, Misses, Falls, Covers, Revises, Sweeps, AtMost};
 use layout::Starts;
-use layout::place_of;
 use layout::relation_count;
 use layout::tuple_start;
+use layout::value_start;
 use layout::variable_start;
 use layout::wide;
 use live::WORDS;
@@ -44,64 +45,44 @@ pub struct Swept {
     pub fell: u32,
 }
 
-// Whether a tuple of relation s that is live in `alive` may agree with tuple x of relation r. What is in `rows` does not matter.
+// Whether an id of the words from `from` on and below `to` is live in `alive`, and in every row of the tuple's values. What is in `rows`
+// does not matter.
 fn meets(
-    variables: &[u16],
-    values: &[Value],
-    starts: &Starts,
     index: &Index,
     columns: &Columns,
+    tuple: &[Value],
     alive: &Words,
     rows: &mut Rows,
-    r: u16,
-    x: u16,
-    s: u16,
+    from: usize,
+    to: usize,
 ) -> bool
-    requires { ⌜ (length (now rows) ≡ tupleRows) × Tests (lists now variables values starts) (now index) (now columns) r x s ⌝ }
-    ensures { λ b. ⌜ Meets (lists entry variables values starts) (entry alive) r x s (exit rows) b ⌝ }
+    requires { ⌜ (length (now rows) ≡ tupleRows) × Testable (now index) (now columns) (now tuple) to ⌝ }
+    ensures { λ met. ⌜ (length (exit rows) ≡ tupleRows) × (met ≡ false → Misses (entry index) (entry columns) (entry tuple) (entry alive) from to) ⌝ }
 {
-    let p = place_of(starts, r, x);
-    let a = p.tuple;
-    let a_end = p.tuple_end;
-    let n = rows_of(index, columns, &values[a..a_end], rows);
-    let from = wide(tuple_start(starts, s)) / 64;
-    let to = words_for(tuple_start(starts, s + 1));
+    let n = rows_of(index, columns, tuple, rows);
     meet(index, rows, n, alive, from, to)
 }
 
-// Tuple x of relation r falls if no live tuple of relation s agrees with it; these are live in `alive` too. How many fell: 1 or 0.
+// Id g falls if there is none such. How many fell: 1 or 0.
 fn clear_unmet(
-    variables: &[u16],
-    values: &[Value],
-    starts: &Starts,
     index: &Index,
     columns: &Columns,
+    tuple: &[Value],
     alive: &Words,
     rows: &mut Rows,
     words: &mut Words,
-    r: u16,
-    x: u16,
-    s: u16,
+    g: u16,
+    from: usize,
+    to: usize,
 ) -> u32
-    requires { ⌜ (length (now rows) ≡ tupleRows) × Tests (lists now variables values starts) (now index) (now columns) r x s ⌝ }
-    requires { ⌜ WordArray (now words) × Covers (networkIn (lists now variables values starts)) s (now words) (now alive) ⌝ }
-    ensures { λ n. ⌜ Clears (lists entry variables values starts) r s (entry alive) (exit rows) (entry words) (exit words) n ⌝ }
+    requires { ⌜ (length (now rows) ≡ tupleRows) × Testable (now index) (now columns) (now tuple) to ⌝ }
+    requires { ⌜ Long (now words) × (g < maxTuples) ⌝ }
+    ensures { λ n. ⌜ (length (exit rows) ≡ tupleRows) × Falls (entry index) (entry columns) (entry tuple) (entry alive) from to g (entry words) (exit words) n ⌝ }
 {
-    if meets(
-        variables,
-        values,
-        starts,
-        index,
-        columns,
-        alive,
-        rows,
-        r,
-        x,
-        s,
-    ) {
+    if meets(index, columns, tuple, alive, rows, from, to) {
         return 0;
     }
-    clear(words, tuple_start(starts, r) + x);
+    clear(words, g);
     1
 }
 
@@ -134,13 +115,17 @@ fn clear_tuples(
     words: &mut Words,
     r: u16,
     s: u16,
+    from: usize,
+    to: usize,
 ) -> Swept
-    requires { ⌜ Prepared (lists now variables values starts) (now index) (now columns) r s ⌝ }
+    requires { ⌜ Prepared (lists now variables values starts) (now index) (now columns) r s from to ⌝ }
     requires { ⌜ WordArray (now words) × Covers (networkIn (lists now variables values starts)) s (now words) (now alive) ⌝ }
     ensures { λ n. ⌜ AtMost 1 n × Revises (lists entry variables values starts) r s (entry words) (exit words) ⌝ }
 {
     let first = tuple_start(starts, r);
     let end = tuple_start(starts, r + 1);
+    let base = value_start(starts, r);
+    let width = variable_start(starts, r + 1) - variable_start(starts, r);
     let mut rows = [0; TUPLE_ROWS];
     let mut tested = 0;
     let mut fell = 0;
@@ -149,19 +134,10 @@ fn clear_tuples(
         if stops(tested, fell) {
             return Swept { tested, fell };
         }
-        let n = clear_unmet(
-            variables,
-            values,
-            starts,
-            index,
-            columns,
-            alive,
-            &mut rows,
-            words,
-            r,
-            g - first,
-            s,
-        );
+        let a = base + wide(g - first) * width;
+        let a_end = a + width;
+        let tuple = &values[a..a_end];
+        let n = clear_unmet(index, columns, tuple, alive, &mut rows, words, g, from, to);
         fell += n;
         tested += 1;
         g = next(words, g + 1, end);
@@ -190,7 +166,9 @@ fn revise(
     let b = variable_start(starts, s);
     let b_end = variable_start(starts, s + 1);
     let columns = shared_columns(index, &variables[a..a_end], &variables[b..b_end], s);
-    let alive = live_between(words, tuple_start(starts, s), tuple_start(starts, s + 1));
+    let start = tuple_start(starts, s);
+    let end = tuple_start(starts, s + 1);
+    let alive = live_between(words, start, end);
     clear_tuples(
         variables,
         values,
@@ -201,6 +179,8 @@ fn revise(
         words,
         r,
         s,
+        wide(start) / 64,
+        words_for(end),
     )
 }
 

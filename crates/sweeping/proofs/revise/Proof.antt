@@ -2,15 +2,16 @@
 -- From the contracts of the functions called, and the laws of scopes and of a relation's ids.
 use mathlib.Core.Path.{_≡_, sym, ap₂, subst, _∙_}
 use mathlib.Core.List.{List}
-use Prim.Native.Nat.{ℕ, _+_, _-_, _≤_, _<_}
+use Prim.Native.Nat.{ℕ, _+_, _-_, _*_, _≤_, _<_}
 use native.Mathlib.Omega.{arith}
 use lib.ListN.{length, take, drop}
 use borrow.Author.Needs.{needs}
 use Rattle.model.specs.Network.{size, firstId, scopeOf}
 use Rattle.layout.specs.Starts.{SoundStarts, variableStart}
 use Rattle.layout.specs.Setting.{Lists, networkIn, SoundLists}
-use Rattle.layout.proofs.SoundStarts.{tuple-start, tuple-end, ids-few, scope-rises}
+use Rattle.layout.proofs.SoundStarts.{tuple-start, tuple-end, ids-few, ids-within, scope-rises}
 use Rattle.layout.proofs.Places.{scope-within, scope-is, scope-few}
+use Rattle.value_index.specs.Plan.{rowWords}
 use Rattle.narrowing.specs.TupleRows.{Shares}
 use Rattle.sweeping.proofs.Unmet.{between-covers, revises-none}
 use Rattle.sweeping.proofs.revise.Statement.{statement}
@@ -74,7 +75,7 @@ shares c =
 
 module _ (c : tie.After-tuple-start2) where
   abbrev found : tie.After-shared-columns
-  found = c .before .before .before
+  found = c .before .before
 
   abbrev known : tie.After-variable-start4
   known = found .before .before .before
@@ -91,13 +92,27 @@ module _ (c : tie.After-tuple-start2) where
   few : c .tuple-start2 .result ≤ 4096
   few = omega (arith, c .tuple-start2 .ensures, ids-few (laid known .framed) s (start known .pre .1 .1 .1))
 
+  within : c .tuple-start2 .result ≤ 64 * rowWords (start known .args .index .now)
+  within = omega (arith, c .tuple-start2 .ensures, ids-within (laid known .framed) s (start known .pre .1 .1 .1), start known .pre .1 .0 .indexed .bits)
+
 clear-tuples-requires : tie.Need-clear-tuples-requires
 clear-tuples-requires c κs =
-    let between = c .before .before .before in
-    let ids = between .before in
+    let between = c .before .before .before .before .before in
+    let ids = between .before .before in
     let w = known ids in
-    let p = start w .pre in (
-      record { laid = p .1 .0 .laid; indexed = p .1 .0 .indexed; own = p .1 .1 .0; other = p .1 .1 .1; shares = shares (found ids) },
+    let p = start w .pre in
+    let from = c .before .wide .ensures .0 in
+    let to = c .words-for .ensures in (
+      record {
+        laid = p .1 .0 .laid;
+        indexed = p .1 .0 .indexed;
+        own = p .1 .1 .0;
+        other = p .1 .1 .1;
+        shares = shares (found ids);
+        begins = omega (arith, from, first-is ids);
+        ends = omega (arith, to, end-is ids);
+        spans = (omega (arith, to, few ids), omega (arith, to, within ids));
+      },
       (
         p .0,
         between-covers (networkIn (L w)) (s ids) (start w .args .words .now) (between .live-between .result) (first-is ids) (end-is ids) (between .live-between .ensures),
@@ -121,6 +136,7 @@ revise-spec =
     (λ c. omega (arith, other (c .before))) (λ c. omega (arith, other (c .before))) (λ c. omega (arith, other (c .before))) (λ c. omega (arith, other (c .before)))
     shared-columns-requires
     (λ c κs. search needs) (λ c. search needs) (λ c κs. search needs)
-    (λ c κs. (start (known c) .pre .0 .long, few c))
+    (λ c κs. (start (known (c .before)) .pre .0 .long, few (c .before)))
+    (λ c κs. search needs) (λ c κs. search needs)
     clear-tuples-requires
     (λ c. c .clear-tuples .ensures))
