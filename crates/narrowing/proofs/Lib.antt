@@ -2,3 +2,4 @@
 pub mod Words
 pub mod Narrowing
 pub mod Sieves
+pub mod TupleRows

@@ -42,7 +42,7 @@ module _ (base bound j : ℕ) where
   pub below-some : base < bound → bound - base < 64 → isSet (1 * 2 ^ (bound - base) % 2 ^ 64 - 1) j ≡ ltb (base + j) bound
   below-some h l = rw (one-shl (bound - base) l) (below-part (bound - base) refl h (decLt j (bound - base)))
 
-not-ltb : (a b : ℕ) → not (ltb a b) ≡ leb b a
+pub not-ltb : (a b : ℕ) → not (ltb a b) ≡ leb b a
 not-ltb a b = go (ltb a b) refl
   where
     go : (x : Bool) → ltb a b ≡ x → not x ≡ leb b a

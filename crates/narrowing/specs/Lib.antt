@@ -2,3 +2,4 @@
 pub mod Narrows
 pub mod Columns
 pub mod Sieve
+pub mod TupleRows

@@ -28,6 +28,8 @@ use value_index::row_of;
 use value_index::scope_bits;
 
 pub mod sieve; // tuples passed over by one bit of their value
+pub mod columns; // the columns that two relations share
+pub mod rows; // the rows of a tuple's values in them
 
 // The word whose bit j is 1 where base + j is below the bound.
 fn below(base: usize, bound: usize) -> u64

@@ -1,18 +1,20 @@
 -- Relations beside each other, tuples that none of a relation's live tuples agrees with, and what a sweep does to the live words.
 use mathlib.Core.Path.{_≡_}
-use mathlib.Core.Bool.{Bool, true, false}
+use mathlib.Core.Bool.{true}
 use mathlib.Core.List.{List, List·Memᴰ}
 use mathlib.Core.Logic.{_⊎_}
 use Prim.Native.Nat.{ℕ, _+_, _*_, _≤_, _<_}
 use lib.ListN.{length, getD}
-use Rattle.model.specs.Limits.{maxRelations, maxTuples, wordBits}
-use Rattle.model.specs.Network.{Network, size, firstId}
+use Rattle.model.specs.Limits.{maxRelations, maxWidth, maxTuples, wordBits}
+use Rattle.model.specs.Network.{Network, size, firstId, scopeOf}
 use Rattle.model.specs.Agreement.{agree}
 use Rattle.model.specs.Combination.{Combination, combinations}
-use Rattle.model.specs.LiveWords.{isLive}
+use Rattle.model.specs.LiveWords.{isLive, cleared}
 use Rattle.live.specs.Words.{WordArray}
-use Rattle.layout.specs.Setting.{Lists, Setting, networkIn}
-use Rattle.narrowing.specs.Narrows.{Long}
+use Rattle.layout.specs.Setting.{Lists, Setting, networkIn, SoundLists}
+use Rattle.value_index.specs.Plan.{SoundPlan}
+use Rattle.value_index.specs.Index.{Indexed}
+use Rattle.narrowing.specs.TupleRows.{Shares, HasRows, InEvery, Spans}
 use Rattle.sweeping.specs.declared.Swept.{Swept}
 use Rattle.sweeping.specs.Shrunk.{Shrunk}
 
@@ -67,9 +69,37 @@ abbrev pub Unmet : Network → List ℕ → ℕ → ℕ → ℕ → Type 0
 Unmet N words r x s =
     (z : ℕ) → z < size N s → isLive words (firstId N s + z) ≡ true → agree N (firstId N r + x) (firstId N s + z) ≡ true → ⊥
 
--- false only where no live tuple of relation s agrees with tuple x of relation r
-abbrev pub Meets : Lists → List ℕ → ℕ → ℕ → ℕ → List ℕ → Bool → Type 0
-Meets L words r x s scratch met = Long scratch × (met ≡ false → Unmet (networkIn L) words r x s)
+-- What is found once for relations r and s, in sound lists with their index: the columns that they share, and the words of s's ids.
+pub record Prepared (L : Lists) (index columns : List ℕ) (r s from to : ℕ) : Type 0 where
+  pub laid : SoundLists L
+  pub indexed : Indexed (networkIn L) index
+  pub own : r < maxRelations
+  pub other : s < maxRelations
+  pub shares : Shares (scopeOf (networkIn L) r) (scopeOf (networkIn L) s) index s columns
+  pub begins : wordBits * from ≤ firstId (networkIn L) s
+  pub ends : firstId (networkIn L) s + size (networkIn L) s ≤ wordBits * to
+  pub spans : Spans index to
+
+-- A tuple whose values have rows, of which the words below `to` are asked.
+pub record Testable (index columns tuple : List ℕ) (to : ℕ) : Type 0 where
+  pub plan : SoundPlan index
+  pub few : length tuple ≤ maxWidth
+  pub has : HasRows index columns (length tuple)
+  pub spans : Spans index to
+
+-- no id of the words from `from` on and below `to` is live in `alive`, and in every row of the tuple's values
+abbrev pub Misses : List ℕ → List ℕ → List ℕ → List ℕ → ℕ → ℕ → Type 0
+Misses index columns tuple alive from to =
+    (g : ℕ) → wordBits * from ≤ g → g < wordBits * to → isLive alive g ≡ true → InEvery index columns tuple g → ⊥
+
+-- none falls, or id g, where there is none such
+abbrev pub Falls : List ℕ → List ℕ → List ℕ → List ℕ → ℕ → ℕ → ℕ → List ℕ → List ℕ → ℕ → Type 0
+Falls index columns tuple alive from to g before after n =
+    ((n ≡ 0) × (after ≡ before)) ⊎ ((n ≡ 1) × ((after ≡ cleared g before) × Misses index columns tuple alive from to))
+
+-- the live tuples of relation s are live in `alive` too
+abbrev pub Covers : Network → ℕ → List ℕ → List ℕ → Type 0
+Covers N s words alive = (z : ℕ) → z < size N s → isLive words (firstId N s + z) ≡ true → isLive alive (firstId N s + z) ≡ true
 
 -- ---- Sweeps
 
@@ -89,4 +119,4 @@ Sweeps L table words after =
 
 -- both numbers are at most so many times all tuples
 abbrev pub AtMost : ℕ → Swept → Type 0
-AtMost times n = (n .tested ≤ times * maxTuples) × (n .left ≤ times * maxTuples)
+AtMost times n = (n .tested ≤ times * maxTuples) × (n .fell ≤ times * maxTuples)

@@ -1,89 +1,148 @@
 // Sweeps before the visits: tuples fall that no live tuple of a relation beside theirs, another member of a combination, agrees with.
+ghost use mathlib.Core.Path.{_≡_};
+ghost use mathlib.Core.Bool.{false};
 ghost use Prim.Native.Nat.{_*_, _≤_, _<_};
+ghost use lib.ListN.{length};
 ghost use Rattle.model.specs.Limits.{maxRelations, maxTuples};
 ghost use Rattle.model.specs.Combination.{combinations};
 ghost use Rattle.live.specs.Words.{WordArray};
 ghost use Rattle.layout.specs.Loan.{entry, exit};
 ghost use Rattle.layout.specs.Setting.{lists, networkIn, setting, Whole, Sound};
 ghost use Rattle.value_index.specs.Index.{Indexed};
-ghost use Rattle.narrowing.specs.Narrows.{Long, Seeks, Searchable};
+ghost use Rattle.narrowing.specs.Narrows.{Long, Searchable};
+ghost use Rattle.narrowing.specs.TupleRows.{tupleRows};
 ghost use Rattle.sweeping.specs.Shrunk.{Shrunk};
-ghost use Rattle.sweeping.specs.Sweep.{Besides, Few, PutAsks, Put, Meets, Revises, Sweeps, AtMost};
+ghost use Rattle.sweeping.specs.Sweep.{Besides, Few, PutAsks, Put, Prepared, Testable, Misses, Falls, Covers, Revises, Sweeps, AtMost};
 use layout::Starts;
 use layout::relation_count;
 use layout::tuple_start;
+use layout::value_start;
+use layout::variable_start;
 use layout::wide;
 use live::WORDS;
 use live::Words;
 use live::clear;
-use live::copy_between;
-use live::count;
 use live::next;
 use live::set;
+use live::words_for;
 use model::Value;
-use narrowing::narrow_member;
+use narrowing::columns::Columns;
+use narrowing::columns::shared_columns;
+use narrowing::rows::Rows;
+use narrowing::rows::TUPLE_ROWS;
+use narrowing::rows::live_between;
+use narrowing::rows::meet;
+use narrowing::rows::rows_of;
 use value_index::Index;
 use value_index::scope_bits;
 
-// How many tuples were tested, and how many of them are left.
+// So many tuples of a relation are tested before it is asked whether too few fall.
+const SAMPLE: u32 = 32;
+
+// How many tuples were tested, and how many of them fell.
 pub struct Swept {
     pub tested: u32,
-    pub left: u32,
+    pub fell: u32,
 }
 
-// Whether a live tuple of relation s may agree with tuple x of relation r. What is in `scratch` does not matter.
+// Whether an id of the words from `from` on and below `to` is live in `alive`, and in every row of the tuple's values. What is in `rows`
+// does not matter.
 fn meets(
-    variables: &[u16],
-    values: &[Value],
-    starts: &Starts,
     index: &Index,
-    words: &Words,
-    scratch: &mut Words,
-    r: u16,
-    x: u16,
-    s: u16,
+    columns: &Columns,
+    tuple: &[Value],
+    alive: &Words,
+    rows: &mut Rows,
+    from: usize,
+    to: usize,
 ) -> bool
-    requires { ⌜ WordArray (now words) × (Long (now scratch) × (Seeks (lists now variables values starts) (now index) r x × (s < maxRelations))) ⌝ }
-    ensures { λ b. ⌜ Meets (lists entry variables values starts) (entry words) r x s (exit scratch) b ⌝ }
+    requires { ⌜ (length (now rows) ≡ tupleRows) × Testable (now index) (now columns) (now tuple) to ⌝ }
+    ensures { λ met. ⌜ (length (exit rows) ≡ tupleRows) × (met ≡ false → Misses (entry index) (entry columns) (entry tuple) (entry alive) from to) ⌝ }
 {
-    let start = tuple_start(starts, s);
-    copy_between(words, scratch, start, tuple_start(starts, s + 1));
-    narrow_member(variables, values, starts, index, scratch, r, x, s)
+    let n = rows_of(index, columns, tuple, rows);
+    meet(index, rows, n, alive, from, to)
 }
 
-// Live tuples of relation r fall, and only such ones as no live tuple of relation s agrees with.
+// Id g falls if there is none such. How many fell: 1 or 0.
 fn clear_unmet(
+    index: &Index,
+    columns: &Columns,
+    tuple: &[Value],
+    alive: &Words,
+    rows: &mut Rows,
+    words: &mut Words,
+    g: u16,
+    from: usize,
+    to: usize,
+) -> u32
+    requires { ⌜ (length (now rows) ≡ tupleRows) × Testable (now index) (now columns) (now tuple) to ⌝ }
+    requires { ⌜ Long (now words) × (g < maxTuples) ⌝ }
+    ensures { λ n. ⌜ (length (exit rows) ≡ tupleRows) × Falls (entry index) (entry columns) (entry tuple) (entry alive) from to g (entry words) (exit words) n ⌝ }
+{
+    if meets(index, columns, tuple, alive, rows, from, to) {
+        return 0;
+    }
+    clear(words, g);
+    1
+}
+
+// Whether so few of the tuples tested fell that it does not pay to test more: less than a sixteenth.
+fn few_fell(tested: u32, fell: u32) -> bool
+    requires { ⌜ fell ≤ maxRelations * maxRelations * maxTuples ⌝ }
+{
+    fell * 16 < tested
+}
+
+// .. where enough were tested to know.
+fn stops(tested: u32, fell: u32) -> bool
+    requires { ⌜ fell ≤ maxTuples ⌝ }
+{
+    if tested < SAMPLE {
+        return false;
+    }
+    few_fell(tested, fell)
+}
+
+// Live tuples of relation r fall, and only such ones as no live tuple of relation s agrees with; these are live in `alive` too. Not all
+// are tested where too few fall.
+fn clear_tuples(
     variables: &[u16],
     values: &[Value],
     starts: &Starts,
     index: &Index,
+    columns: &Columns,
+    alive: &Words,
     words: &mut Words,
     r: u16,
     s: u16,
-)
-    requires { ⌜ WordArray (now words) × (Searchable (lists now variables values starts) (now index) × ((r < maxRelations) × (s < maxRelations))) ⌝ }
-    ensures { λ _. ⌜ Revises (lists entry variables values starts) r s (entry words) (exit words) ⌝ }
+    from: usize,
+    to: usize,
+) -> Swept
+    requires { ⌜ Prepared (lists now variables values starts) (now index) (now columns) r s from to ⌝ }
+    requires { ⌜ WordArray (now words) × Covers (networkIn (lists now variables values starts)) s (now words) (now alive) ⌝ }
+    ensures { λ n. ⌜ AtMost 1 n × Revises (lists entry variables values starts) r s (entry words) (exit words) ⌝ }
 {
     let first = tuple_start(starts, r);
     let end = tuple_start(starts, r + 1);
-    let mut scratch = [0u64; WORDS];
+    let base = value_start(starts, r);
+    let width = variable_start(starts, r + 1) - variable_start(starts, r);
+    let mut rows = [0; TUPLE_ROWS];
+    let mut tested = 0;
+    let mut fell = 0;
     let mut g = next(words, first, end);
     while g < end {
-        if !meets(
-            variables,
-            values,
-            starts,
-            index,
-            words,
-            &mut scratch,
-            r,
-            g - first,
-            s,
-        ) {
-            clear(words, g);
+        if stops(tested, fell) {
+            return Swept { tested, fell };
         }
+        let a = base + wide(g - first) * width;
+        let a_end = a + width;
+        let tuple = &values[a..a_end];
+        let n = clear_unmet(index, columns, tuple, alive, &mut rows, words, g, from, to);
+        fell += n;
+        tested += 1;
         g = next(words, g + 1, end);
     }
+    Swept { tested, fell }
 }
 
 // The same where the two relations share a variable; tuples of relations that share none agree, and are not tested.
@@ -100,16 +159,29 @@ fn revise(
     ensures { λ n. ⌜ AtMost 1 n × Revises (lists entry variables values starts) r s (entry words) (exit words) ⌝ }
 {
     if scope_bits(index, r) & scope_bits(index, s) == 0 {
-        return Swept { tested: 0, left: 0 };
+        return Swept { tested: 0, fell: 0 };
     }
-    let first = tuple_start(starts, r);
-    let end = tuple_start(starts, r + 1);
-    let tested = count(words, first, end);
-    clear_unmet(variables, values, starts, index, words, r, s);
-    Swept {
-        tested: tested as u32,
-        left: count(words, first, end) as u32,
-    }
+    let a = variable_start(starts, r);
+    let a_end = variable_start(starts, r + 1);
+    let b = variable_start(starts, s);
+    let b_end = variable_start(starts, s + 1);
+    let columns = shared_columns(index, &variables[a..a_end], &variables[b..b_end], s);
+    let start = tuple_start(starts, s);
+    let end = tuple_start(starts, s + 1);
+    let alive = live_between(words, start, end);
+    clear_tuples(
+        variables,
+        values,
+        starts,
+        index,
+        &columns,
+        &alive,
+        words,
+        r,
+        s,
+        wide(start) / 64,
+        words_for(end),
+    )
 }
 
 // The same for relation r and each relation beside it.
@@ -128,29 +200,18 @@ fn sweep_relation(
     let base = r * 64;
     let end = base + 64;
     let mut tested = 0;
-    let mut left = 0;
+    let mut fell = 0;
     let mut k = next(beside, base, end);
     while k < end {
         let swept = revise(variables, values, starts, index, words, r, k - base);
         tested += swept.tested;
-        left += swept.left;
+        fell += swept.fell;
         k = next(beside, k + 1, end);
     }
-    Swept { tested, left }
+    Swept { tested, fell }
 }
 
-// Whether so few of the tuples tested fell that it does not pay to go on: less than a quarter in combinations of two, whose visits
-// cost no more than the tests, and less than a sixteenth in larger ones.
-fn few_fell(tested: u32, left: u32, m: u16) -> bool
-    requires { ⌜ (tested ≤ maxRelations * maxRelations * maxTuples) × (left ≤ maxRelations * maxRelations * maxTuples) ⌝ }
-{
-    if m == 2 {
-        return tested * 3 < left * 4;
-    }
-    tested * 15 < left * 16
-}
-
-// A sweep over all relations. It stops, and is false, where too few fell so far.
+// A sweep over all relations. It is false where too few fell for another one.
 fn sweep(
     variables: &[u16],
     values: &[Value],
@@ -158,25 +219,21 @@ fn sweep(
     index: &Index,
     beside: &Words,
     words: &mut Words,
-    m: u16,
 ) -> bool
     requires { ⌜ WordArray (now words) × (Long (now beside) × Searchable (lists now variables values starts) (now index)) ⌝ }
     ensures { λ _. ⌜ Sweeps (lists entry variables values starts) (entry beside) (entry words) (exit words) ⌝ }
 {
     let relations = relation_count(starts);
     let mut tested = 0;
-    let mut left = 0;
+    let mut fell = 0;
     let mut r = 0;
     while r < relations {
         let swept = sweep_relation(variables, values, starts, index, beside, words, r);
         tested += swept.tested;
-        left += swept.left;
-        if few_fell(tested, left, m) {
-            return false;
-        }
+        fell += swept.fell;
         r += 1;
     }
-    true
+    !few_fell(tested, fell)
 }
 
 // Relation r is beside each other member from `base` on and below `end`.
@@ -210,7 +267,7 @@ fn all_beside(members: &[u16], m: u16) -> Words
     beside
 }
 
-// Two sweeps at most, the second where the first went through.
+// Two sweeps at most, the second where enough fell in the first.
 pub fn sweeps(
     variables: &[u16],
     values: &[Value],
@@ -225,7 +282,7 @@ pub fn sweeps(
     ensures { λ _. ⌜ Shrunk (setting entry variables values starts members m) (entry words) (exit words) ⌝ }
 {
     let beside = all_beside(members, m);
-    if sweep(variables, values, starts, index, &beside, words, m) {
-        sweep(variables, values, starts, index, &beside, words, m);
+    if sweep(variables, values, starts, index, &beside, words) {
+        sweep(variables, values, starts, index, &beside, words);
     }
 }

@@ -17,11 +17,12 @@ abbrev listsOf : List ℕ → List ℕ → List ℕ → Lists
 listsOf variables values starts = record { variables = variables; values = values; starts = starts }
 
 abbrev Inv-loop : tie.InvT-loop
-Inv-loop variables values starts index beside words₀ m relations tested₀ left₀ r₀ words tested left r =
-    Sweeps (listsOf variables values starts) beside words₀ words × ((tested ≤ r * 64 * maxTuples) × (left ≤ r * 64 * maxTuples))
+Inv-loop variables values starts index beside words₀ relations tested₀ fell₀ r₀ words tested fell r =
+    Sweeps (listsOf variables values starts) beside words₀ words
+    × ((r ≤ relations) × ((tested ≤ r * 64 * maxTuples) × (fell ≤ r * 64 * maxTuples)))
 
 abbrev μ-loop : tie.MeasureT-loop
-μ-loop variables values starts index beside words₀ m relations tested₀ left₀ r₀ words tested left r = relations - r
+μ-loop variables values starts index beside words₀ relations tested₀ fell₀ r₀ words tested fell r = relations - r
 
 module _ (c : tie.In-loop Inv-loop μ-loop) where
   abbrev start : tie.Start Inv-loop μ-loop
@@ -41,14 +42,14 @@ turned : (c : tie.After-sweep-relation Inv-loop μ-loop) → (let a = start (c .
 turned c = sweeps-then (c .before .before .before .loop .inv .0) (c .sweep-relation .ensures .1)
 
 -- .. and the two numbers
-sums : (c : tie.After-sweep-relation Inv-loop μ-loop) → (let l = c .before .before .before .loop in let n = c .sweep-relation .result in (l .tested + n .tested ≤ (l .r + 1) * 64 * maxTuples) × (l .left + n .left ≤ (l .r + 1) * 64 * maxTuples))
-sums c = let i = c .before .before .before .loop .inv .1 in (omega (arith, i, c .sweep-relation .ensures .0), omega (arith, i, c .sweep-relation .ensures .0))
+sums : (c : tie.After-sweep-relation Inv-loop μ-loop) → (let l = c .before .before .before .loop in let n = c .sweep-relation .result in (l .tested + n .tested ≤ (l .r + 1) * 64 * maxTuples) × (l .fell + n .fell ≤ (l .r + 1) * 64 * maxTuples))
+sums c = let i = c .before .before .before .loop .inv .1 .1 in (omega (arith, i, c .sweep-relation .ensures .0), omega (arith, i, c .sweep-relation .ensures .0))
 
 few-fell-requires : tie.Need-few-fell-requires Inv-loop μ-loop
 few-fell-requires c κs =
-    let sum = sums (c .before .before) in
-    let r = few (c .before .before .before .before) in
-    (omega (arith, sum, r), omega (arith, sum, r))
+    let start = c .before .before .before .before .before in
+    let f = start .pre .1 .1 .laid .framed in
+    omega (arith, c .before .loop .inv .1, c .before .before .relation-count .ensures, relation-count f, relations-few f)
 
 pub sweep-spec : {M : Type 1} → statement M
 sweep-spec =
@@ -57,13 +58,12 @@ sweep-spec =
     Inv-loop
     μ-loop
     (λ c κs. search needs)
-    (λ c. (sweeps-none (c .before .before .before .pre .0), (omega arith, omega arith)))
+    (λ c. (sweeps-none (c .before .before .before .pre .0), (omega arith, (omega arith, omega arith))))
     sweep-relation-requires
     (λ c. omega (arith, sums (c .before), few (c .before .before .before)))
     (λ c. omega (arith, sums (c .before .before), few (c .before .before .before .before)))
+    (λ c. omega (arith, few (c .before .before .before .before)))
+    (λ c. let turn = c .before .before .before .before in omega (arith, turn .loop-test .taken))
+    (λ c. let swept = c .before .before in (turned swept, (omega (arith, swept .before .before .loop-test .taken), sums swept)))
     few-fell-requires
-    (λ c. turned (c .before .before .before .before))
-    (λ c. omega (arith, few (c .before .before .before .before .before .before)))
-    (λ c. let turn = c .before .before .before .before .before .before in omega (arith, turn .loop-test .taken))
-    (λ c. (turned (c .before .before .before .before), sums (c .before .before .before .before)))
-    (λ c. c .before .loop .inv .0))
+    (λ c. c .before .before .loop .inv .0))

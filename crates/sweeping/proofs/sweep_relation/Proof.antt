@@ -21,19 +21,19 @@ abbrev listsOf : List ℕ → List ℕ → List ℕ → Lists
 listsOf variables values starts = record { variables = variables; values = values; starts = starts }
 
 -- The walk among the bits from base on and below end has come to bit k, which is 1, or to the end.
-record Walk (table : List ℕ) (base end tested left k : ℕ) : Type 0 where
+record Walk (table : List ℕ) (base end tested fell k : ℕ) : Type 0 where
   from-base : base ≤ k
   to-end : k ≤ end
   set : k < end → isLive table k ≡ true
   few-tested : tested ≤ (k - base) * maxTuples
-  few-left : left ≤ (k - base) * maxTuples
+  few-fell : fell ≤ (k - base) * maxTuples
 
 abbrev Inv-loop : tie.InvT-loop
-Inv-loop variables values starts index beside words₀ r base end tested₀ left₀ k₀ words tested left k =
-    Sweeps (listsOf variables values starts) beside words₀ words × Walk beside base end tested left k
+Inv-loop variables values starts index beside words₀ r base end tested₀ fell₀ k₀ words tested fell k =
+    Sweeps (listsOf variables values starts) beside words₀ words × Walk beside base end tested fell k
 
 abbrev μ-loop : tie.MeasureT-loop
-μ-loop variables values starts index beside words₀ r base end tested₀ left₀ k₀ words tested left k = end - k
+μ-loop variables values starts index beside words₀ r base end tested₀ fell₀ k₀ words tested fell k = end - k
 
 loop-holds : tie.Need-loop-holds Inv-loop μ-loop
 loop-holds c =
@@ -48,7 +48,7 @@ loop-holds c =
         to-end = omega (arith, e, f .to-end);
         set = λ h. ap (isLive (a .beside .now)) e ∙ f .passes (omega (arith, e));
         few-tested = omega arith;
-        few-left = omega arith;
+        few-fell = omega arith;
       },
     )
 
@@ -68,7 +68,7 @@ module _ (c : tie.In-loop Inv-loop μ-loop) where
   abbrev k : ℕ
   k = c .before .loop .k
 
-  abbrev walk : Walk table base (base + 64) (c .before .loop .tested) (c .before .loop .left) k
+  abbrev walk : Walk table base (base + 64) (c .before .loop .tested) (c .before .loop .fell) k
   walk = c .before .loop .inv .1
 
   -- the relation come to
@@ -108,7 +108,7 @@ loop-again c =
         to-end = omega (arith, e, f .to-end);
         set = λ h. ap (isLive (table turn)) e ∙ f .passes (omega (arith, e));
         few-tested = omega (arith, e, f .from-i, w .from-base, w .few-tested, revised .revise .ensures .0);
-        few-left = omega (arith, e, f .from-i, w .from-base, w .few-left, revised .revise .ensures .0);
+        few-fell = omega (arith, e, f .from-i, w .from-base, w .few-fell, revised .revise .ensures .0);
       },
     )
 

@@ -1,0 +1,105 @@
+-- The columns that two relations share, the rows of a tuple's values in them, and the ids that are in all of these rows.
+use mathlib.Core.Path.{_≡_}
+use mathlib.Core.Bool.{Bool, true, _&&_}
+use mathlib.Core.List.{List, [], _∷_}
+use Prim.Native.Nat.{ℕ, _+_, _*_, _≤_, _<_}
+use lib.Dec.{ltb, leb}
+use lib.ListN.{length, getD}
+use Rattle.model.specs.Limits.{maxWidth, wordBits}
+use Rattle.model.specs.Lists.{from, all}
+use Rattle.model.specs.LiveWords.{isSet, isLive}
+use Rattle.model.specs.Edges.{maxWords}
+use Rattle.value_index.specs.Plan.{indexWords, maxDigits, columnStart, rowWords, digitCount, rowAt, ColumnRows}
+use Rattle.value_index.specs.Index.{rowBit}
+
+-- ---- Shared columns
+
+-- Relation s has variable v in a column whose rows begin at word `start`.
+pub record SharedAt (scope index : List ℕ) (s v start : ℕ) : Type 0 where
+  pub column : ℕ
+  pub inside : column < length scope
+  pub same : getD scope column 0 ≡ v
+  pub begins : start ≡ columnStart index s column
+
+-- n is 0, or where such rows begin
+abbrev pub Found : List ℕ → List ℕ → ℕ → ℕ → ℕ → Type 0
+Found scope index s v n = (n ≡ 0 → ⊥) → SharedAt scope index s v n
+
+-- By the columns of scope A: 0, or where the rows of relation s's column of the same variable begin, which scope B has.
+pub record Shares (scopeA scopeB index : List ℕ) (s : ℕ) (columns : List ℕ) : Type 0 where
+  pub long : length columns ≡ maxWidth
+  pub at : (i : ℕ) → i < length scopeA → Found scopeB index s (getD scopeA i 0) (getD columns i 0)
+
+-- the first n columns have rows where it is not 0
+abbrev pub HasRows : List ℕ → List ℕ → ℕ → Type 0
+HasRows index columns n = (c : ℕ) → c < n → (getD columns c 0 ≡ 0 → ⊥) → ColumnRows index (getD columns c 0)
+
+-- ---- Rows of a tuple's values
+
+-- as many rows as a tuple's values can have
+abbrev pub tupleRows : ℕ
+tupleRows = 32
+
+-- Word `first` begins a row of value v, among the rows that begin at `start`, which are some.
+pub record ValueRow (index : List ℕ) (start v first : ℕ) : Type 0 where
+  pub some : start ≡ 0 → ⊥
+  pub digit : ℕ
+  pub few : digit < digitCount index
+  pub begins : first ≡ rowAt index start v digit
+
+-- Behind the first n rows there are such ones up to row k, and the first n stay.
+pub record Adds (index : List ℕ) (start v n k : ℕ) (before after : List ℕ) : Type 0 where
+  pub long : length after ≡ tupleRows
+  pub rises : n ≤ k
+  pub few : k ≤ n + maxDigits
+  pub same : (j : ℕ) → j < n → getD after j 0 ≡ getD before j 0
+  pub at : (j : ℕ) → n ≤ j → j < k → ValueRow index start v (getD after j 0)
+
+-- Word `first` begins a row of the value in one of a tuple's columns.
+pub record RowOf (index columns tuple : List ℕ) (first : ℕ) : Type 0 where
+  pub column : ℕ
+  pub inside : column < length tuple
+  pub row : ValueRow index (getD columns column 0) (getD tuple column 0) first
+
+-- The first n rows are such ones.
+pub record RowsOf (index columns tuple : List ℕ) (n : ℕ) (rows : List ℕ) : Type 0 where
+  pub long : length rows ≡ tupleRows
+  pub few : n ≤ tupleRows
+  pub at : (k : ℕ) → k < n → RowOf index columns tuple (getD rows k 0)
+
+-- id g is in every row of the values in a tuple's columns
+abbrev pub InEvery : List ℕ → List ℕ → List ℕ → ℕ → Type 0
+InEvery index columns tuple g = (first : ℕ) → RowOf index columns tuple first → rowBit index first g ≡ true
+
+-- ---- Ids in rows
+
+-- The first n rows lie within the index.
+pub record Within (index : List ℕ) (n : ℕ) (rows : List ℕ) : Type 0 where
+  pub few : n ≤ tupleRows
+  pub inside : (k : ℕ) → k < n → getD rows k 0 + rowWords index ≤ indexWords
+
+-- the words below `to` are words of an array, and of every row
+abbrev pub Spans : List ℕ → ℕ → Type 0
+Spans index to = (to ≤ maxWords) × (to ≤ rowWords index)
+
+-- two rows
+abbrev pub both : ℕ → ℕ → List ℕ
+both a b = a ∷ b ∷ []
+
+-- id g is in all of the first n rows
+unfoldable pub inRows : List ℕ → List ℕ → ℕ → ℕ → Bool
+inRows index rows n g = all (λ (k : ℕ). rowBit index (getD rows k 0) g) (from 0 n)
+
+-- the bits of word i that are set, and are in all of the first n rows
+abbrev pub BitsInRows : List ℕ → ℕ → List ℕ → ℕ → ℕ → ℕ → Type 0
+BitsInRows index n rows i before after =
+    (j : ℕ) → j < wordBits → isSet after j ≡ (isSet before j && inRows index rows n (wordBits * i + j))
+
+-- no id of the words from `from` on and below `to` is live and in all of the first n rows
+abbrev pub Apart : List ℕ → ℕ → List ℕ → ℕ → ℕ → List ℕ → Type 0
+Apart index n rows from to words =
+    (g : ℕ) → wordBits * from ≤ g → g < wordBits * to → isLive words g ≡ true → inRows index rows n g ≡ true → ⊥
+
+-- those ids that live in the words, and are from start on and below end
+abbrev pub LiveBetween : ℕ → ℕ → List ℕ → List ℕ → Type 0
+LiveBetween start end words alive = (g : ℕ) → isLive alive g ≡ (isLive words g && (leb start g && ltb g end))
