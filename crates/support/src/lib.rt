@@ -3,7 +3,7 @@
 ghost use mathlib.Core.Path.{_≡_};
 ghost use Prim.Native.Nat.{_+_, _<_};
 ghost use Rattle.model.specs.Limits.{maxRelations, maxMembers};
-ghost use lib.ListN.{length};
+ghost use lib.ListN.{length, set};
 ghost use Rattle.doubles.specs.Alike.{MembersIn};
 ghost use Rattle.doubles.specs.Doubles.{places};
 ghost use Rattle.layout.specs.Loan.{entry, exit};
@@ -45,6 +45,21 @@ const FAILURES: u16 = 16;
 // One tuple of each member, by its index.
 pub type Indices = [u16; MAX_MEMBERS];
 
+// The tuples with x at place k. No element is written by itself: what is read whole just after would wait for it.
+pub fn put(tuples: Indices, k: usize, x: u16) -> Indices
+    ensures { λ t. ⌜ t ≡ set tuples k x ⌝ }
+{
+    let mut t = tuples;
+    let mut j = 0;
+    while j < MAX_MEMBERS {
+        if j == k {
+            t[j] = x;
+        }
+        j += 1;
+    }
+    t
+}
+
 // The indices of a support, one for each member; where there is none, ok is false. And whether the search was hard.
 pub struct Found {
     pub ok: bool,
@@ -79,11 +94,9 @@ fn past_own(place: usize, own: u16, k: usize, chosen: Indices) -> Stage
     ensures { λ s. ⌜ s ≡ pastOwn place own k chosen ⌝ }
 {
     if k == place {
-        let mut more = chosen;
-        more[k] = own;
         return Stage {
             k: k + 1,
-            chosen: more,
+            chosen: put(chosen, k, own),
         };
     }
     Stage { k, chosen }
@@ -159,9 +172,7 @@ fn attempt(
     ensures { λ f. ⌜ Attempts (searching entry variables values starts words members place own low) k chosen x f ⌝ }
 {
     let r = members[k];
-    let mut more = chosen;
-    more[k] = x;
-    let stage = past_own(place, own, k + 1, more);
+    let stage = past_own(place, own, k + 1, put(chosen, k, x));
     let on = stage.k;
     let tuples = stage.chosen;
     if on == members.len() {

@@ -53,6 +53,7 @@ use Rattle.spreading.proofs.spread_members.Reads as spread-members-reads
 use Rattle.spreading.proofs.steps.steps_between.Reads as steps-between-reads
 use Rattle.support.proofs.fits.Reads as fits-reads
 use Rattle.support.proofs.past_own.Reads as past-own-reads
+use Rattle.support.proofs.put.Reads as put-reads
 use Rattle.support.proofs.span_of.Reads as span-of-reads
 use Rattle.support.proofs.may_lead.Reads as may-lead-reads
 use Rattle.support.proofs.sieve_behind.Reads as sieve-behind-reads
@@ -110,7 +111,7 @@ walk-below t = and 6 walk-kinds.ps (falls 6 walk-kinds.ps _<_ μ-walk t) walk.Pr
 
 abbrev attempt-callees : ℕ → attempt-lts.Claims
 attempt-callees t =
-    (past-own-reads.Asked, past-own-reads.Learnt, fits-reads.Asked, fits-reads.Learnt, narrow-members-reads.Asked, narrow-members-reads.Learnt, search-below t, search′.Post)
+    (put-reads.Asked, put-reads.Learnt, past-own-reads.Asked, past-own-reads.Learnt, fits-reads.Asked, fits-reads.Learnt, narrow-members-reads.Asked, narrow-members-reads.Learnt, search-below t, search′.Post)
 
 abbrev search-callees : ℕ → search-lts.Claims
 search-callees t =
@@ -214,6 +215,10 @@ module _ (t : ℕ) where
             subst (λ (i : ℕ). List·Memᴰ (idAt (netOf given) (a .args .members .now) (a .args .k) i) (chosenIds (netOf given) (a .args .members .now) (s .chosen) (s .k))) same
             (chosen-mem (netOf given) (a .args .members .now) (s .chosen) (s .k) (a .args .k) (omega (arith, stage .forth)))
 
+  -- the stage behind it
+  staged : (b : attempt-lts.After-past-own (attempt-callees t) (attempt-at t) attempt.Post) → let a = b .before .before .before .before .before .before in b .past-own .result ≡ pastOwn (a .args .place) (a .args .own) (a .args .k + 1) (more a)
+  staged b = let a = b .before .before .before .before .before .before in b .past-own .ensures ∙ ap (pastOwn (a .args .place) (a .args .own) (a .args .k + 1)) (b .before .put .ensures)
+
   -- every member has its tuple
   last : (a : Attempt) (s : Stage) → s ≡ pastOwn (a .args .place) (a .args .own) (a .args .k + 1) (more a) → s .k ≡ length (a .args .members .now) → (ok : Bool) → ok ≡ fit a → answer ok (take (length (a .args .members .now)) (s .chosen)) ≡ ahead a
   last a s e q true f =
@@ -226,7 +231,7 @@ module _ (t : ℕ) where
     chosen = n .before .before .before .before .before
 
     abbrev start : Attempt
-    start = chosen .before .before .before .before .before
+    start = chosen .before .before .before .before .before .before
 
     abbrev fewer : List ℕ
     fewer = n .narrow-members .last .1 .1 .1 .1 .0
@@ -238,8 +243,8 @@ module _ (t : ℕ) where
     narrowed-ahead : fit start ≡ true → sought (onWords (given start) fewer) (chosen .past-own .result .k) (chosen .past-own .result .chosen) ≡ ahead start
     narrowed-ahead f =
         let s = chosen .past-own .result in
-        sought-narrowed over (s .k) (s .chosen) (latest-chosen start s (chosen .past-own .ensures) f)
-        ∙ stage-ahead start s (chosen .past-own .ensures) f
+        sought-narrowed over (s .k) (s .chosen) (latest-chosen start s (staged chosen) f)
+        ∙ stage-ahead start s (staged chosen) f
 
     -- .. and where a member has no live tuple left, it is nothing
     nowhere : n .narrow-members .result ≡ false → (b : Bool) → fit start ≡ b → ahead start ≡ none
@@ -251,8 +256,8 @@ module _ (t : ℕ) where
   attempt-narrow-members-requires : attempt-lts.Need-narrow-members-requires (attempt-callees t) (attempt-at t) attempt.Post
   attempt-narrow-members-requires c κs =
       let b = c .before .before .before .before in
-      let a = b .before .before .before .before .before in
-      let l = forth a (b .past-own .result) (b .past-own .ensures) in (
+      let a = b .before .before .before .before .before .before in
+      let l = forth a (b .past-own .result) (staged b) in (
         a .pre .1 .0,
         (
           record { laid = ready a .laid; indexed = a .pre .1 .1 .turn .seeking .indexed; own = index-below (turn a) (a .args .x) (a .pre .1 .1 .from-start) (a .pre .1 .1 .to-end) },
@@ -268,8 +273,8 @@ module _ (t : ℕ) where
       let a = start n in
       let s = b .past-own .result in
       let f : fit a ≡ true = sym (j .before .before .fits3 .ensures) ∙ j .before .if3 .taken in
-      let S = stage a s (b .past-own .ensures) f in
-      let m = latest-chosen a s (b .past-own .ensures) f in
+      let S = stage a s (staged b) f in
+      let m = latest-chosen a s (staged b) f in
       let e = flag (a .args .resumes) (eqb (a .args .x) (getD (a .args .t9) (a .args .k) 0)) (j .if4 .resuming) (⊎-elim (λ w. _⊎_.inl (w .0 .taken, w .1)) (λ w. _⊎_.inr (w .0 .left, w .1)) (j .if4 .came)) in (
         omega (arith, a .pre .0, turn a .inside, S .forth, S .prefix .depth),
         (
@@ -675,14 +680,13 @@ pub +attempt+comb+search+walk-spec : {M : Type 1} → statement M
     (λ c. let a = c .before .before .before in omega (arith, ready t a .few, turn t a .inside))
     (λ c. let a = c .before .before .before .before in turn t a .inside)
     (λ c. let a = c .before .before .before .before in omega (arith, ready t a .few, turn t a .inside))
-    (λ c. let a = c .before .before .before .before in omega (arith, ready t a .few, turn t a .inside))
-    (λ c. let a = c .before .before .before .before in omega (arith, ready t a .few, turn t a .inside))
-    (λ c κs. let a = c .before .before .before .before in omega (arith, ready t a .place, ready t a .few))
-    (λ c κs. let a = c .before .before .before .before .before .before .before in trial (turn t a) (a .args .x) (a .pre .1 .1 .from-start) (a .pre .1 .1 .to-end))
+    (λ c κs. search needs)
+    (λ c κs. let a = c .before .before .before .before .before in omega (arith, ready t a .place, ready t a .few))
+    (λ c κs. let a = c .before .before .before .before .before .before .before .before in trial (turn t a) (a .args .x) (a .pre .1 .1 .from-start) (a .pre .1 .1 .to-end))
     (λ c.
     let b = c .before .before .before in
-    let a = b .before .before .before .before .before in
-    last t a (b .past-own .result) (b .past-own .ensures) (c .before .if1 .taken) (c .fits2 .result) (c .fits2 .ensures))
+    let a = b .before .before .before .before .before .before in
+    last t a (b .past-own .result) (staged t b) (c .before .if1 .taken) (c .fits2 .result) (c .fits2 .ensures))
     (attempt-narrow-members-requires t)
     (λ c κs. let a = start t (c .before) in trial (turn t a) (a .args .x) (a .pre .1 .1 .from-start) (a .pre .1 .1 .to-end))
     (λ c. let a = start t (c .before .before .before .before) in omega (arith, ready t a .few, turn t a .inside))
