@@ -36,8 +36,10 @@ use narrowing::rows::rows_of;
 use value_index::Index;
 use value_index::scope_bits;
 
-// So many tuples of a relation are tested before it is asked whether too few fall.
-const SAMPLE: u32 = 32;
+// The fewest and the most tuples of a relation that are tested before it is asked whether too few fall.
+const LEAST: u32 = 8;
+
+const MOST: u32 = 32;
 
 // How many tuples were tested, and how many of them fell.
 pub struct Swept {
@@ -93,11 +95,23 @@ fn few_fell(tested: u32, fell: u32) -> bool
     fell * 16 < tested
 }
 
-// .. where enough were tested to know.
-fn stops(tested: u32, fell: u32) -> bool
+// How many of a relation's tuples are tested to know: a quarter, within these bounds.
+fn sample_of(tuples: u16) -> u32 {
+    let quarter = (tuples / 4) as u32;
+    if quarter < LEAST {
+        return LEAST;
+    }
+    if MOST < quarter {
+        return MOST;
+    }
+    quarter
+}
+
+// Whether as many were tested, and few fell.
+fn stops(tested: u32, fell: u32, sample: u32) -> bool
     requires { ⌜ fell ≤ maxTuples ⌝ }
 {
-    if tested < SAMPLE {
+    if tested < sample {
         return false;
     }
     few_fell(tested, fell)
@@ -126,12 +140,13 @@ fn clear_tuples(
     let end = tuple_start(starts, r + 1);
     let base = value_start(starts, r);
     let width = variable_start(starts, r + 1) - variable_start(starts, r);
+    let sample = sample_of(end - first);
     let mut rows = [0; TUPLE_ROWS];
     let mut tested = 0;
     let mut fell = 0;
     let mut g = next(words, first, end);
     while g < end {
-        if stops(tested, fell) {
+        if stops(tested, fell, sample) {
             return Swept { tested, fell };
         }
         let a = base + wide(g - first) * width;

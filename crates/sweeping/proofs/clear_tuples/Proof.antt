@@ -34,12 +34,12 @@ record Walk (first end tested fell g : ℕ) : Type 0 where
   few-fell : fell ≤ tested
 
 abbrev Inv-loop : tie.InvT-loop
-Inv-loop variables values starts index columns alive words₀ r s from to first end base width rows₀ tested₀ fell₀ g₀ words rows tested fell g =
+Inv-loop variables values starts index columns alive words₀ r s from to first end base width sample rows₀ tested₀ fell₀ g₀ words rows tested fell g =
     (Revises (listsOf variables values starts) r s words₀ words × Covers (networkIn (listsOf variables values starts)) s words alive)
     × ((length rows ≡ 32) × Walk first end tested fell g)
 
 abbrev μ-loop : tie.MeasureT-loop
-μ-loop variables values starts index columns alive words₀ r s from to first end base width rows₀ tested₀ fell₀ g₀ words rows tested fell g = end - g
+μ-loop variables values starts index columns alive words₀ r s from to first end base width sample rows₀ tested₀ fell₀ g₀ words rows tested fell g = end - g
 
 -- ---- The relation's ids, and where its values begin
 
@@ -89,7 +89,7 @@ module _ (c : tie.After-variable-start2 Inv-loop μ-loop) where
 -- ---- One turn
 
 abbrev ids : tie.At-loop Inv-loop μ-loop → tie.After-variable-start2 Inv-loop μ-loop
-ids c = c .before .before .before .before
+ids c = c .before .before .before .before .before
 
 module _ (c : tie.In-loop Inv-loop μ-loop) where
   abbrev known : tie.After-variable-start2 Inv-loop μ-loop
@@ -176,7 +176,7 @@ module _ (c : tie.After-clear-unmet Inv-loop μ-loop) where
 
 loop-holds : tie.Need-loop-holds Inv-loop μ-loop
 loop-holds c =
-    let k = c .before .before .before in
+    let k = c .before .before .before .before in
     let f = nextLive-first (start k .args .words .now) (first k) (end k) (omega (arith, first-is k, end-is k)) in
     let e = c .next .ensures in (
       (revises-none (L k) (r k) (start k .args .s) (start k .pre .1 .0), start k .pre .1 .1),
@@ -224,7 +224,9 @@ clear-tuples-spec =
     (λ c κs. search needs) (λ c. search needs) (λ c κs. search needs) (λ c κs. search needs)
     (λ c. search needs) (λ c κs. search needs) (λ c κs. search needs)
     (λ c. rises c)
-    (λ c κs. let k = c .before .before in (omega (arith, first-is k, end-is k), omega (arith, few k, start k .pre .1 .0 .long), few k))
+    (λ c. omega (arith, first-is c, end-is c))
+    (λ c κs. search needs)
+    (λ c κs. let k = c .before .before .before in (omega (arith, first-is k, end-is k), omega (arith, few k, start k .pre .1 .0 .long), few k))
     loop-holds
     (λ c κs. omega (arith, short c, walk c))
     (λ c. let t = c .before .before in ((omega (arith, short t), omega (arith, short t, walk t)), t .before .loop .inv .0 .0))
