@@ -20,6 +20,7 @@ use model::NO_SUPPORT;
 use model::Value;
 use spreading::steps::steps_of_pair;
 use support::first_support;
+use support::put;
 use twins::Twin;
 use twins::take_twin;
 use value_index::Index;
@@ -61,11 +62,9 @@ fn seek(
     let base = pair / each * each;
     let end = base + each;
     let place = pair % each;
-    let mut low = [0u16; MAX_MEMBERS];
+    let mut low = put([0u16; MAX_MEMBERS], place, x);
     if numbers[at] != NO_SUPPORT {
         low = load(numbers, at, each);
-    } else {
-        low[place] = x;
     }
     let found = first_support(
         variables,

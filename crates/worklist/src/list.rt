@@ -35,15 +35,18 @@ pub fn fill(numbers: &mut [u16], n: usize)
     }
 }
 
-// The m numbers from `at` on, and noughts behind them.
+// The m numbers from `at` on, and noughts behind them. All places are gone through, of which there are few and always as many: so they are
+// kept in registers, and not in an array that is written bit by bit and read whole just after.
 pub fn load(numbers: &[u16], at: usize, m: usize) -> Indices
     requires { ⌜ (at + m ≤ length (now numbers)) × (m ≤ maxMembers) ⌝ }
     ensures { λ r. ⌜ r ≡ take m (drop at (entry numbers)) ++ replicate (maxMembers - m) 0 ⌝ }
 {
     let mut tuples = [0u16; MAX_MEMBERS];
     let mut j = 0;
-    while j < m {
-        tuples[j] = numbers[at + j];
+    while j < MAX_MEMBERS {
+        if j < m {
+            tuples[j] = numbers[at + j];
+        }
         j += 1;
     }
     tuples

@@ -91,14 +91,14 @@ loaded-is w e =
 lead-is : (a : tie.Start) → getD (a .args .numbers .now) (a .args .at) 0 ≡ lead (seeker a)
 lead-is a = ap (λ (i : ℕ). getD (a .args .numbers .now) i 0) (is-at a)
 
-low-is : (c : tie.Joined1) → c .if1 .low ≡ lowOf (seeker (entry (c .before .before)))
+low-is : (c : tie.Joined1) → c .if1 .low ≡ lowOf (seeker (entry (c .before .before .before)))
 low-is c =
-    let w = c .before .before in
+    let w = c .before .before .before in
     let a = entry w in
     ⊎-elim
     {C = c .if1 .low ≡ lowOf (seeker a)}
     (λ t. t .3 ∙ loaded-is w (t .2 .ensures) ∙ sym (low-held (seeker a) (λ e. t .0 .taken (lead-is a ∙ e))))
-    (λ t. t .1 ∙ ap (λ (q : ℕ). set (replicate maxMembers 0) q (a .args .x)) (place-is w) ∙ sym (low-none (seeker a) (sym (lead-is a) ∙ t .0 .left)))
+    (λ t. t .1 ∙ c .before .before .put .ensures ∙ ap (λ (q : ℕ). set (replicate maxMembers 0) q (a .args .x)) (place-is w) ∙ sym (low-none (seeker a) (sym (lead-is a) ∙ t .0 .left)))
     (c .if1 .came)
 
 -- the combination
@@ -115,15 +115,15 @@ abbrev searchOf : tie.Start → List ℕ → ℕ → List ℕ → Search
 searchOf a members place low =
     record { lists = G a .lists; words = a .args .words .now; members = members; place = place; own = a .args .x; low = low }
 
-search-is : (c : tie.Joined1) → (let w = c .before .before in let a = entry w in let n = w .before .wide .result in let b = w .wide2 .result / n * n in searchOf a (take (b + n - b) (drop b (a .args .members .now))) (w .wide2 .result % n) (c .if1 .low) ≡ searched (seeker a))
+search-is : (c : tie.Joined1) → (let w = c .before .before .before in let a = entry w in let n = w .before .wide .result in let b = w .wide2 .result / n * n in searchOf a (take (b + n - b) (drop b (a .args .members .now))) (w .wide2 .result % n) (c .if1 .low) ≡ searched (seeker a))
 search-is c =
-    let w = c .before .before in
+    let w = c .before .before .before in
     let a = entry w in
     ap₂ (λ (ms : List ℕ) (q : ℕ). searchOf a ms q (c .if1 .low)) (part-is w) (place-is w)
     ∙ ap (searchOf a (combinationOf (G a) (a .args .p)) (a .args .p % a .args .m)) (low-is c)
 
 -- what it answers
-answer-is : (c : tie.After-first-support) → (let a = entry (c .before .before .before .before .before) in let Q = searched (seeker a) in answer (c .first-support .result .ok) (take (length (Q .members)) (c .first-support .result .tuples)) ≡ supportFrom (netOf Q) (liveOf Q) (Q .members) (support.seeker Q) (Q .low))
+answer-is : (c : tie.After-first-support) → (let a = entry (c .before .before .before .before .before .before) in let Q = searched (seeker a) in answer (c .first-support .result .ok) (take (length (Q .members)) (c .first-support .result .tuples)) ≡ supportFrom (netOf Q) (liveOf Q) (Q .members) (support.seeker Q) (Q .low))
 answer-is c =
     subst (λ (Q : Search). answer (c .first-support .result .ok) (take (length (Q .members)) (c .first-support .result .tuples)) ≡ supportFrom (netOf Q) (liveOf Q) (Q .members) (support.seeker Q) (Q .low))
     (search-is (c .before .before .before))
@@ -132,7 +132,7 @@ answer-is c =
 -- ---- The tuple's id
 
 abbrev looked : tie.After-tuple-start → tie.After-wide2
-looked c = c .before .before .before .before .before .before .before .before .before
+looked c = c .before .before .before .before .before .before .before .before .before .before
 
 id-is : (c : tie.After-tuple-start) → (let a = entry (looked c) in c .tuple-start .result + a .args .x ≡ tupleId (G a) (a .args .p) (a .args .x))
 id-is c =
@@ -150,27 +150,27 @@ id-below c = let a = entry (looked c) in omega (arith, id-is c, tuple-below (sou
 
 load-requires : tie.Need-load-requires
 load-requires c κs =
-    let w = c .before .before .before in
+    let w = c .before .before .before .before in
     let a = entry w in
     (omega (arith, each-is w, inside a), omega (arith, each-is w, sound a .paired .list .few))
 
 first-support-requires : tie.Need-first-support-requires
 first-support-requires c κs =
     let b = c .before .before in
-    let w = b .before .before in
+    let w = b .before .before .before in
     let a = entry w in
     (a .pre .0, record { sound = subst SoundSearch (sym (search-is b)) (ready (seeker a)); indexed = a .pre .1 .indexed })
 
 store-requires : tie.Need-store-requires
 store-requires c κs =
-    let w = c .before .before .before .before .before .before .before .before in
+    let w = c .before .before .before .before .before .before .before .before .before in
     let a = entry w in
     (omega (arith, each-is w, inside a), omega (arith, each-is w, sound a .paired .list .few))
 
 returns : tie.Need-returns
 returns c =
     let f = c .before .before .before .before .before .before in
-    let w = f .before .before .before .before .before in
+    let w = f .before .before .before .before .before .before in
     let a = entry w in
     subst (Renewed (G a) (a .args .p) (a .args .x) (a .args .words .now) (a .args .numbers .now) true (a .args .words .now))
     (sym
@@ -197,21 +197,20 @@ seek-spec =
     (λ c. omega (arith, div-mul-le-self (c .wide2 .result) (c .before .wide .result)))
     (λ c. omega (arith, div-mul-le-self (c .wide2 .result) (c .before .wide .result)))
     (λ c. search needs)
-    (λ c. let i = inside (entry c) in search needs)
-    (λ c. let a = entry (c .before) in omega (arith, inside a, sound a .paired .list .positive))
+    (λ c κs. search needs)
+    (λ c. let i = inside (entry (c .before)) in search needs)
+    (λ c. let a = entry (c .before .before) in omega (arith, inside a, sound a .paired .list .positive))
     load-requires
-    (λ c. omega (arith, place-small (c .before .before)))
-    (λ c. place-small (c .before .before))
-    (λ c. let w = c .before .before .before in omega (arith, div-mul-le-self (w .wide2 .result) (w .before .wide .result)))
+    (λ c. let w = c .before .before .before .before in omega (arith, div-mul-le-self (w .wide2 .result) (w .before .wide .result)))
     (λ c. search needs) (λ c. search needs)
-    (λ c. end-is (c .before .before .before))
+    (λ c. end-is (c .before .before .before .before))
     first-support-requires
     store-requires
     (λ c. search needs)
     returns
     (λ c. search needs)
-    (λ c. let w = c .before .before .before .before .before .before .before .before in omega (arith, pair-is w, in-members (entry w)))
-    (λ c κs. let w = c .before .before .before .before .before .before .before .before in let a = entry w in let h = member-below (sound a .laid .framed) (sound a .paired) (a .args .p) (in-members a) in subst (λ (q : ℕ). getD (a .args .members .now) q 0 < 65) (sym (pair-is w)) (omega arith))
+    (λ c. let w = c .before .before .before .before .before .before .before .before .before in omega (arith, pair-is w, in-members (entry w)))
+    (λ c κs. let w = c .before .before .before .before .before .before .before .before .before in let a = entry w in let h = member-below (sound a .laid .framed) (sound a .paired) (a .args .p) (in-members a) in subst (λ (q : ℕ). getD (a .args .members .now) q 0 < 65) (sym (pair-is w)) (omega arith))
     (λ c. let a = entry (looked c) in omega (arith, id-below c, tuples-few (sound a .laid .framed)))
     (λ c κs. let a = entry (looked c) in omega (arith, id-below c, seeker a .working .space .enough))
     returns-2)
