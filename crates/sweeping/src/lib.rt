@@ -95,8 +95,11 @@ fn few_fell(tested: u32, fell: u32) -> bool
     fell * 16 < tested
 }
 
-// How many of a relation's tuples are tested to know: a quarter, within these bounds.
-fn sample_of(tuples: u16) -> u32 {
+// How many of a relation's tuples are tested to know: a quarter, within these bounds; and the fewest where few fell of others before.
+fn sample_of(tuples: u16, few: bool) -> u32 {
+    if few {
+        return LEAST;
+    }
     let quarter = (tuples / 4) as u32;
     if quarter < LEAST {
         return LEAST;
@@ -118,7 +121,7 @@ fn stops(tested: u32, fell: u32, sample: u32) -> bool
 }
 
 // Live tuples of relation r fall, and only such ones as no live tuple of relation s agrees with; these are live in `alive` too. Not all
-// are tested where too few fall.
+// are tested where too few fall, or where few fell of others before.
 fn clear_tuples(
     variables: &[u16],
     values: &[Value],
@@ -131,6 +134,7 @@ fn clear_tuples(
     s: u16,
     from: usize,
     to: usize,
+    few: bool,
 ) -> Swept
     requires { ⌜ Prepared (lists now variables values starts) (now index) (now columns) r s from to ⌝ }
     requires { ⌜ WordArray (now words) × Covers (networkIn (lists now variables values starts)) s (now words) (now alive) ⌝ }
@@ -140,7 +144,7 @@ fn clear_tuples(
     let end = tuple_start(starts, r + 1);
     let base = value_start(starts, r);
     let width = variable_start(starts, r + 1) - variable_start(starts, r);
-    let sample = sample_of(end - first);
+    let sample = sample_of(end - first, few);
     let mut rows = [0; TUPLE_ROWS];
     let mut tested = 0;
     let mut fell = 0;
@@ -169,6 +173,7 @@ fn revise(
     words: &mut Words,
     r: u16,
     s: u16,
+    few: bool,
 ) -> Swept
     requires { ⌜ WordArray (now words) × (Searchable (lists now variables values starts) (now index) × ((r < maxRelations) × (s < maxRelations))) ⌝ }
     ensures { λ n. ⌜ AtMost 1 n × Revises (lists entry variables values starts) r s (entry words) (exit words) ⌝ }
@@ -196,6 +201,7 @@ fn revise(
         s,
         wide(start) / 64,
         words_for(end),
+        few,
     )
 }
 
@@ -208,6 +214,7 @@ fn sweep_relation(
     beside: &Words,
     words: &mut Words,
     r: u16,
+    few: bool,
 ) -> Swept
     requires { ⌜ WordArray (now words) × (Long (now beside) × (Searchable (lists now variables values starts) (now index) × (r < maxRelations))) ⌝ }
     ensures { λ n. ⌜ AtMost maxRelations n × Sweeps (lists entry variables values starts) (entry beside) (entry words) (exit words) ⌝ }
@@ -218,7 +225,7 @@ fn sweep_relation(
     let mut fell = 0;
     let mut k = next(beside, base, end);
     while k < end {
-        let swept = revise(variables, values, starts, index, words, r, k - base);
+        let swept = revise(variables, values, starts, index, words, r, k - base, few);
         tested += swept.tested;
         fell += swept.fell;
         k = next(beside, k + 1, end);
@@ -243,7 +250,8 @@ fn sweep(
     let mut fell = 0;
     let mut r = 0;
     while r < relations {
-        let swept = sweep_relation(variables, values, starts, index, beside, words, r);
+        let few = few_fell(tested, fell);
+        let swept = sweep_relation(variables, values, starts, index, beside, words, r, few);
         tested += swept.tested;
         fell += swept.fell;
         r += 1;

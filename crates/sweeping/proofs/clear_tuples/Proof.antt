@@ -34,12 +34,12 @@ record Walk (first end tested fell g : ℕ) : Type 0 where
   few-fell : fell ≤ tested
 
 abbrev Inv-loop : tie.InvT-loop
-Inv-loop variables values starts index columns alive words₀ r s from to first end base width sample rows₀ tested₀ fell₀ g₀ words rows tested fell g =
+Inv-loop variables values starts index columns alive words₀ r s from to fewer first end base width sample rows₀ tested₀ fell₀ g₀ words rows tested fell g =
     (Revises (listsOf variables values starts) r s words₀ words × Covers (networkIn (listsOf variables values starts)) s words alive)
     × ((length rows ≡ 32) × Walk first end tested fell g)
 
 abbrev μ-loop : tie.MeasureT-loop
-μ-loop variables values starts index columns alive words₀ r s from to first end base width sample rows₀ tested₀ fell₀ g₀ words rows tested fell g = end - g
+μ-loop variables values starts index columns alive words₀ r s from to fewer first end base width sample rows₀ tested₀ fell₀ g₀ words rows tested fell g = end - g
 
 -- ---- The relation's ids, and where its values begin
 

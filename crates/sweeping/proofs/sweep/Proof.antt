@@ -31,24 +31,31 @@ module _ (c : tie.In-loop Inv-loop μ-loop) where
   few : c .before .loop .r < 64
   few = omega (arith, c .loop-test .taken, c .before .before .relation-count .ensures, relation-count (start .pre .1 .1 .laid .framed), relations-few (start .pre .1 .1 .laid .framed))
 
+-- the numbers so far
+few-fell-requires : tie.Need-few-fell-requires Inv-loop μ-loop
+few-fell-requires c κs = omega (arith, c .before .loop .inv .1 .1, few c)
+
 sweep-relation-requires : tie.Need-sweep-relation-requires Inv-loop μ-loop
 sweep-relation-requires c κs =
-    let turn = c .before in
+    let turn = c .before .before in
     let p = start turn .pre in
     (turn .before .loop .inv .0 .0, (p .1 .0, (p .1 .1, few turn)))
 
--- what is removed after a turn
-turned : (c : tie.After-sweep-relation Inv-loop μ-loop) → (let a = start (c .before .before) .args in Sweeps (listsOf (a .variables .now) (a .values .now) (a .starts .now)) (a .beside .now) (a .words .now) (c .sweep-relation .last .1 .1 .1 .1 .1 .0))
-turned c = sweeps-then (c .before .before .before .loop .inv .0) (c .sweep-relation .ensures .1)
+module _ (c : tie.After-sweep-relation Inv-loop μ-loop) where
+  abbrev turn-of : tie.In-loop Inv-loop μ-loop
+  turn-of = c .before .before .before
 
--- .. and the two numbers
-sums : (c : tie.After-sweep-relation Inv-loop μ-loop) → (let l = c .before .before .before .loop in let n = c .sweep-relation .result in (l .tested + n .tested ≤ (l .r + 1) * 64 * maxTuples) × (l .fell + n .fell ≤ (l .r + 1) * 64 * maxTuples))
-sums c = let i = c .before .before .before .loop .inv .1 .1 in (omega (arith, i, c .sweep-relation .ensures .0), omega (arith, i, c .sweep-relation .ensures .0))
+  -- what is removed after a turn
+  turned : (let a = start turn-of .args in Sweeps (listsOf (a .variables .now) (a .values .now) (a .starts .now)) (a .beside .now) (a .words .now) (c .sweep-relation .last .1 .1 .1 .1 .1 .0))
+  turned = sweeps-then (turn-of .before .loop .inv .0) (c .sweep-relation .ensures .1)
 
-few-fell-requires : tie.Need-few-fell-requires Inv-loop μ-loop
-few-fell-requires c κs =
-    let start = c .before .before .before .before .before in
-    let f = start .pre .1 .1 .laid .framed in
+  -- .. and the two numbers
+  sums : (let l = turn-of .before .loop in let n = c .sweep-relation .result in (l .tested + n .tested ≤ (l .r + 1) * 64 * maxTuples) × (l .fell + n .fell ≤ (l .r + 1) * 64 * maxTuples))
+  sums = let i = turn-of .before .loop .inv .1 .1 in (omega (arith, i, c .sweep-relation .ensures .0), omega (arith, i, c .sweep-relation .ensures .0))
+
+few-fell-requires-2 : tie.Need-few-fell-requires-2 Inv-loop μ-loop
+few-fell-requires-2 c κs =
+    let f = c .before .before .before .before .before .pre .1 .1 .laid .framed in
     omega (arith, c .before .loop .inv .1, c .before .before .relation-count .ensures, relation-count f, relations-few f)
 
 pub sweep-spec : {M : Type 1} → statement M
@@ -59,11 +66,12 @@ sweep-spec =
     μ-loop
     (λ c κs. search needs)
     (λ c. (sweeps-none (c .before .before .before .pre .0), (omega arith, (omega arith, omega arith))))
-    sweep-relation-requires
-    (λ c. omega (arith, sums (c .before), few (c .before .before .before)))
-    (λ c. omega (arith, sums (c .before .before), few (c .before .before .before .before)))
-    (λ c. omega (arith, few (c .before .before .before .before)))
-    (λ c. let turn = c .before .before .before .before in omega (arith, turn .loop-test .taken))
-    (λ c. let swept = c .before .before in (turned swept, (omega (arith, swept .before .before .loop-test .taken), sums swept)))
     few-fell-requires
+    sweep-relation-requires
+    (λ c. omega (arith, sums (c .before), few (turn-of (c .before))))
+    (λ c. omega (arith, sums (c .before .before), few (turn-of (c .before .before))))
+    (λ c. omega (arith, few (turn-of (c .before .before))))
+    (λ c. omega (arith, turn-of (c .before .before) .loop-test .taken))
+    (λ c. let swept = c .before .before in (turned swept, (omega (arith, turn-of swept .loop-test .taken), sums swept)))
+    few-fell-requires-2
     (λ c. c .before .before .loop .inv .0))

@@ -29,11 +29,11 @@ record Walk (table : List ℕ) (base end tested fell k : ℕ) : Type 0 where
   few-fell : fell ≤ (k - base) * maxTuples
 
 abbrev Inv-loop : tie.InvT-loop
-Inv-loop variables values starts index beside words₀ r base end tested₀ fell₀ k₀ words tested fell k =
+Inv-loop variables values starts index beside words₀ r few base end tested₀ fell₀ k₀ words tested fell k =
     Sweeps (listsOf variables values starts) beside words₀ words × Walk beside base end tested fell k
 
 abbrev μ-loop : tie.MeasureT-loop
-μ-loop variables values starts index beside words₀ r base end tested₀ fell₀ k₀ words tested fell k = end - k
+μ-loop variables values starts index beside words₀ r few base end tested₀ fell₀ k₀ words tested fell k = end - k
 
 loop-holds : tie.Need-loop-holds Inv-loop μ-loop
 loop-holds c =
