@@ -1,11 +1,11 @@
-/* The filter in plain C, by the algorithm of the proved engine but for its limited search and its sweeps' early stop: an index of values
- * by digits, sweeps, a queue of pairs of combination and member; in a visit twins, the seeking tuple tried first, members spread to and
- * narrowed, each search resumed at the fallen support. Tuples are known by id, so that candidates of all relations are one array of
- * words. */
+/* The filter in plain C, by the algorithm of the proved engine: an index of values by digits, sweeps, a queue of pairs of combination and
+ * member; in a visit twins, the seeking tuple tried first, members spread to and narrowed, each search resumed at the fallen support; in
+ * a hard search members spread to each other, a sieve of values, and tuples like one that failed passed over. Tuples are known by id, so
+ * that candidates of all relations are one array of words. */
 #include "leaves.h"
 #include <string.h>
 
-enum { TABLE = 8704, MAX_DIGITS = 4, MAX_ROWS = 1024, MAX_SWEEPS = 2, FEW = 8 };
+enum { TABLE = 8704, MAX_DIGITS = 4, MAX_ROWS = 1024, MAX_SWEEPS = 2, FEW = 8, MANY = 64, FAILURES = 16, PLACES = 2048, SAMPLE = 32 };
 enum { MAX_SHARED = MAX_WIDTH, MAX_KEPT = MAX_SHARED * MAX_DIGITS };
 
 /* A relation: its tuples have the ids from first on and below end; these are in the words from word on and below last. */
@@ -44,6 +44,7 @@ typedef struct {
     int m, place, own; /* the seeking tuple's member, and the tuple */
     bool bare;         /* a member has no live tuple */
     uint64_t common;   /* the variables of the other members */
+    uint16_t sought[PLACES]; /* by the hash of its values, the first tuple that was sought in the visit */
     uint64_t outside[MAX_MEMBERS][WORDS];
     columns shared[MAX_MEMBERS][MAX_MEMBERS];
     int steps, nearer[MAX_MEMBERS], farther[MAX_MEMBERS]; /* which members are spread to, through which */
@@ -195,17 +196,18 @@ static inline bool meet(const uint64_t *words, const uint64_t **rows, unsigned c
     return any;
 }
 
-/* The tuples of r that no live one of s may agree with fall; whether one did. */
+/* The tuples of r that no live one of s may agree with fall, and the rest is left where few of the first do; whether one fell. */
 static bool revise(const filtering *f, const relation *r, const relation *s) {
     const columns e = share(r, s);
     const uint64_t *rows[MAX_KEPT];
     uint64_t alive[WORDS];
-    bool fell = false;
+    int tested = 0, fell = 0;
     if (e.count == 0) return false;
     for (int w = s->word; w < s->last; w++) alive[w] = f->live[w] & inside(s, w);
     for (int g = next_of(f->live, r, r->first); g < r->end; g = next_of(f->live, r, g + 1)) {
+        if (tested++ >= SAMPLE && fell * 16 < tested) break;
         unsigned count = rows_of_tuple(f, rows, tuple_of(r, g - r->first), s, &e);
-        if (!meet(alive, rows, count, s)) take(f->live, g), fell = true;
+        if (!meet(alive, rows, count, s)) take(f->live, g), fell++;
     }
     return fell;
 }
@@ -258,6 +260,7 @@ static void plan(visit *v, const filtering *f, size_t p) {
     for (int i = 0; i < v->m; i++)
         for (int j = 0; j < v->m; j++)
             if (i != j) v->shared[i][j] = share(v->members[i], v->members[j]);
+    memset(v->sought, 255, sizeof v->sought);
     find_steps(v);
 }
 
@@ -309,12 +312,12 @@ static inline void gather(uint64_t *sum, const uint64_t **rows, unsigned count, 
         }
 }
 
-/* Member j's candidates narrowed to those that may agree with a candidate of member i, if those are few; whether one is left. */
-static bool spread(const visit *v, uint64_t *words, int i, int j) {
+/* Member j's candidates narrowed to those that may agree with a candidate of member i, if those are not more; whether one is left. */
+static bool spread(const visit *v, uint64_t *words, int i, int j, int most) {
     const relation *r = v->members[i], *s = v->members[j];
     const uint64_t *rows[MAX_KEPT], *outside = v->outside[j];
     uint64_t sum[WORDS], any = 0;
-    if (count_of(words, r) > FEW) return true;
+    if (count_of(words, r) > most) return true;
     for (int w = s->word; w < s->last; w++) sum[w] = outside[w];
     for (int w = r->word; w < r->last; w++)
         for (uint64_t rest = words[w] & inside(r, w); rest; rest &= rest - 1) {
@@ -333,67 +336,112 @@ static bool fits(const visit *v, int j, const uint16_t *chosen, int x) {
     return true;
 }
 
-static bool search(const visit *v, const uint64_t *words, int j, bool resumes, uint16_t *chosen) {
-    const relation *r = v->members[j];
+/* ---- Tuples with the same values. */
+
+static bool is_alike(const relation *r, const uint16_t *a, const uint16_t *b, uint64_t variables) {
+    for (int c = 0; c < r->width; c++)
+        if (variables >> r->scope[c] & 1 && a[c] != b[c]) return false;
+    return true;
+}
+
+/* The tuple entered at the hash of x's values, if it has these under the variables; x otherwise, which is entered if none is. */
+static int first_alike(uint16_t *table, const relation *r, int x, uint64_t variables) {
+    const uint16_t *tuple = tuple_of(r, x);
+    uint32_t hash = 0;
+    for (int c = 0; c < r->width; c++)
+        if (variables >> r->scope[c] & 1) hash = (hash + tuple[c]) * 1640531527u;
+    uint16_t *entry = table + (hash >> 21);
+    if (*entry >= x) *entry = (uint16_t)x;
+    return is_alike(r, tuple, tuple_of(r, *entry), variables) ? *entry : x;
+}
+
+/* ---- A hard search. */
+
+/* The open members from j on, spread to from those that have not half as many candidates. */
+static bool spread_open(const visit *v, uint64_t *words, int j) {
+    int count[MAX_MEMBERS] = {0};
+    for (int k = j; k < v->m; k++) count[k] = count_of(words, v->members[k]);
+    for (int to = j; to < v->m; to++)
+        for (int from = j; from < v->m; from++) {
+            if (to == v->place || from == v->place || count[from] >= count[to] / 2 || !v->shared[from][to].count) continue;
+            if (!spread(v, words, from, to, MANY)) return false;
+        }
+    return true;
+}
+
+static inline unsigned bit_of(uint16_t value) { return (value * 40503u & 65535) >> 10; }
+
+/* The column in which member j's tuples are sieved by the values of the last member's candidates; none sieves nothing. */
+static int find_sieve(const visit *v, const uint64_t *words, int j, uint64_t *bits) {
+    int last = v->m - 1 == v->place ? v->m - 2 : v->m - 1;
+    *bits = 0;
+    if (last <= j || !v->shared[j][last].count) return -1;
+    const relation *r = v->members[last];
+    for (int g = next_of(words, r, r->first); g < r->end; g = next_of(words, r, g + 1))
+        *bits |= 1ull << bit_of(tuple_of(r, g - r->first)[v->shared[j][last].to[0]]);
+    return v->shared[j][last].from[0];
+}
+
+static bool search(const visit *v, const uint64_t *words, int j, bool resumes, uint16_t *chosen, bool eager, bool *hard);
+
+/* Tuple x chosen for member j. */
+static bool attempt(const visit *v, const uint64_t *words, int j, bool resumes, uint16_t *chosen, int x, bool eager, bool *hard) {
+    uint64_t fewer[WORDS];
     int on = j + 1 == v->place ? j + 2 : j + 1;
-    int g = next_of(words, r, resumes ? r->first + v->low[j] : r->first);
+    chosen[j] = (uint16_t)x;
+    if (on == v->m) return fits(v, j, chosen, x);
+    memcpy(fewer, words, (size_t)v->f->words * sizeof *words);
+    return narrow_members(v, fewer, j, x, on) && fits(v, j, chosen, x) && search(v, fewer, on, resumes && x == v->low[j], chosen, eager, hard);
+}
+
+/* Member j's candidates from g on, where the search is hard: those are passed over that the sieve stops, or that are like one that failed. */
+static bool comb(const visit *v, const uint64_t *words, int j, bool resumes, uint16_t *chosen, int g) {
+    const relation *r = v->members[j];
+    uint64_t bits, variables = 0;
+    uint16_t failed[PLACES];
+    bool hard;
+    int column = find_sieve(v, words, j, &bits);
+    for (int k = j + 1; k < v->m; k++)
+        if (k != v->place) variables |= v->members[k]->variables;
+    memset(failed, 255, sizeof failed);
     for (; g < r->end; g = next_of(words, r, g + 1)) {
         int x = g - r->first;
+        if (column >= 0 && !(bits >> bit_of(tuple_of(r, x)[column]) & 1)) continue;
         if (!fits(v, j, chosen, x)) continue;
-        chosen[j] = (uint16_t)x;
-        if (on == v->m) return true;
-        uint64_t fewer[WORDS];
-        memcpy(fewer, words, (size_t)v->f->words * sizeof *words);
-        if (narrow_members(v, fewer, j, x, on) && search(v, fewer, on, resumes && x == v->low[j], chosen)) return true;
+        if (!(resumes && x == v->low[j]) && first_alike(failed, r, x, variables) != x) continue;
+        if (attempt(v, words, j, resumes, chosen, x, true, &hard)) return true;
     }
     return false;
 }
 
+static bool search(const visit *v, const uint64_t *words, int j, bool resumes, uint16_t *chosen, bool eager, bool *hard) {
+    const relation *r = v->members[j];
+    int g = next_of(words, r, resumes ? r->first + v->low[j] : r->first);
+    if (*hard = eager, eager) return comb(v, words, j, resumes, chosen, g);
+    for (int failures = 0; g < r->end && failures < FAILURES && !*hard; failures++) {
+        if (attempt(v, words, j, resumes, chosen, g - r->first, false, hard)) return true;
+        g = next_of(words, r, g + 1);
+    }
+    if (g == r->end) return false;
+    uint64_t fewer[WORDS];
+    *hard = true;
+    memcpy(fewer, words, (size_t)v->f->words * sizeof *words);
+    return spread_open(v, fewer, j) && comb(v, fewer, j, resumes, chosen, next_of(fewer, r, g));
+}
+
 static bool first_support(const visit *v, uint16_t *chosen) {
     uint64_t candidates[WORDS];
+    bool hard = false;
     if (v->bare) return false;
     memcpy(candidates, v->f->live, (size_t)v->f->words * sizeof *candidates);
     if (!narrow_members(v, candidates, v->place, v->own, 0)) return false;
     for (int i = 0; i < v->steps; i++)
-        if (!spread(v, candidates, v->nearer[i], v->farther[i])) return false;
+        if (!spread(v, candidates, v->nearer[i], v->farther[i], FEW)) return false;
     chosen[v->place] = (uint16_t)v->own;
-    return search(v, candidates, v->place == 0, true, chosen);
+    return search(v, candidates, v->place == 0, true, chosen, false, &hard);
 }
 
 /* ---- Twins. */
-
-static bool is_twin(const visit *v, const uint16_t *a, const uint16_t *b) {
-    const relation *r = v->members[v->place];
-    for (int c = 0; c < r->width; c++)
-        if (v->common >> r->scope[c] & 1 && a[c] != b[c]) return false;
-    return true;
-}
-
-/* The rows of the seeking tuple's own values that the other members share. */
-static unsigned own_rows(const visit *v, const uint64_t **rows) {
-    const relation *r = v->members[v->place];
-    const uint16_t *tuple = tuple_of(r, v->own);
-    unsigned count = 0;
-    for (int c = 0; c < r->width; c++)
-        if (v->common >> r->scope[c] & 1) count += rows_of(v->f, rows + count, r, c, tuple[c]);
-    return count;
-}
-
-/* An earlier live tuple with the seeking one's values under the others' variables; itself if the first that may be one is not. */
-static int twin(const visit *v) {
-    const relation *r = v->members[v->place];
-    const uint64_t *rows[MAX_KEPT];
-    unsigned count = own_rows(v, rows);
-    for (int g = r->first, end = r->first + v->own; g < end; g = (g | 63) + 1) {
-        uint64_t alike = v->f->live[g / 64];
-        for (unsigned i = 0; i < count; i++) alike &= rows[i][g / 64];
-        alike >>= g % 64;
-        if (!alike) continue;
-        g += __builtin_ctzll(alike);
-        return g < end && is_twin(v, tuple_of(r, v->own), tuple_of(r, g - r->first)) ? g - r->first : v->own;
-    }
-    return v->own;
-}
 
 static bool agrees_with(const visit *v, const uint16_t *others) {
     for (int j = 0; j < v->m; j++)
@@ -401,14 +449,19 @@ static bool agrees_with(const visit *v, const uint16_t *others) {
     return true;
 }
 
-/* A twin's support, with the seeking tuple put in, becomes its own; false where there is none. */
-static bool take_twins(const visit *v, uint16_t *held) {
-    int x = twin(v);
+typedef enum { NONE, TAKEN, FALLEN } twin;
+
+/* A twin's support, with the seeking tuple put in, becomes its own; or it falls as the twin fell. */
+static twin take_twin(visit *v, uint16_t *held) {
+    const relation *r = v->members[v->place];
+    int x = first_alike(v->sought, r, v->own, v->common);
     const uint16_t *twins = held - (v->own - x) * v->m;
-    if (x == v->own || !agrees_with(v, twins)) return false;
+    if (x == v->own) return NONE;
+    if (!is_live(v->f->live, r->first + x)) return FALLEN;
+    if (!agrees_with(v, twins)) return NONE;
     memcpy(held, twins, (size_t)v->m * sizeof *held);
     held[v->place] = (uint16_t)v->own;
-    return true;
+    return TAKEN;
 }
 
 /* ---- The filter. */
@@ -425,7 +478,8 @@ static bool renew(visit *v, uint16_t *held) {
     bool fresh = held[0] == NO_SUPPORT;
     if (!fresh && all_live(v, held)) return true;
     for (int j = 0; j < v->m; j++) v->low[j] = fresh ? 0 : held[j];
-    if (take_twins(v, held)) return true;
+    twin t = take_twin(v, held);
+    if (t != NONE) return t == TAKEN;
     if (!first_support(v, chosen)) return false;
     memcpy(held, chosen, (size_t)v->m * sizeof *held);
     return true;
