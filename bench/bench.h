@@ -6,8 +6,9 @@
 #include <stdint.h>
 #include <stdio.h>
 
-/* The limits of a network, and what stands for no support. */
-enum { MAX_RELATIONS = 64, MAX_WIDTH = 8, MAX_TUPLES = 4096, MAX_MEMBERS = 4, MAX_COMBINATIONS = 256, MAX_NUMBERS = 32768, NO_SUPPORT = 65535 };
+/* The limits of a network, and what stands for no support and for no variable. */
+enum { MAX_RELATIONS = 64, MAX_WIDTH = 8, MAX_TUPLES = 4096, MAX_MEMBERS = 4, MAX_COMBINATIONS = 256, MAX_NUMBERS = 32768 };
+enum { NO_SUPPORT = 65535, NO_VARIABLE = 64 };
 enum { WORDS = MAX_TUPLES / 64, MAX_PAIRS = MAX_COMBINATIONS * MAX_MEMBERS };
 
 /* A network with its combinations, and where each relation and each pair's numbers begin. The library takes the three tables and the
@@ -60,12 +61,12 @@ size_t shape_scope(network_shape, size_t relations, size_t relation, uint16_t *s
 /* The code of a value; different ones have different codes. */
 uint16_t code_of(const description *, unsigned value);
 
-bool bench_agree(const uint16_t *, size_t, const uint16_t *, size_t, const uint16_t *, size_t, const uint16_t *, size_t);
+uint16_t bench_first_clash(const uint16_t *, size_t, const uint16_t *, size_t, const uint16_t *, size_t, const uint16_t *, size_t);
 uint16_t bench_next(const uint64_t *, size_t, uint16_t, uint16_t);
 uint16_t bench_count(const uint64_t *, size_t, uint16_t, uint16_t);
 void bench_filter(const uint16_t *, size_t, const uint16_t *, size_t, const uint16_t *, const uint16_t *, size_t, uint16_t, uint64_t *, size_t, uint16_t *, size_t);
 void c_filter(const network *, uint64_t *, uint16_t *);
-bool c_agree(const uint16_t *, size_t, const uint16_t *, size_t, const uint16_t *, size_t, const uint16_t *, size_t);
+uint16_t c_first_clash(const uint16_t *, size_t, const uint16_t *, size_t, const uint16_t *, size_t, const uint16_t *, size_t);
 uint16_t c_next(const uint64_t *, size_t, uint16_t, uint16_t);
 uint16_t c_count(const uint64_t *, size_t, uint16_t, uint16_t);
 #endif

@@ -61,7 +61,7 @@ static bool is_empty(const uint64_t *words, const relation *r) { return next_of(
 static inline const uint16_t *tuple_of(const relation *r, int x) { return r->values + x * r->width; }
 
 static bool agree_at(const relation *r, int x, const relation *s, int y) {
-    return agree(r->scope, r->width, tuple_of(r, x), r->width, s->scope, s->width, tuple_of(s, y), s->width);
+    return first_clash(r->scope, r->width, tuple_of(r, x), r->width, s->scope, s->width, tuple_of(s, y), s->width) == NO_VARIABLE;
 }
 
 /* Of the relation's word i, the bits of its own ids. */

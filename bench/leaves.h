@@ -4,12 +4,17 @@
 #include "bench.h"
 
 
-static inline bool agree(const uint16_t *scope_a, size_t wa, const uint16_t *a, size_t la, const uint16_t *scope_b, size_t wb, const uint16_t *b, size_t lb) {
+/* The lowest variable of both scopes whose values differ; 64 where there is none. */
+static inline uint16_t first_clash(const uint16_t *scope_a, size_t wa, const uint16_t *a, size_t la, const uint16_t *scope_b, size_t wb, const uint16_t *b, size_t lb) {
     (void)la, (void)lb;
+    uint16_t lowest = NO_VARIABLE;
     for (size_t i = 0; i < wa; i++)
         for (size_t j = 0; j < wb; j++)
-            if (scope_a[i] == scope_b[j] && a[i] != b[j]) return false;
-    return true;
+            if (scope_a[i] == scope_b[j]) {
+                if (a[i] != b[j] && scope_a[i] < lowest) lowest = scope_a[i];
+                break;
+            }
+    return lowest;
 }
 
 static inline uint16_t next(const uint64_t *words, size_t n, uint16_t start, uint16_t end) {

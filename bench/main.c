@@ -29,10 +29,10 @@ static uint64_t draw(void) {
     return seed >> 33;
 }
 
-typedef bool (*agree_fn)(const uint16_t *, size_t, const uint16_t *, size_t, const uint16_t *, size_t, const uint16_t *, size_t);
+typedef uint16_t (*clash_fn)(const uint16_t *, size_t, const uint16_t *, size_t, const uint16_t *, size_t, const uint16_t *, size_t);
 typedef uint16_t (*range_fn)(const uint64_t *, size_t, uint16_t, uint16_t);
 
-static long agree_all(agree_fn f, size_t wa, size_t wb) {
+static long clash_all(clash_fn f, size_t wa, size_t wb) {
     long n = 0;
     for (size_t i = 0; i < TUPLES; i++)
         for (size_t j = 0; j < TUPLES; j++) n += f(scope_a, wa, a + i * MAX_WIDTH, wa, scope_b, wb, b + j * MAX_WIDTH, wb);
@@ -88,8 +88,8 @@ static void leaves(void) {
         words[1][i] = words[0][i] & draw() << 20 & draw() << 15;
         words[2][i] = i % 16 == 3;
     }
-    COMPARE("agree, 8 and 8 variables", agree_all(bench_agree, 8, 8), agree_all(c_agree, 8, 8));
-    COMPARE("agree, 3 and 3 variables", agree_all(bench_agree, 3, 3), agree_all(c_agree, 3, 3));
+    COMPARE("first clash, 8 and 8 variables", clash_all(bench_first_clash, 8, 8), clash_all(c_first_clash, 8, 8));
+    COMPARE("first clash, 3 and 3 variables", clash_all(bench_first_clash, 3, 3), clash_all(c_first_clash, 3, 3));
     COMPARE("next, every other id live", next_all(bench_next, words[0]), next_all(c_next, words[0]));
     COMPARE("next, few ids live", next_all(bench_next, words[1]), next_all(c_next, words[1]));
     COMPARE("next, 4 ids live", next_all(bench_next, words[2]), next_all(c_next, words[2]));

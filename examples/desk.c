@@ -54,6 +54,15 @@ static void show_reply(const char *asked, uint64_t answer) {
         printf("%s: %s\n", asked, wakhvosi_kind(answer) == WAKHVOSI_YES ? "yes" : "no");
 }
 
+static void show_comparison(const char *asked, uint64_t answer) {
+    if (wakhvosi_kind(answer) == WAKHVOSI_REFUSED)
+        printf("%s: refused, number %u\n", asked, wakhvosi_refusal(answer));
+    else if (wakhvosi_kind(answer) == WAKHVOSI_AGREE)
+        printf("%s: they agree\n", asked);
+    else
+        printf("%s: they differ on question %u\n", asked, wakhvosi_subject(answer));
+}
+
 static uint64_t filter(void) {
     return wakhvosi_filter(sheets, sizeof sheets, questions, sizeof questions, codes, sizeof codes, M, combinations,
                            sizeof combinations, marks, sizeof marks, supports, sizeof supports);
@@ -99,8 +108,9 @@ int main(void) {
 
     all_living();
     show("choose code 6 for question 2 on the fresh book", choose(2, 6));
-    show_reply("compare rows 0 and 3", compare(0, 3));
-    show_reply("compare rows 0 and 4", compare(0, 4));
-    show_reply("compare rows 0 and 7", compare(0, 7));
+    show_comparison("compare rows 0 and 3", compare(0, 3));
+    show_comparison("compare rows 0 and 4", compare(0, 4));
+    show_comparison("compare rows 0 and 2", compare(0, 2));
+    show_comparison("compare rows 0 and 7", compare(0, 7));
     return 0;
 }

@@ -65,7 +65,8 @@ enum {
     WAKHVOSI_MAX_COMBINATIONS = 256,
     WAKHVOSI_MAX_SUPPORTS = 32768, /* numbers that the supports may need */
     WAKHVOSI_NO_SUPPORT = 65535,   /* stands m times in the supports where a row is dead */
-    WAKHVOSI_NO_SHEET = 64         /* the subject of a settled answer */
+    WAKHVOSI_NO_SHEET = 64,        /* the subject of a settled answer */
+    WAKHVOSI_NO_QUESTION = 64      /* .. and of compare's where the rows agree */
 };
 
 /* ---- How many bytes of marks and supports a book needs */
@@ -98,19 +99,22 @@ static inline size_t wakhvosi_supports_bytes(const uint8_t *sheets, size_t sheet
 
 /* ---- Answers */
 
-/* The kind of a change call's answer (filter, withdraw, choose) and of test's or compare's. */
+/* The kind of a change call's answer (filter, withdraw, choose), of test's and of compare's. */
 enum {
     WAKHVOSI_SETTLED = 0, /* every sheet has a row left */
     WAKHVOSI_EMPTIED = 1, /* a sheet has none: no complete order exists */
-    WAKHVOSI_NO = 0,      /* test: the marks are not settled; compare: the rows do not agree */
-    WAKHVOSI_YES = 1,
-    WAKHVOSI_REFUSED = 2 /* of every call: the request has a fault; nothing was written */
+    WAKHVOSI_NO = 0,      /* test: the marks are not settled */
+    WAKHVOSI_YES = 1,     /* .. they are */
+    WAKHVOSI_DIFFER = 0,  /* compare: under some question that both sheets ask, the rows have different codes */
+    WAKHVOSI_AGREE = 1,   /* .. under none */
+    WAKHVOSI_REFUSED = 2  /* of every call: the request has a fault; nothing was written */
 };
 
 /* Of every call. Bits 0 to 7: the kind. */
 static inline unsigned wakhvosi_kind(uint64_t answer) { return (unsigned)(answer & 255); }
 
-/* Of a change call. Bits 8 to 15: 64 if settled, the lowest sheet with no row left if emptied, the refusal number if refused. */
+/* Bits 8 to 15. Of a change call: 64 if settled, the lowest sheet with no row left if emptied. Of compare: 64 if the rows agree, the
+ * lowest question on which they differ if not. Of every call: the refusal number if refused. */
 static inline unsigned wakhvosi_subject(uint64_t answer) { return (unsigned)(answer >> 8 & 255); }
 
 /* Of every call: the refusal number, or 0 if it was accepted. */
@@ -155,7 +159,7 @@ uint64_t wakhvosi_choose(const uint8_t *sheets, size_t sheets_bytes,
                          uint8_t *supports, size_t supports_bytes,
                          uint16_t question, uint16_t code);
 
-/* ---- Test and compare: the answer has a kind, and a refusal number if refused; its other bits are 0 */
+/* ---- Test and compare: the answer has a kind and a subject, which is 0 where test is not refused; its other bits are 0 */
 
 /* Test: are the marks settled. */
 uint64_t wakhvosi_test(const uint8_t *sheets, size_t sheets_bytes,
@@ -165,7 +169,7 @@ uint64_t wakhvosi_test(const uint8_t *sheets, size_t sheets_bytes,
                        const uint8_t *combinations, size_t combinations_bytes,
                        const uint8_t *marks, size_t marks_bytes);
 
-/* Compare: do the rows with book numbers a and b agree. */
+/* Compare: the lowest question that both sheets ask and on which the rows with book numbers a and b differ; or they agree. */
 uint64_t wakhvosi_compare(const uint8_t *sheets, size_t sheets_bytes,
                           const uint8_t *questions, size_t questions_bytes,
                           const uint8_t *codes, size_t codes_bytes,

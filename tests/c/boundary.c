@@ -138,10 +138,13 @@ static void good_calls(void) {
     answers(book_a_with(MARKS, bytes(8, 123)), TEST, 1, 1, "test of filtered A");
     request q = book_a();
     q.x = 0, q.y = 3;
-    answers(q, COMPARE, 1, 0, "rows 0 and 3 agree");
+    answers(q, COMPARE, counted(1, 64, 0, 0, 0), 0, "rows 0 and 3 agree");
     q = book_a();
     q.x = 2, q.y = 3;
-    answers(q, COMPARE, 0, 0, "rows 2 and 3 do not agree");
+    answers(q, COMPARE, counted(0, 1, 0, 0, 0), 0, "rows 2 and 3 differ on question 1");
+    q = book_a();
+    q.x = 0, q.y = 2;
+    answers(q, COMPARE, counted(0, 0, 0, 0, 0), 0, "rows 0 and 2 differ on question 0 and on question 1");
 }
 
 /* A list that is so many bytes short of a whole number of entries. */

@@ -23,12 +23,20 @@ static void say(const char *what, uint64_t answer, uint64_t word) {
     printf("; marks %" PRIu64 "\n", word);
 }
 
-/* The answer of test or compare. */
+/* The answer of test. */
 static void say_whether(const char *what, uint64_t answer) {
     if (wakhvosi_kind(answer) == WAKHVOSI_REFUSED)
         printf("%s: %u refused\n", what, wakhvosi_subject(answer));
     else
         printf("%s: %u\n", what, wakhvosi_kind(answer));
+}
+
+/* The answer of compare. */
+static void say_where(const char *what, uint64_t answer) {
+    if (wakhvosi_kind(answer) == WAKHVOSI_AGREE)
+        printf("%s: agree\n", what);
+    else
+        printf("%s: %u %s\n", what, wakhvosi_subject(answer), wakhvosi_kind(answer) == WAKHVOSI_REFUSED ? "refused" : "differs");
 }
 
 /* Book A with one tuple withdrawn. */
@@ -54,8 +62,9 @@ static void book_a(void) {
     words[0] = 127;
     uint64_t p9 = wakhvosi_choose_records(BOOK_A, 2, LIST(pairs), LIST(words), LIST(supports), 2, 6);
     say("P9", p9, words[0]);
-    say_whether("rows 0 and 3 agree", wakhvosi_compare_records(BOOK_A, 0, 3));
-    say_whether("rows 2 and 3 agree", wakhvosi_compare_records(BOOK_A, 2, 3));
+    say_where("rows 0 and 3", wakhvosi_compare_records(BOOK_A, 0, 3));
+    say_where("rows 2 and 3", wakhvosi_compare_records(BOOK_A, 2, 3));
+    say_where("rows 0 and 2", wakhvosi_compare_records(BOOK_A, 0, 2));
 }
 
 /* P6 and P7. */

@@ -141,8 +141,10 @@ static void answers(void) {
     check(wakhvosi_kind(yes) == WAKHVOSI_YES && wakhvosi_refusal(yes) == 0, "test, yes");
     check(wakhvosi_kind(no) == WAKHVOSI_NO && wakhvosi_refusal(no) == 0, "test, no");
     uint64_t unasked = wakhvosi_compare(sheets, 8, questions, 4, codes, 8, 0, 4);
-    check(wakhvosi_kind(wakhvosi_compare(sheets, 8, questions, 4, codes, 8, 0, 2)) == WAKHVOSI_YES, "compare, yes");
-    check(wakhvosi_kind(wakhvosi_compare(sheets, 8, questions, 4, codes, 8, 0, 3)) == WAKHVOSI_NO, "compare, no");
+    uint64_t agree = wakhvosi_compare(sheets, 8, questions, 4, codes, 8, 0, 2);
+    uint64_t differ = wakhvosi_compare(sheets, 8, questions, 4, codes, 8, 0, 3);
+    check(wakhvosi_kind(agree) == WAKHVOSI_AGREE && wakhvosi_subject(agree) == WAKHVOSI_NO_QUESTION, "compare, agree");
+    check(wakhvosi_kind(differ) == WAKHVOSI_DIFFER && wakhvosi_subject(differ) == 0 && wakhvosi_refusal(differ) == 0, "compare, differ");
     check(wakhvosi_kind(unasked) == WAKHVOSI_REFUSED && wakhvosi_refusal(unasked) == 13, "compare, refused");
     const uint8_t first[] = {0, 0};
     answer = wakhvosi_withdraw(sheets, 8, questions, 4, codes, 8, 2, members, 4, marks, 8, supports, 16, first, sizeof first);

@@ -11,7 +11,9 @@ Answer = tuple[int, ...]
 Reply = tuple[Answer, list[int], list[int]]
 
 SETTLED, EMPTIED, REFUSED = 0, 1, 2
+DIFFER, AGREE = 0, 1
 NO_SHEET = 64
+NO_QUESTION = 64
 DEAD = 65535
 MOST_ROWS = 4096
 MOST_SUPPORTS = 32768
@@ -189,6 +191,12 @@ def agree(one: Row, other: Row) -> bool:
     return all(other[question] == code for question, code in one.items() if question in other)
 
 
+def first_clash(one: Row, other: Row) -> Optional[int]:
+    """The lowest question of both rows under which they differ."""
+    shared = [question for question in range(64) if question in one and question in other]
+    return next((question for question in shared if one[question] != other[question]), None)
+
+
 def first_support(book: Book, combination: Combination, living: set[int], seeker: int) -> Optional[tuple[int, ...]]:
     """The first support of the seeker, as book numbers; the seeker stands for its own sheet."""
     members = []
@@ -279,18 +287,19 @@ def change(request: Request) -> Reply:
     return verdict(book, kept) + counts, marks, supports_after(book, combinations, request.supports, kept)
 
 
-def test(request: Request) -> bool:
+def test(request: Request) -> Answer:
     book = read_book(request)
-    return settled(book, read_combinations(request), living_rows(book, request.marks))
+    return int(settled(book, read_combinations(request), living_rows(book, request.marks))), 0
 
 
-def compare(request: Request) -> bool:
+def compare(request: Request) -> Answer:
     book = read_book(request)
     one, other = request.rows
-    return agree(book.rows[one], book.rows[other])
+    clash = first_clash(book.rows[one], book.rows[other])
+    return (AGREE, NO_QUESTION) if clash is None else (DIFFER, clash)
 
 
-ASKING: dict[str, Callable[[Request], bool]] = {"test": test, "compare": compare}
+ASKING: dict[str, Callable[[Request], Answer]] = {"test": test, "compare": compare}
 
 
 def reply(request: Request) -> Reply:
@@ -299,7 +308,7 @@ def reply(request: Request) -> Reply:
     if fault:
         answer = (REFUSED, fault) if request.call in ASKING else (REFUSED, fault, 0, 0, 0)
     elif request.call in ASKING:
-        answer = (int(ASKING[request.call](request)), 0)
+        answer = ASKING[request.call](request)
     else:
         return change(request)
     return answer, list(request.marks), list(request.supports)

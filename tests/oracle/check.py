@@ -103,7 +103,33 @@ def test_and_compare() -> bool:
     answers = [book.reply(request)[0] for request in (fresh, filtered)]
     for rows in ([0, 3], [3, 0], [0, 4], [2, 2], [0, 1]):
         answers.append(book.reply(replace(book_a(), call="compare", rows=rows))[0])
-    return answers == [(0, 0), (1, 0), (1, 0), (1, 0), (0, 0), (1, 0), (0, 0)]
+    return answers == [(0, 0), (1, 0), (1, 64), (1, 64), (0, 1), (1, 64), (0, 1)]
+
+
+def lowest_clash() -> bool:
+    """Shared questions in falling order and in other places: the lowest clash is named, whichever is met first."""
+    crossed = Request(
+        call="compare",
+        sheets=[(3, 2), (3, 3)],
+        questions=[9, 4, 1, 4, 9, 2],
+        codes=[5, 6, 7, 5, 6, 8, 6, 5, 7, 1, 2, 3, 6, 2, 3],
+    )
+    answers = [book.reply(replace(crossed, rows=rows))[0] for rows in ([0, 2], [0, 3], [3, 0], [0, 4], [0, 1], [0, 5])]
+    return answers == [(1, 64), (0, 4), (0, 4), (0, 9), (0, 1), (2, 13)]
+
+
+def clash_unless_agreeing() -> bool:
+    """A question is named exactly where two rows do not agree; they differ under it and agree under all lower ones."""
+    for request, _ in sample("clashing", 300):
+        rows = book.read_book(request).rows
+        for one, other in itertools.combinations(rows, 2):
+            clash = book.first_clash(one, other)
+            if (clash is None) != book.agree(one, other) or clash != book.first_clash(other, one):
+                return False
+            lower = {question: code for question, code in one.items() if clash is None or question < clash}
+            if not book.agree(lower, other) or clash is not None and one[clash] == other[clash]:
+                return False
+    return True
 
 
 def spare_and_missing_words() -> bool:
@@ -421,11 +447,12 @@ def refusals_occur() -> bool:
 
 
 def answers_occur() -> bool:
-    """Settled and emptied, each with and without withdrawn and deleted rows; yes and no."""
+    """Settled and emptied, each with and without withdrawn and deleted rows; yes and no; agree and several questions."""
     changed = {(answer[0], answer[3] > 0, answer[4] > 0) for _, (answer, _, _) in changes_accepted("small", 600)}
     asked = {(request.call, reply[0]) for request, reply in sample("small", 600) if request.call not in draw.CHANGES}
-    both = {(call, (answer, 0)) for call in ("test", "compare") for answer in (0, 1)}
-    return changed == set(itertools.product((0, 1), (False, True), (False, True))) and both <= asked
+    both = {("test", (0, 0)), ("test", (1, 0)), ("compare", (1, 64))}
+    named = {answer[1] for call, answer in asked if call == "compare" and answer[0] == book.DIFFER}
+    return changed == set(itertools.product((0, 1), (False, True), (False, True))) and both <= asked and len(named) > 5
 
 
 def shapes_occur() -> bool:
@@ -509,6 +536,28 @@ def agree_in_remainders(one: Row, other: Row) -> bool:
     return all((other[question] - code) % reach.BUCKETS == 0 for question, code in one.items() if question in other)
 
 
+def unlike(one: Row, other: Row) -> list[int]:
+    """The questions under which two rows differ, as the columns of the first stand."""
+    return [question for question, code in one.items() if question in other and other[question] != code]
+
+
+def clash_first_met(one: Row, other: Row) -> Optional[int]:
+    return next(iter(unlike(one, other)), None)
+
+
+def clash_highest(one: Row, other: Row) -> Optional[int]:
+    return max(unlike(one, other), default=None)
+
+
+def clash_from_column_one(one: Row, other: Row) -> Optional[int]:
+    return min(unlike(dict(list(one.items())[1:]), other), default=None)
+
+
+def clash_by_place(one: Row, other: Row) -> Optional[int]:
+    places = zip(one.items(), other.values())
+    return min((question for (question, code), other_code in places if question in other and code != other_code), default=None)
+
+
 def filtered_to_first_empty(whole: Book, combinations: list[Combination], living: set[int]) -> set[int]:
     while book.verdict(whole, living)[0] == book.SETTLED:
         kept = {g for g in living if book.supported(whole, combinations, living, g)}
@@ -571,6 +620,10 @@ VARIANTS: list[tuple[str, Callable]] = [
     ("agree", agree_by_place),
     ("agree", agree_in_codes_by_place),
     ("agree", agree_from_column_one),
+    ("first_clash", clash_first_met),
+    ("first_clash", clash_highest),
+    ("first_clash", clash_from_column_one),
+    ("first_clash", clash_by_place),
     ("filtered", filtered_to_first_empty),
     ("filtered", filtered_by_shrunk_sheets),
     ("filtered", filtered_once),
@@ -603,11 +656,11 @@ def later_pairs() -> list[Check]:
 
 
 def checks() -> list[Check]:
-    plain = [p1, p2, p3, p4, p5, p6, p7, p8, p9, input_a, test_and_compare, spare_and_missing_words]
+    plain = [p1, p2, p3, p4, p5, p6, p7, p8, p9, input_a, test_and_compare, lowest_clash, spare_and_missing_words]
     plain += [choice_edge, book_number_edge, faults_not_used, list_edges, whole_supports]
     plain += [text_edges, texts_not_in_form, texts_refused]
     plain += [counts_add_up, filtering_repeats, spare_stays, refusals_change_nothing, largest_by_all_subsets]
-    plain += [no_order_lost, connected_by_spreading, listing_as_filter]
+    plain += [no_order_lost, connected_by_spreading, listing_as_filter, clash_unless_agreeing]
     plain += [lists_agree, lists_are_varied, sheets_out_of_reach_keep_rows]
     plain += [first_of_several, refusals_occur, answers_occur, shapes_occur, same_seed_same_draws]
     named = [(function.__name__, function) for function in plain]

@@ -155,6 +155,26 @@ def loose_alike_network(rng: random.Random) -> Network:
     return alike(rng, loose_network(rng))
 
 
+def ordered(rng: random.Random, questions: list[int]) -> list[int]:
+    """The questions in rising, falling or any order."""
+    kind = rng.randrange(3)
+    return sorted(questions, reverse=kind == 1) if kind < 2 else rng.sample(questions, len(questions))
+
+
+def clashing_network(rng: random.Random) -> Network:
+    """Sheets that share most of their questions, each with columns in an order of its own; the rows differ in a few codes."""
+    pool = rng.sample(range(64), 9) if chance(rng, 50) else [0, 63] + rng.sample(range(1, 63), 7)
+    codes = rng.choice(ALPHABETS)
+    order = {question: rng.choice(codes) for question in pool}
+    changed = rng.choice((5, 20, 50))
+    pages = []
+    for _ in range(rng.randint(2, 4)):
+        questions = ordered(rng, rng.sample(pool, rng.randint(4, 8)))
+        rows = [[rng.choice(codes) if chance(rng, changed) else order[q] for q in questions] for _ in range(rng.randint(2, 4))]
+        pages.append((questions, rows))
+    return Network(pages, 2, draw_combinations(rng, pages, 2, rng.choice((1, 2, 3)), 10000))
+
+
 # Networks of many sheets
 
 
@@ -628,6 +648,7 @@ SIZES: dict[str, Callable[[random.Random, str], Request]] = {
     "loose-alike": request_on(loose_alike_network),
     "wide": request_on(wide_network),
     "alike": request_on(alike_network),
+    "clashing": request_on(clashing_network),
     "crowded": request_on(crowded_network),
     "full": request_on(full_network),
     "thin": request_on(thin_network),

@@ -1,17 +1,22 @@
 // The functions that the benchmark times, exported as they are.
-ghost use mathlib.Core.Path.{_≡_};
 ghost use Prim.Native.Nat.{_*_, _≤_};
 ghost use lib.ListN.{length};
 ghost use Rattle.layout.specs.Setting.{setting, Sound};
+ghost use Rattle.network.specs.Tuples.{Columns};
 ghost use Rattle.engine.specs.Work.{Room};
 use layout::Starts;
 use model::Value;
 
 #[no_mangle]
-pub extern "C" fn bench_agree(scope_a: &[u16], a: &[u16], scope_b: &[u16], b: &[u16]) -> bool
-    requires { ⌜ (length (now «scope_a») ≡ length (now a)) × (length (now «scope_b») ≡ length (now b)) ⌝ }
+pub extern "C" fn bench_first_clash(
+    scope_a: &[u16],
+    a: &[Value],
+    scope_b: &[u16],
+    b: &[Value],
+) -> u16
+    requires { ⌜ Columns (now «scope_a») (now a) × Columns (now «scope_b») (now b) ⌝ }
 {
-    network::agreement::agree(scope_a, a, scope_b, b)
+    network::agreement::first_clash(scope_a, a, scope_b, b)
 }
 
 #[no_mangle]

@@ -21,12 +21,12 @@ use Rattle.model.specs.declared.Comparison.{Comparison}
 use Rattle.model.specs.declared.Comparison.the-variants.{Differ, Agree}
 use Rattle.model.specs.declared.Comparison.the-variants as comparison
 use Rattle.model.specs.Limits.{maxRelations}
-use Rattle.model.specs.Lists.{all}
+use Rattle.model.specs.Lists.{all, isNone}
 use Rattle.model.specs.TupleSet.{TupleSet}
 use Rattle.model.specs.Network.{Network, total}
 use Rattle.model.specs.LiveWords.{living}
 use Rattle.model.specs.Request.{Change, filter, withdraw, choose, Request}
-use Rattle.model.specs.Fault.{Fault, firstFault, refusal, changeFaults, faultsOn, faults, isNone, accepts}
+use Rattle.model.specs.Fault.{Fault, firstFault, refusal, changeFaults, faultsOn, faults, accepts}
 use Rattle.model.specs.Reply.{Numbers, Reply, answerNumbers, verdictNumbers, comparisonNumbers, lowestEmpty, answerFor, remainder, countsFor, leaving, accepted, replyTo, reply}
 use Rattle.model.proofs.Bools.{and-left, and-right}
 use Rattle.model.proofs.TupleSet.{count-length}
@@ -76,7 +76,7 @@ verdict-back Yes = refl
 verdict-back (verdict.Refused f) = pair-back (2, f) (omega arith)
 
 pub comparison-back : (a : Comparison) → pairIn (packedPair (comparisonNumbers a)) ≡ comparisonNumbers a
-comparison-back Differ = refl
+comparison-back (Differ x) = pair-back (0, x) (omega arith)
 comparison-back Agree = refl
 comparison-back (comparison.Refused f) = pair-back (2, f) (omega arith)
 

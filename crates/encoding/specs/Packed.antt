@@ -31,7 +31,7 @@ unpacked n =
 abbrev pub repliedIn : ℕ → List ℕ → List ℕ → Reply
 repliedIn n words supports = record { answer = unpacked n; words = words; supports = supports }
 
--- of test and compare: bits 0 to 7 the answer, 8 to 15 the refusal number
+-- of test and compare: bits 0 to 7 the answer, 8 to 15 the refusal number, or the variable that compare names
 abbrev pub packedPair : ℕ × ℕ → ℕ
 packedPair a = a .0 + 256 * a .1
 

@@ -6,6 +6,7 @@ ghost use Rattle.encoding.specs.Packed.{packedCounts, packed, packedPair
 use model::Answer;
 use model::Comparison;
 use model::Counts;
+use model::NO_VARIABLE;
 use model::Verdict;
 
 // The counts, 16 bits each.
@@ -62,8 +63,8 @@ pub fn pack_comparison(a: Comparison) -> u64
     ensures { λ n. ⌜ n ≡ packedPair (comparisonNumbers a) ⌝ }
 {
     match a {
-        Comparison::Differ => 0,
-        Comparison::Agree => 1,
+        Comparison::Differ(x) => 256 * (x as u64),
+        Comparison::Agree => 1 + 256 * (NO_VARIABLE as u64),
         Comparison::Refused(f) => 2 + 256 * (f as u64),
     }
 }

@@ -1,20 +1,25 @@
--- Laws of agreement: two tuples agree exactly if no cell of the one, at whatever place, clashes with a cell of the other.
--- From the definitions alone; the laws of `fit` and `clash` are all that code needs to know of when values fit.
+-- Laws of agreement: where two tuples clash, and that they agree exactly if no cell of the one, at whatever place, clashes with a cell
+-- of the other. From the definitions alone; the laws of `fit` and `clash` are all that code needs to know of when values fit.
 use mathlib.Core.Path.{_≡_, refl, sym, _∙_, ap, ap₂}
-use mathlib.Core.Bool.{Bool, true, false, not, _&&_, _||_, and-false, or-false, false≢true}
-use mathlib.Core.List.{List, [], _∷_, List·Memᴰ, Memᴰ·cast}
+use mathlib.Core.Bool.{Bool, true, false, not, _&&_, _||_, or-false, false≢true}
+use mathlib.Core.Option.{Option, none, some}
+use mathlib.Core.List.{List, [], _∷_, List·Memᴰ, List·Memᴰ·tail, List·Memᴰ·cases-cons, List·Memᴰ·not-nil, Memᴰ·cast, Memᴰ·map, Memᴰ·of-map}
+use mathlib.Core.Logic.{⊎-elim}
 use Prim.Native.Nat.{ℕ, zero, suc, _+_, _<_}
 use native.Mathlib.Nat.{le-of-suc-le-suc}
 use native.Mathlib.Omega.{arith}
-use lib.Dec.{eqb}
+use lib.Dec.{ltb, eqb}
 use lib.ListN.{length, getD}
-use borrow.Author.Tests.{eq-eqb, eqb-true, not-true, not-false}
-use Rattle.model.specs.Lists.{all, any, elem, keepIf}
-use Rattle.model.specs.Network.{Network, size, firstId, scopeOf, valuesAt, tupleOf}
-use Rattle.model.specs.Agreement.{Cell, fit, cells, clash, agreeing, under, cellsOf, agree}
-use Rattle.model.proofs.Bools.{and-intro, iff-eq, not-both}
-use Rattle.model.proofs.Lists.{all-at, all-intro, all-select, getD-mem, mem-elem, eqb-sym}
-use Rattle.model.proofs.Network.{relationOf-at, indexOf-at}
+use borrow.Author.Tests.{ltb-true, eq-eqb, ne-eqb, eqb-true, not-true}
+use Rattle.model.specs.Limits.{variableCount, noVariable}
+use Rattle.model.specs.Lists.{from, all, any, pairwise, elem, select, keepIf, isNone}
+use Rattle.model.specs.Network.{Network, size, total, firstId, relationOf, scopeOf, valuesAt, tupleOf}
+use Rattle.model.specs.Agreement.{Cell, fit, cells, clash, clashes, firstClashing, agreeing, under, cellsOf, firstClash, agree, clashNumber}
+use Rattle.model.specs.Fault.{different, properScope}
+use Rattle.model.proofs.Bools.{and-left, iff-eq, not-both, false-intro}
+use Rattle.model.proofs.Lists.{here, all-at, all-getD, any-at, any-intro, select-mem, mem-select, getD-mem, mem-elem, eqb-sym, mem-from, isNone-none, least-mem, least-none, none-least}
+use Rattle.model.proofs.Network.{ids-relationOf, relationOf-at, indexOf-at}
+use Rattle.model.proofs.Fault.{Faultless}
 
 -- ---- When values fit
 
@@ -45,43 +50,73 @@ clash-none x y f = clash-case x y (eqb (x .0) (y .0)) refl f
 pub clash-other-variable : (x y : Cell) → (x .0 ≡ y .0 → ⊥) → clash x y ≡ false
 clash-other-variable x y d = clash-none x y (λ e. absurd (d e))
 
-pub clash-fits : (x y : Cell) → fit (x .1) (y .1) ≡ true → clash x y ≡ false
-clash-fits x y e = clash-none x y (λ _. e)
-
--- .. and the values of cells that do not clash fit
-fits-case : (b x : Bool) → b ≡ true → (b && not x) ≡ false → x ≡ true
-fits-case true x e f = not-false x f
-fits-case false x e f = absurd (false≢true e)
-
-pub fits-none : (x y : Cell) → x .0 ≡ y .0 → clash x y ≡ false → fit (x .1) (y .1) ≡ true
-unfolding clash
-fits-none x y e f = fits-case (eqb (x .0) (y .0)) (fit (x .1) (y .1)) (eq-eqb (x .0) (y .0) e) f
-
 pub clash-unfit : (x y : Cell) → x .0 ≡ y .0 → fit (x .1) (y .1) ≡ false → clash x y ≡ true
 unfolding clash
 clash-unfit x y e d = ap₂ (λ (a b : Bool). a && not b) (eq-eqb (x .0) (y .0) e) d
+
+clash-both : (b c : Bool) → (b && not c) ≡ true → (b ≡ true) × (c ≡ false)
+clash-both true c e = (refl, not-true c e)
+clash-both false c e = absurd (false≢true e)
+
+-- cells that clash have the same variable, and values that do not fit
+pub clash-is : (x y : Cell) → clash x y ≡ true → (x .0 ≡ y .0) × (fit (x .1) (y .1) ≡ false)
+unfolding clash
+clash-is x y e = let b = clash-both (eqb (x .0) (y .0)) (fit (x .1) (y .1)) e in (eqb-true (x .0) (y .0) (b .0), b .1)
 
 pub clash-sym : (x y : Cell) → clash x y ≡ clash y x
 unfolding clash
 clash-sym x y = ap₂ (λ (a b : Bool). a && not b) (eqb-sym (x .0) (y .0)) (fit-sym (x .1) (y .1))
 
--- ---- Agreement by places
+-- ---- Where cells clash
+
+module _ (xs ys : List Cell) where
+  pub mem-clashes : {x y : Cell} → List·Memᴰ x xs → List·Memᴰ y ys → clash x y ≡ true → List·Memᴰ (x .0) (clashes xs ys)
+  unfolding clashes
+  mem-clashes {x} mx my e =
+      Memᴰ·map (λ (z : Cell). z .0) (mem-select (λ (z : Cell). any (clash z) ys) xs mx (any-intro (clash x) ys my e))
+
+  pub clashes-mem : {v : ℕ} → List·Memᴰ v (clashes xs ys) → (x : Cell) × (y : Cell) × List·Memᴰ x xs × List·Memᴰ y ys × (x .0 ≡ v) × (clash x y ≡ true)
+  unfolding clashes
+  clashes-mem m =
+      let k = Memᴰ·of-map (λ (z : Cell). z .0) (select (λ (z : Cell). any (clash z) ys) xs) m in
+      let s = select-mem (λ (z : Cell). any (clash z) ys) xs (k .1) in
+      let l = any-at (clash (k .0)) ys (s .1) in
+      (k .0, l .0, s .0, l .1, k .2, l .2)
+
+  -- no two cells clash
+  pub agreeing-intro : ((x y : Cell) → List·Memᴰ x xs → List·Memᴰ y ys → clash x y ≡ false) → agreeing xs ys ≡ true
+  unfolding agreeing
+  agreeing-intro f =
+      ap isNone (none-least (clashes xs ys) (λ v m. let k = clashes-mem m in not-both (k .5) (f (k .0) (k .1) (k .2) (k .3))))
+
+  pub agreeing-at : {x y : Cell} → agreeing xs ys ≡ true → List·Memᴰ x xs → List·Memᴰ y ys → clash x y ≡ false
+  unfolding agreeing
+  agreeing-at {x} {y} e mx my =
+      false-intro (clash x y) (λ c. least-none (clashes xs ys) (isNone-none (firstClashing xs ys) e) (mem-clashes mx my c))
+
+-- ---- Cells by places
 
 -- the cell at place k of a scope and its values
 abbrev pub cellAt : List ℕ → List ℕ → ℕ → Cell
 cellAt xs vs k = (getD xs k 0, getD vs k 0)
 
-cells-all : (p : Cell → Bool) (xs vs : List ℕ) → ((k : ℕ) → k < length xs → p (cellAt xs vs k) ≡ true) → all p (cells xs vs) ≡ true
-cells-all p [] vs f = refl
-cells-all p (x ∷ xs) [] f = refl
-cells-all p (x ∷ xs) (v ∷ vs) f = and-intro (f 0 (omega arith)) (cells-all p xs vs (λ k h. f (suc k) (omega arith)))
+-- it is one of the cells
+pub mem-cells : (xs vs : List ℕ) (k : ℕ) → length xs ≡ length vs → k < length xs → List·Memᴰ (cellAt xs vs k) (cells xs vs)
+mem-cells [] vs k l h = absurd (omega arith)
+mem-cells (x ∷ xs) [] k l h = absurd (omega arith)
+mem-cells (x ∷ xs) (v ∷ vs) zero l h = here
+mem-cells (x ∷ xs) (v ∷ vs) (suc k) l h = List·Memᴰ·tail (mem-cells xs vs k (omega arith) (le-of-suc-le-suc h))
 
-cells-false : (p : Cell → Bool) (xs vs : List ℕ) (k : ℕ) → length xs ≡ length vs → k < length xs → p (cellAt xs vs k) ≡ false → all p (cells xs vs) ≡ false
-cells-false p [] vs k l h e = absurd (omega arith)
-cells-false p (x ∷ xs) [] k l h e = absurd (omega arith)
-cells-false p (x ∷ xs) (v ∷ vs) zero l h e = ap (λ (b : Bool). b && all p (cells xs vs)) e
-cells-false p (x ∷ xs) (v ∷ vs) (suc k) l h e =
-    ap (λ (b : Bool). p (x, v) && b) (cells-false p xs vs k (omega arith) (le-of-suc-le-suc h) e) ∙ and-false (p (x, v))
+-- .. and every cell stands at some place
+pub cells-mem : (xs vs : List ℕ) {x : Cell} → List·Memᴰ x (cells xs vs) → (k : ℕ) × (k < length xs) × (x ≡ cellAt xs vs k)
+cells-mem [] vs m = absurd (List·Memᴰ·not-nil m)
+cells-mem (x ∷ xs) [] m = absurd (List·Memᴰ·not-nil m)
+cells-mem (y ∷ xs) (v ∷ vs) {x} m =
+    ⊎-elim
+    {C = (k : ℕ) × (k < length (y ∷ xs)) × (x ≡ cellAt (y ∷ xs) (v ∷ vs) k)}
+    (λ e. (0, omega arith, e))
+    (λ n. let r = cells-mem xs vs n in (suc (r .0), omega (arith, r .1), r .2))
+    (List·Memᴰ·cases-cons m)
 
 -- a test that no place passes
 pub cells-none : (p : Cell → Bool) (xs vs : List ℕ) → ((k : ℕ) → k < length xs → p (cellAt xs vs k) ≡ false) → any p (cells xs vs) ≡ false
@@ -100,20 +135,31 @@ cells-one p (x ∷ xs) (v ∷ vs) (suc k) l h f =
     ap (λ (b : Bool). b || any p (cells xs vs)) (f 0 (omega arith) (λ e. omega arith))
     ∙ cells-one p xs vs k (omega arith) (le-of-suc-le-suc h) (λ j m d. f (suc j) (omega arith) (λ e. d (omega arith)))
 
-module _ (xs vs ys ws : List ℕ) where
-  -- no two places clash
-  pub agreeing-places : ((k : ℕ) → k < length xs → (l : ℕ) → l < length ys → clash (cellAt xs vs k) (cellAt ys ws l) ≡ false) → agreeing (cells xs vs) (cells ys ws) ≡ true
-  unfolding agreeing
-  agreeing-places f =
-      cells-all (λ (x : Cell). all (λ (y : Cell). not (clash x y)) (cells ys ws)) xs vs
-      (λ k h. cells-all (λ (y : Cell). not (clash (cellAt xs vs k) y)) ys ws (λ l m. ap not (f k h l m)))
+-- places k and l clash
+pub agreeing-clash : (xs vs ys ws : List ℕ) (k l : ℕ) → length xs ≡ length vs → length ys ≡ length ws → k < length xs → l < length ys → clash (cellAt xs vs k) (cellAt ys ws l) ≡ true → agreeing (cells xs vs) (cells ys ws) ≡ false
+agreeing-clash xs vs ys ws k l ex ey hk hl e =
+    false-intro (agreeing (cells xs vs) (cells ys ws))
+    (λ t. not-both e (agreeing-at (cells xs vs) (cells ys ws) t (mem-cells xs vs k ex hk) (mem-cells ys ws l ey hl)))
 
-  -- places k and l clash
-  pub agreeing-clash : (k l : ℕ) → length xs ≡ length vs → length ys ≡ length ws → k < length xs → l < length ys → clash (cellAt xs vs k) (cellAt ys ws l) ≡ true → agreeing (cells xs vs) (cells ys ws) ≡ false
-  unfolding agreeing
-  agreeing-clash k l ex ey hk hl e =
-      cells-false (λ (x : Cell). all (λ (y : Cell). not (clash x y)) (cells ys ws)) xs vs k ex hk
-      (cells-false (λ (y : Cell). not (clash (cellAt xs vs k) y)) ys ws l ey hl (ap not e))
+-- variables below 64 clash below 64
+pub firstClashing-below : (xs vs : List ℕ) (ys : List Cell) → all (λ (x : ℕ). ltb x variableCount) xs ≡ true → (v : ℕ) → firstClashing (cells xs vs) ys ≡ some v → v < variableCount
+firstClashing-below xs vs ys low v e =
+    let m = clashes-mem (cells xs vs) ys (least-mem (clashes (cells xs vs) ys) e) in
+    let k = cells-mem xs vs (m .2) in
+    let below = ltb-true (getD xs (k .0) 0) variableCount (all-getD (λ (x : ℕ). ltb x variableCount) xs (k .0) 0 low (k .1)) in
+    omega (arith, below, m .4, ap (λ (x : Cell). x .0) (k .2))
+
+-- .. so that the number of a clash tells whether there is one
+pub clashNumber-isNone : (o : Option ℕ) → ((v : ℕ) → o ≡ some v → v < variableCount) → eqb (clashNumber o) noVariable ≡ isNone o
+clashNumber-isNone none low = refl
+clashNumber-isNone (some v) low = ne-eqb v noVariable (λ e. omega (arith, low v refl, e))
+
+pub clashNumber-none : (o : Option ℕ) → ((v : ℕ) → o ≡ some v → v < variableCount) → clashNumber o ≡ noVariable → o ≡ none
+clashNumber-none o low e = isNone-none o (sym (clashNumber-isNone o low) ∙ eq-eqb (clashNumber o) noVariable e)
+
+pub clashNumber-some : (o : Option ℕ) (n : ℕ) → clashNumber o ≡ n → (n ≡ noVariable → ⊥) → o ≡ some n
+clashNumber-some none n e d = absurd (d (sym e))
+clashNumber-some (some v) n e d = ap some e
 
 -- ---- Cells under some of the variables
 
@@ -131,33 +177,34 @@ cells-under test (x ∷ xs) (v ∷ vs) (w ∷ ws) l m f =
 
 -- ---- Agreement of tuples
 
-pub agreeing-intro : (xs ys : List Cell) → ((x y : Cell) → List·Memᴰ x xs → List·Memᴰ y ys → clash x y ≡ false) → agreeing xs ys ≡ true
-unfolding agreeing
-agreeing-intro xs ys f =
-    all-intro (λ (x : Cell). all (λ (y : Cell). not (clash x y)) ys) xs
-    (λ x mx. all-intro (λ (y : Cell). not (clash x y)) ys (λ y my. ap not (f x y mx my)))
-
-pub agreeing-at : (xs ys : List Cell) {x y : Cell} → agreeing xs ys ≡ true → List·Memᴰ x xs → List·Memᴰ y ys → clash x y ≡ false
-unfolding agreeing
-agreeing-at xs ys {x} {y} e mx my =
-    not-true (clash x y) (all-at (λ (z : Cell). not (clash x z)) ys (all-at (λ (w : Cell). all (λ (z : Cell). not (clash w z)) ys) xs e mx) my)
+pub agree-cells : (N : Network) (g h : ℕ) → agree N g h ≡ agreeing (cellsOf N g) (cellsOf N h)
+unfolding agree firstClash agreeing
+agree-cells N g h = refl
 
 agreeing-turned : (xs ys : List Cell) → agreeing xs ys ≡ true → agreeing ys xs ≡ true
 agreeing-turned xs ys e = agreeing-intro ys xs (λ y x my mx. clash-sym y x ∙ agreeing-at xs ys e mx my)
 
 pub agree-sym : (N : Network) (g h : ℕ) → agree N g h ≡ agree N h g
-unfolding agree
 agree-sym N g h =
-    iff-eq (agreeing (cellsOf N g) (cellsOf N h)) (agreeing (cellsOf N h) (cellsOf N g))
+    agree-cells N g h
+    ∙ iff-eq (agreeing (cellsOf N g) (cellsOf N h)) (agreeing (cellsOf N h) (cellsOf N g))
     (agreeing-turned (cellsOf N g) (cellsOf N h)) (agreeing-turned (cellsOf N h) (cellsOf N g))
+    ∙ sym (agree-cells N h g)
 
 -- it looks at those cells only whose variable the other tuple has
 pub agreeing-under : (test : ℕ → Bool) (xs : List Cell) (ys ws : List ℕ) → ((v : ℕ) → elem v ys ≡ true → test v ≡ true) → agreeing (under test xs) (cells ys ws) ≡ agreeing xs (cells ys ws)
-unfolding agreeing
 agreeing-under test xs ys ws covers =
-    all-select (λ (x : Cell). test (x .0)) (λ (x : Cell). all (λ (y : Cell). not (clash x y)) (cells ys ws)) xs
-    (λ x e. cells-all (λ (y : Cell). not (clash x y)) ys ws
-    (λ k h. ap not (clash-other-variable x (cellAt ys ws k) (λ q. not-both (covers (x .0) (mem-elem ys (Memᴰ·cast q (getD-mem ys k 0 h)))) e))))
+    let zs = cells ys ws in
+    iff-eq (agreeing (under test xs) zs) (agreeing xs zs)
+    (λ e. agreeing-intro xs zs (λ x y mx my. passes (test (x .0)) refl e mx my))
+    (λ e. agreeing-intro (under test xs) zs (λ x y mx my. agreeing-at xs zs e (select-mem (λ (z : Cell). test (z .0)) xs mx .0) my))
+  where
+    passes : {x y : Cell} (b : Bool) → test (x .0) ≡ b → agreeing (under test xs) (cells ys ws) ≡ true → List·Memᴰ x xs → List·Memᴰ y (cells ys ws) → clash x y ≡ false
+    passes true q e mx my = agreeing-at (under test xs) (cells ys ws) e (mem-select (λ (z : Cell). test (z .0)) xs mx q) my
+    passes {x} {y} false q e mx my =
+        let k = cells-mem ys ws my in
+        clash-other-variable x y
+        (λ p. not-both (covers (x .0) (mem-elem ys (Memᴰ·cast (p ∙ ap (λ (z : Cell). z .0) (k .2)) (getD-mem ys (k .0) 0 (k .1))))) q)
 
 -- the cells of the tuple at index x of relation r
 pub cellsOf-at : (N : Network) (r x : ℕ) → x < size N r → cellsOf N (firstId N r + x) ≡ cells (scopeOf N r) (valuesAt N r x)
@@ -165,17 +212,30 @@ unfolding cellsOf tupleOf
 cellsOf-at N r x h = rw (relationOf-at N r x h, indexOf-at N r x h)
 
 -- by relation and index
+pub firstClash-at : (N : Network) (r x s y : ℕ) → x < size N r → y < size N s → firstClash N (firstId N r + x) (firstId N s + y) ≡ firstClashing (cells (scopeOf N r) (valuesAt N r x)) (cells (scopeOf N s) (valuesAt N s y))
+unfolding firstClash
+firstClash-at N r x s y hx hy = ap₂ (λ (xs ys : List Cell). firstClashing xs ys) (cellsOf-at N r x hx) (cellsOf-at N s y hy)
+
+-- tuples of a network without fault clash below 64
+pub firstClash-low : (N : Network) → Faultless N → (g h : ℕ) → g < total N → (v : ℕ) → firstClash N g h ≡ some v → v < variableCount
+unfolding firstClash cellsOf
+firstClash-low N sound g h below =
+    let scope = scopeOf N (relationOf N g) in
+    let exists = ids-relationOf N g below .0 in
+    let proper = all-at (λ (r : ℕ). properScope (scopeOf N r)) (from 0 (length (N .relations))) (sound .scopes) (mem-from 0 (length (N .relations)) (relationOf N g) (omega arith) (omega (arith, exists))) in
+    firstClashing-below scope (tupleOf N g) (cellsOf N h) (and-left (all (λ (x : ℕ). ltb x variableCount) scope) (pairwise different scope) proper)
+
 pub agree-at : (N : Network) (r x s y : ℕ) → x < size N r → y < size N s → agree N (firstId N r + x) (firstId N s + y) ≡ agreeing (cells (scopeOf N r) (valuesAt N r x)) (cells (scopeOf N s) (valuesAt N s y))
-unfolding agree
-agree-at N r x s y hx hy = ap₂ agreeing (cellsOf-at N r x hx) (cellsOf-at N s y hy)
+agree-at N r x s y hx hy = agree-cells N (firstId N r + x) (firstId N s + y) ∙ ap₂ agreeing (cellsOf-at N r x hx) (cellsOf-at N s y hy)
 
 -- tuples with the same values under the variables of relation s agree with the same tuples of it
 pub agree-alike : (N : Network) (test : ℕ → Bool) (g h s z : ℕ) → z < size N s → ((v : ℕ) → elem v (scopeOf N s) ≡ true → test v ≡ true) → under test (cellsOf N g) ≡ under test (cellsOf N h) → agree N g (firstId N s + z) ≡ agree N h (firstId N s + z)
-unfolding agree
 agree-alike N test g h s z l covers same =
     let zs = cells (scopeOf N s) (valuesAt N s z) in
-    ap (agreeing (cellsOf N g)) (cellsOf-at N s z l)
+    agree-cells N g (firstId N s + z)
+    ∙ ap (agreeing (cellsOf N g)) (cellsOf-at N s z l)
     ∙ sym (agreeing-under test (cellsOf N g) (scopeOf N s) (valuesAt N s z) covers)
     ∙ ap (λ (xs : List Cell). agreeing xs zs) same
     ∙ agreeing-under test (cellsOf N h) (scopeOf N s) (valuesAt N s z) covers
     ∙ ap (agreeing (cellsOf N h)) (sym (cellsOf-at N s z l))
+    ∙ sym (agree-cells N h (firstId N s + z))

@@ -8,6 +8,7 @@ use mathlib.Core.List.{List, [], _∷_, List·Memᴰ, List·Memᴰ·tail, List·
 use Prim.Native.Nat.{ℕ, _+_, _*_, _≤_}
 use native.Mathlib.Omega.{arith}
 use lib.ListN.{length}
+use Rattle.model.specs.Lists.{isNone}
 use Rattle.model.specs.declared.Counts.{Counts}
 use Rattle.model.specs.Limits.{wordBits}
 use Rattle.model.specs.TupleSet.{TupleSet, count, without}
@@ -16,7 +17,7 @@ use Rattle.model.specs.Combination.{Combination}
 use Rattle.model.specs.Consistency.{filtered}
 use Rattle.model.specs.LiveWords.{living, written}
 use Rattle.model.specs.Request.{Change, Instance, combinationsOf, removes}
-use Rattle.model.specs.Fault.{firstFault, faultsOn, faults, isNone, accepts}
+use Rattle.model.specs.Fault.{firstFault, faultsOn, faults, accepts}
 use Rattle.model.specs.Reply.{Reply, remainder, countsFor, leaving, accepted, reply, Keeps}
 use Rattle.model.specs.Calls.{Call, lentWords, callRequest, sharedAfter, Proper, Made, callsOf, State, start, after, afterAll, AllKeep, make, makeAll, anyAccepted, removedBy, starting}
 use Rattle.model.proofs.Bools.{not-both, or-false-left, or-false-right}

@@ -16,16 +16,16 @@ use borrow.Author.Tests.{ltb-false, leb-true, eqb-true, not-false}
 use Rattle.model.specs.declared.Relation.{Relation}
 use Rattle.model.specs.declared.Counts.{Counts}
 use Rattle.model.specs.Limits.{maxRelations, maxTuples, minMembers, maxMembers, maxCombinations, noSupport, wordBits}
-use Rattle.model.specs.Lists.{from, sum, all, select, firstOr, each}
+use Rattle.model.specs.Lists.{from, sum, all, select, firstOr, each, isNone}
 use Rattle.model.specs.TupleSet.{TupleSet}
 use Rattle.model.specs.Network.{Network, total, variablesIn, tuplesIn, valuesIn, idsOf, indexOf, scopeOf}
-use Rattle.model.specs.Agreement.{agree}
+use Rattle.model.specs.Agreement.{firstClash}
 use Rattle.model.specs.Combination.{Combination, connected}
 use Rattle.model.specs.Support.{candidates, isSupport, supports, firstSupport}
 use Rattle.model.specs.Consistency.{isConsistent, supportList, needed}
 use Rattle.model.specs.LiveWords.{living, written}
 use Rattle.model.specs.Request.{Change, Instance, combinationsOf, Request}
-use Rattle.model.specs.Fault.{Fault, firstFault, within, properWidth, properScope, properLengths, properList, properMembers, networkFaults, combinationFaults, instanceFaults, wordsFault, supportsFault, changeFaults, idsFault, faultsOn, faults, testFaults, compareFaults, isNone, accepts}
+use Rattle.model.specs.Fault.{Fault, firstFault, within, properWidth, properScope, properLengths, properList, properMembers, networkFaults, combinationFaults, instanceFaults, wordsFault, supportsFault, changeFaults, idsFault, faultsOn, faults, testFaults, compareFaults, accepts}
 use Rattle.model.specs.Reply.{answerNumbers, verdictNumbers, verdictFor, comparisonNumbers, comparisonFor, answerFor, remainder, leaving, accepted, refused, replyTo, reply, testReply, compareReply, request}
 use Rattle.model.specs.Edges.{maxVariables, maxValues, maxMemberList, cutNetwork, cutInstance, restored}
 use Rattle.model.proofs.Bools.{and-left, and-right, false-intro}
@@ -60,7 +60,7 @@ module _ (I : Instance) (f : ℕ) (e : firstFault (instanceFaults I) ≡ some f)
 compareReply-faulty : (N : Network) (f : ℕ) → firstFault (networkFaults N) ≡ some f → (g h : ℕ) → compareReply N g h ≡ (2, f)
 unfolding compareReply compareFaults
 compareReply-faulty N f e g h =
-    ap (λ (o : Option ℕ). comparisonNumbers (comparisonFor o (agree N g h)))
+    ap (λ (o : Option ℕ). comparisonNumbers (comparisonFor o (firstClash N g h)))
     (firstFault-append-some (networkFaults N) (idsFault N (g ∷ h ∷ []) ∷ []) f e)
 
 module _ {I J : Instance} where

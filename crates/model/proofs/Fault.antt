@@ -1,7 +1,7 @@
 -- Laws of the first fault of a table, and what a network and a request without faults have.
 -- From the definitions alone.
 use mathlib.Core.Path.{_≡_, refl, sym, _∙_, ap, subst}
-use mathlib.Core.Bool.{Bool, true, false, cond, false≢true, true≢false}
+use mathlib.Core.Bool.{Bool, true, false, cond}
 use mathlib.Core.Option.{Option, none, some}
 use mathlib.Core.List.{List, [], _∷_, _++_, map, List·Memᴰ, List·Memᴰ·tail, List·Memᴰ·cases-cons, List·Memᴰ·not-nil, Memᴰ·append-left, Memᴰ·append-right}
 use mathlib.Core.Logic.{⊎-elim}
@@ -18,9 +18,9 @@ use Rattle.model.specs.Network.{Network, total, variablesIn, tuplesIn, v
 use Rattle.model.specs.Combination.{Combination}
 use Rattle.model.specs.Consistency.{needed}
 use Rattle.model.specs.Request.{Change, filter, withdraw, choose, Instance, combinationsOf, Request}
-use Rattle.model.specs.Fault.{Fault, firstFault, refusal, within, properWidth, properScope, properLengths, networkFaults, combinationFaults, wordsFault, supportsFault, changeFaults, properMembers, faultsOn, faults, isNone, accepts}
+use Rattle.model.specs.Fault.{Fault, firstFault, refusal, within, properWidth, properScope, properLengths, networkFaults, combinationFaults, wordsFault, supportsFault, changeFaults, properMembers, faultsOn, faults, accepts}
 use Rattle.model.proofs.Bools.{and-left, and-right, or-false-left, or-false-right}
-use Rattle.model.proofs.Lists.{here, all-at}
+use Rattle.model.proofs.Lists.{here, all-at, isNone-none}
 
 -- ---- Reading a table in order
 
@@ -97,14 +97,6 @@ firstFault-number p (f ∷ fs) k h e = either (f .1) (firstFault fs) (and-left (
     either false o here later e = later e
 
 -- ---- The first fault from its refusal number
-
-pub isNone-none : (o : Option ℕ) → isNone o ≡ true → o ≡ none
-isNone-none none e = refl
-isNone-none (some n) e = absurd (false≢true e)
-
-pub isNone-some : (o : Option ℕ) → isNone o ≡ false → (n : ℕ) × (o ≡ some n)
-isNone-some none e = absurd (true≢false e)
-isNone-some (some n) e = (n, refl)
 
 pub refusal-some : (o : Option ℕ) (k : ℕ) → refusal o ≡ k → (k ≡ 0 → ⊥) → o ≡ some k
 refusal-some none k e d = absurd (d (sym e))

@@ -1,9 +1,9 @@
 -- Tests over lists against membership, the choices of one element from each list, and sums over parts of a list.
 use mathlib.Core.Path.{_≡_, refl, sym, _∙_, ap, ap₂, subst}
-use mathlib.Core.Bool.{Bool, true, false, _&&_, _||_, false≢true, and-false, and-assoc}
-use mathlib.Core.Option.{none, some, orElse, Option·getD, Option·some-injective, Option·none-ne-some, Option·some-ne-none}
+use mathlib.Core.Bool.{Bool, true, false, _&&_, _||_, cond, false≢true, true≢false, and-false, and-assoc}
+use mathlib.Core.Option.{Option, none, some, orElse, Option·getD, Option·some-injective, Option·none-ne-some, Option·some-ne-none}
 use mathlib.Core.List.{List, [], _∷_, _++_, map, map-map, map-append, append-assoc, head?, List·Memᴰ, List·Memᴰ·head, List·Memᴰ·tail, List·Memᴰ·eq-of-singleton, List·Memᴰ·cases-cons, List·Memᴰ·append-cases, Memᴰ·append-left, Memᴰ·append-right, Memᴰ·map, Memᴰ·of-map, Memᴰ·cast, List·Memᴰ·not-nil}
-use mathlib.Core.Logic.{⊎-elim}
+use mathlib.Core.Logic.{_⊎_, inl, inr, ⊎-elim}
 use Prim.Native.Nat.{ℕ, zero, suc, _+_, _*_, _-_, _≤_, _<_}
 use native.Mathlib.Numerals.{add-one}
 use native.Mathlib.Omega.{arith}
@@ -13,7 +13,7 @@ use lib.Dec.{ltb, eqb}
 use lib.ListN.{length, getD, set, take, drop, length-map, length-drop}
 use lib.Seq.{take-at, drop-append-add, drop-append-le, take-append-le, drop-cons}
 use borrow.Author.Tests.{eqb-true, eq-eqb, ltb-true, lt-ltb, ne-eqb, le-ltb}
-use Rattle.model.specs.Lists.{all, any, elem, from, sum, select, keepIf, firstOr, pairwise, choices, prefixed, earlier, each}
+use Rattle.model.specs.Lists.{all, any, elem, from, sum, select, keepIf, firstOr, pairwise, choices, prefixed, earlier, each, isNone, lesser, least}
 use Rattle.model.proofs.Bools.{and-left, and-right, and-intro, or-left, or-right, or-cases, iff-eq, not-both}
 
 module _ {ℓ} {A : Type ℓ} where
@@ -205,15 +205,6 @@ module _ {ℓ} {A : Type ℓ} (p : A → Bool) where
       ap (λ (b : Bool). keepIf b x (select p xs)) (and-left (p x) (all p xs) e)
       ∙ ap {B = List A} (λ t. x ∷ t) (select-all xs (and-right (p x) (all p xs) e))
 
-  all-keepIf : (q : A → Bool) (x : A) (ys : List A) (b : Bool) → (b ≡ false → q x ≡ true) → all q (keepIf b x ys) ≡ (q x && all q ys)
-  all-keepIf q x ys true f = refl
-  all-keepIf q x ys false f = ap (λ (c : Bool). c && all q ys) (sym (f refl))
-
-  -- all passes a test where all that is selected does, if what is not selected passes it anyway
-  pub all-select : (q : A → Bool) (xs : List A) → ((x : A) → p x ≡ false → q x ≡ true) → all q (select p xs) ≡ all q xs
-  all-select q [] f = refl
-  all-select q (x ∷ xs) f = all-keepIf q x (select p xs) (p x) (f x) ∙ ap (λ (b : Bool). q x && b) (all-select q xs f)
-
   keepIf-mem : (y : A) (xs : List A) {x : A} → (List·Memᴰ x (select p xs) → List·Memᴰ x xs × (p x ≡ true)) → (v : Bool) → p y ≡ v → List·Memᴰ x (keepIf v y (select p xs)) → List·Memᴰ x (y ∷ xs) × (p x ≡ true)
   keepIf-mem y xs f true e m =
       ⊎-elim (λ q. (List·Memᴰ·head q, ap p q ∙ e)) (λ h. (List·Memᴰ·tail (f h .0), f h .1)) (List·Memᴰ·cases-cons m)
@@ -291,6 +282,66 @@ elem-mem x xs e = let k = any-at (eqb x) xs e in Memᴰ·cast (eqb-true x (k .0)
 
 pub mem-elem : {x : ℕ} (xs : List ℕ) → List·Memᴰ x xs → elem x xs ≡ true
 mem-elem {x} xs m = any-intro (eqb x) xs m (eq-eqb x x refl)
+
+-- ---- The least element
+
+pub isNone-none : (o : Option ℕ) → isNone o ≡ true → o ≡ none
+isNone-none none e = refl
+isNone-none (some n) e = absurd (false≢true e)
+
+pub isNone-some : (o : Option ℕ) → isNone o ≡ false → (n : ℕ) × (o ≡ some n)
+isNone-some none e = absurd (true≢false e)
+isNone-some (some n) e = (n, refl)
+
+pub lesser-cases : (x : ℕ) (o : Option ℕ) → (lesser x o ≡ x) ⊎ (o ≡ some (lesser x o))
+lesser-cases x none = inl refl
+lesser-cases x (some y) = go (ltb y x)
+  where
+    go : (b : Bool) → (cond b y x ≡ x) ⊎ (some y ≡ some (cond b y x))
+    go true = inr refl
+    go false = inl refl
+
+pub lesser-below : (x : ℕ) (o : Option ℕ) → (lesser x o ≤ x) × ((y : ℕ) → o ≡ some y → lesser x o ≤ y)
+lesser-below x none = (omega arith, λ y e. absurd (Option·none-ne-some _ e))
+lesser-below x (some y) = go (decLt y x)
+  where
+    go : Dec (y < x) → (lesser x (some y) ≤ x) × ((z : ℕ) → some y ≡ some z → lesser x (some y) ≤ z)
+    go (yes h) = rw (lt-ltb y x h) (omega arith, λ z e. let q = Option·some-injective y z e in omega arith)
+    go (no h) = rw (le-ltb y x (omega arith)) (omega arith, λ z e. let q = Option·some-injective y z e in omega arith)
+
+pub least-mem : (xs : List ℕ) {x : ℕ} → least xs ≡ some x → List·Memᴰ x xs
+least-mem [] e = absurd (Option·none-ne-some _ e)
+least-mem (y ∷ xs) e =
+    Memᴰ·cast (sym (Option·some-injective _ _ e))
+    (⊎-elim (λ q. List·Memᴰ·head q) (λ q. List·Memᴰ·tail (least-mem xs q)) (lesser-cases y (least xs)))
+
+pub least-none : (xs : List ℕ) {x : ℕ} → least xs ≡ none → List·Memᴰ x xs → ⊥
+least-none [] e m = List·Memᴰ·not-nil m
+least-none (y ∷ xs) e m = Option·some-ne-none _ e
+
+pub least-below : (xs : List ℕ) {x y : ℕ} → least xs ≡ some x → List·Memᴰ y xs → x ≤ y
+least-below [] e m = absurd (List·Memᴰ·not-nil m)
+least-below (z ∷ xs) {x} {y} e m =
+    ⊎-elim
+    (λ q. omega (arith, q, Option·some-injective _ _ e, lesser-below z (least xs) .0))
+    (λ n. tail (least xs) refl n (λ w q. least-below xs q n))
+    (List·Memᴰ·cases-cons m)
+  where
+    tail : (o : Option ℕ) → least xs ≡ o → List·Memᴰ y xs → ((w : ℕ) → least xs ≡ some w → w ≤ y) → x ≤ y
+    tail none q n below = absurd (least-none xs q n)
+    tail (some w) q n below = omega (arith, Option·some-injective _ _ e, lesser-below z (least xs) .1 w q, below w q)
+
+-- an element that no other is below is the least
+pub least-is : (xs : List ℕ) (x : ℕ) → List·Memᴰ x xs → ((y : ℕ) → List·Memᴰ y xs → x ≤ y) → least xs ≡ some x
+least-is xs x m f = go (least xs) refl
+  where
+    go : (o : Option ℕ) → least xs ≡ o → least xs ≡ some x
+    go none e = absurd (least-none xs e m)
+    go (some w) e = let q : w ≡ x = omega (arith, least-below xs e m, f w (least-mem xs e)) in e ∙ ap some q
+
+pub none-least : (xs : List ℕ) → ((y : ℕ) → List·Memᴰ y xs → ⊥) → least xs ≡ none
+none-least [] f = refl
+none-least (x ∷ xs) f = absurd (f x here)
 
 pub from-mem : (i n g : ℕ) → List·Memᴰ g (from i n) → (i ≤ g) × (g < i + n)
 from-mem i zero g m = absurd (List·Memᴰ·not-nil m)

@@ -1,39 +1,42 @@
 -- Mission points 1, 2 and 3, proved of `reply` for every request and every list of calls, and the promises of test and compare.
 -- The statements are the records of specs/Promises.antt; no hypothesis is left that "no listed fault" gives.
 use mathlib.Core.Path.{_≡_, refl, sym, _∙_, ap, ap₂, subst}
-use mathlib.Core.Bool.{Bool, true, false, cond}
+use mathlib.Core.Bool.{Bool, true, false, cond, _&&_}
 use mathlib.Core.Option.{Option, none, some}
 use mathlib.Core.Logic.{_⊎_, _↔_}
-use mathlib.Core.List.{List, [], _∷_, _++_, map, List·Memᴰ}
-use Prim.Native.Nat.{ℕ, _+_}
+use mathlib.Core.List.{List, [], _∷_, _++_, map, List·Memᴰ, Memᴰ·cast}
+use Prim.Native.Nat.{ℕ, _+_, _≤_, _<_}
 use native.Mathlib.Omega.{arith}
 use native.Mathlib.Decide.{decLt}
+use lib.Dec.{leb, ltb}
 use lib.ListN.{length, drop}
-use borrow.Author.Tests.{lt-ltb, not-true}
+use borrow.Author.Tests.{lt-ltb, ltb-true, leb-true, not-true, not-false}
 use Rattle.model.specs.declared.Counts.{Counts}
+use Rattle.model.specs.Limits.{variableCount, noVariable}
 use Rattle.model.specs.Lists.{from, any}
 use Rattle.model.specs.TupleSet.{TupleSet, has, count, without, Largest, Consistent}
 use Rattle.model.specs.Network.{Network, total, idsOf, relationOf}
-use Rattle.model.specs.Agreement.{cellsOf, agree}
+use Rattle.model.specs.Agreement.{clashes, cellsOf, firstClash}
 use Rattle.model.specs.Combination.{Combination, Chain}
 use Rattle.model.specs.Consistency.{supported, isConsistent, filtered, supportList, needed}
 use Rattle.model.specs.Solution.{Assignment, isSolution}
 use Rattle.model.specs.LiveWords.{isLive, living, written}
 use Rattle.model.specs.Request.{filter, withdraw, choose, Instance, combinationsOf, Request, removes}
-use Rattle.model.specs.Fault.{Fault, firstFault, faultsOn, faults, testFaults, compareFaults, accepts}
+use Rattle.model.specs.Fault.{Fault, firstFault, networkFaults, idsFault, faultsOn, faults, testFaults, compareFaults, accepts}
 use Rattle.model.specs.Reply.{Reply, lowestEmpty, answerFor, answerNumbers, remainder, countsFor, leaving, accepted, replyTo, reply, verdictNumbers, comparisonNumbers, verdictFor, comparisonFor, testReply, compareReply}
 use Rattle.model.specs.Calls.{Call, Proper, Made, callsOf, State, start, AllKeep, makeAll, anyAccepted, removedBy, starting, remaining}
-use Rattle.model.specs.Promises.{Tells, Marked, Supports, NoFault, FirstFault, Answered, givenTuples, leftTuples, Filtered, StrikeRule, Apart, Local, Claim, Decides, TestAnswered, FitShared, CompareAnswered}
-use Rattle.model.proofs.Bools.{false-intro}
+use Rattle.model.specs.Promises.{Tells, Marked, Supports, NoFault, FirstFault, Answered, givenTuples, leftTuples, Filtered, StrikeRule, Apart, Local, Claim, TestAnswered, ClashUnder, FirstClash, NoClash, CompareAnswered}
+use Rattle.model.proofs.Bools.{and-left, false-intro}
+use Rattle.model.proofs.Lists.{here, least-mem, least-none, least-below, least-is, none-least}
 use Rattle.model.proofs.TupleSet.{without-length}
 use Rattle.model.proofs.Network.{relationOf-ids, ids-below}
-use Rattle.model.proofs.Agreement.{clash-none, fits-none, agreeing-intro, agreeing-at}
+use Rattle.model.proofs.Agreement.{clash-unfit, clash-is, mem-clashes, clashes-mem, firstClash-low}
 use Rattle.model.proofs.Support.{firstSupport-dead, firstSupport-least}
 use Rattle.model.proofs.Consistency.{supported-at, isConsistent-iff, filtered-largest, filtered-unique, filtered-alone, supportList-length}
 use Rattle.model.proofs.Solution.{isSolution-filtered, isSolution-empty}
 use Rattle.model.proofs.Locality.{filtered-far}
 use Rattle.model.proofs.LiveWords.{written-isLive, written-length, living-written, living-length, living-has}
-use Rattle.model.proofs.Fault.{no-fault-at, none-firstFault, firstFault-some, accepts-words, accepts-exist}
+use Rattle.model.proofs.Fault.{no-fault-at, none-firstFault, firstFault-front, firstFault-back, firstFault-some, firstFault-number, faultless, accepts-words, accepts-exist}
 use Rattle.model.proofs.Reply.{reply-accepted, lowestEmpty-first, answerFor-tells, answerFor-kind, emptied-low, remainder-length, leaving-sum}
 use Rattle.model.proofs.Calls.{afterAll-makeAll, makeAll-accepted, makeAll-none, lists-kept}
 
@@ -217,38 +220,111 @@ claim I ws made proper keep =
 
 -- ---- Test and compare
 
--- an answer that is told by the first fault and by a test of the claim
-module _ (numbers : Option ℕ → Bool → ℕ × ℕ) (fs : List Fault) (claim : Type 0) (b : Bool) (holds : (b ≡ true) ↔ claim) (says-yes : numbers none true ≡ (1, 0)) (says-no : numbers none false ≡ (0, 0)) (refuses : (f : ℕ) (x : Bool) → numbers (some f) x ≡ (2, f)) where
-  only-yes : (o : Option ℕ) → firstFault fs ≡ o → (x : Bool) → b ≡ x → (numbers o x) .0 ≡ 1 → NoFault fs × claim
-  only-yes none e true t k = (λ f m. no-fault-at fs e m, holds .0 t)
-  only-yes none e false t k = absurd (omega (arith, k, ap (λ (n : ℕ × ℕ). n .0) says-no))
-  only-yes (some f) e x t k = absurd (omega (arith, k, ap (λ (n : ℕ × ℕ). n .0) (refuses f x)))
+-- by the first fault and by whether the live tuples are consistent
+module _ (I : Instance) (ws : List ℕ) where
+  abbrev claimed : Type 0
+  claimed = Consistent (supported (I .network) (combinationsOf I)) (starting I ws)
 
-  decides : Decides fs claim (numbers (firstFault fs) b)
-  decides =
+  abbrev holds : Bool
+  holds = isConsistent (I .network) (combinationsOf I) (starting I ws)
+
+  holds-iff : (holds ≡ true) ↔ claimed
+  holds-iff = isConsistent-iff (I .network) (combinationsOf I) (starting I ws)
+
+  abbrev verdict : Option ℕ → Bool → ℕ × ℕ
+  verdict o b = verdictNumbers (verdictFor o b)
+
+  only-yes : (o : Option ℕ) → firstFault (testFaults I ws) ≡ o → (b : Bool) → holds ≡ b → (verdict o b) .0 ≡ 1 → NoFault (testFaults I ws) × claimed
+  only-yes none e true t k = (λ f m. no-fault-at (testFaults I ws) e m, holds-iff .0 t)
+  only-yes none e false t k = absurd (omega (arith, k))
+  only-yes (some f) e b t k = absurd (omega (arith, k))
+
+  pub test-answered : TestAnswered I ws (testReply I ws)
+  unfolding testReply
+  test-answered =
       record {
-        yes = λ none-found t. ap₂ numbers (none-firstFault fs none-found) (holds .1 t) ∙ says-yes;
-        no = λ none-found d. ap₂ numbers (none-firstFault fs none-found) (false-intro b (λ t. d (holds .0 t))) ∙ says-no;
-        refused = λ f first. ap (λ (o : Option ℕ). numbers o b) (first-fault first) ∙ refuses f b;
-        only = only-yes (firstFault fs) refl b refl;
+        yes = λ sound t. ap₂ verdict (none-firstFault (testFaults I ws) sound) (holds-iff .1 t);
+        no = λ sound d. ap₂ verdict (none-firstFault (testFaults I ws) sound) (false-intro holds (λ t. d (holds-iff .0 t)));
+        refused = λ f first. ap (λ (o : Option ℕ). verdict o holds) (first-fault first);
+        only = only-yes (firstFault (testFaults I ws)) refl holds refl;
       }
 
-pub test-answered : (I : Instance) (ws : List ℕ) → TestAnswered I ws (testReply I ws)
-unfolding testReply
-test-answered I ws =
-    decides (λ o x. verdictNumbers (verdictFor o x)) (testFaults I ws) (Consistent (supported (I .network) (combinationsOf I)) (starting I ws))
-    (isConsistent (I .network) (combinationsOf I) (starting I ws)) (isConsistent-iff (I .network) (combinationsOf I) (starting I ws))
-    refl refl (λ f x. refl)
+-- by the first fault and the first clash
+module _ (N : Network) (g h : ℕ) where
+  abbrev under : ℕ → Type 0
+  under x = List·Memᴰ x (clashes (cellsOf N g) (cellsOf N h))
 
-agree-iff : (N : Network) (g h : ℕ) → (agree N g h ≡ true) ↔ FitShared N g h
-unfolding agree
-agree-iff N g h = (
-  λ e x y mx my same. fits-none x y same (agreeing-at (cellsOf N g) (cellsOf N h) e mx my),
-  λ f. agreeing-intro (cellsOf N g) (cellsOf N h) (λ x y mx my. clash-none x y (f x y mx my)),
-)
+  clash-under : {x : ℕ} → under x → ClashUnder N g h x
+  clash-under {x} m =
+      let k = clashes-mem (cellsOf N g) (cellsOf N h) m in
+      let c = clash-is (k .0) (k .1) (k .5) in
+      let own : (x, k .0 .1) ≡ k .0 = λ i. (sym (k .4) i, k .0 .1) in
+      let other : (x, k .1 .1) ≡ k .1 = λ i. ((sym (k .4) ∙ c .0) i, k .1 .1) in
+      (k .0 .1, k .1 .1, Memᴰ·cast own (k .2), Memᴰ·cast other (k .3), c .1)
 
-pub compare-answered : (N : Network) (g h : ℕ) → CompareAnswered N g h (compareReply N g h)
-unfolding compareReply
-compare-answered N g h =
-    decides (λ o x. comparisonNumbers (comparisonFor o x)) (compareFaults N g h) (FitShared N g h) (agree N g h) (agree-iff N g h)
-    refl refl (λ f x. refl)
+  under-clash : {x : ℕ} → ClashUnder N g h x → under x
+  under-clash {x} c = mem-clashes (cellsOf N g) (cellsOf N h) (c .2) (c .3) (clash-unfit (x, c .0) (x, c .1) refl (c .4))
+
+  firstClash-is : (x : ℕ) → FirstClash N g h x → firstClash N g h ≡ some x
+  unfolding firstClash
+  firstClash-is x c =
+      least-is (clashes (cellsOf N g) (cellsOf N h)) x (under-clash (c .0))
+      (λ y m. below y m (decLt y x))
+    where
+      below : (y : ℕ) → under y → Dec (y < x) → x ≤ y
+      below y m (yes l) = absurd (c .1 y l (clash-under m))
+      below y m (no l) = omega arith
+
+  is-firstClash : {x : ℕ} → firstClash N g h ≡ some x → FirstClash N g h x
+  unfolding firstClash
+  is-firstClash e = (
+    clash-under (least-mem (clashes (cellsOf N g) (cellsOf N h)) e),
+    λ y l c. omega (arith, l, least-below (clashes (cellsOf N g) (cellsOf N h)) e (under-clash c)),
+  )
+
+  firstClash-none : NoClash N g h → firstClash N g h ≡ none
+  unfolding firstClash
+  firstClash-none f = none-least (clashes (cellsOf N g) (cellsOf N h)) (λ x m. f x (clash-under m))
+
+  none-firstClash : firstClash N g h ≡ none → NoClash N g h
+  unfolding firstClash
+  none-firstClash e x c = least-none (clashes (cellsOf N g) (cellsOf N h)) e (under-clash c)
+
+  abbrev answer : Option ℕ → Option ℕ → ℕ × ℕ
+  answer o clash = comparisonNumbers (comparisonFor o clash)
+
+  abbrev Only : ℕ × ℕ → Type 0
+  Only n =
+      (n .0 ≡ 0 → NoFault (compareFaults N g h) × FirstClash N g h (n .1)) × (n .0 ≡ 1 → NoFault (compareFaults N g h) × NoClash N g h)
+
+  only : (o clash : Option ℕ) → firstFault (compareFaults N g h) ≡ o → firstClash N g h ≡ clash → Only (answer o clash)
+  only none none e d = (λ k. absurd (omega (arith, k)), λ k. (λ f m. no-fault-at (compareFaults N g h) e m, none-firstClash d))
+  only none (some x) e d = (λ k. (λ f m. no-fault-at (compareFaults N g h) e m, is-firstClash d), λ k. absurd (omega (arith, k)))
+  only (some f) c e d = (λ k. absurd (omega (arith, k)), λ k. absurd (omega (arith, k)))
+
+  -- without fault, the clash is below 64
+  clash-low : firstFault (compareFaults N g h) ≡ none → (x : ℕ) → firstClash N g h ≡ some x → x < variableCount
+  unfolding compareFaults
+  clash-low e =
+      let ids = not-false _ (no-fault-at (idsFault N (g ∷ h ∷ []) ∷ []) (firstFault-back (networkFaults N) (idsFault N (g ∷ h ∷ []) ∷ []) e) here) in
+      firstClash-low N (faultless N (firstFault-front (networkFaults N) (idsFault N (g ∷ h ∷ []) ∷ []) e)) g h
+      (ltb-true g (total N) (and-left (ltb g (total N)) (ltb h (total N) && true) ids))
+
+  number-low : (o clash : Option ℕ) → firstFault (compareFaults N g h) ≡ o → firstClash N g h ≡ clash → (answer o clash) .1 ≤ noVariable
+  unfolding compareFaults
+  number-low none none e d = omega arith
+  number-low none (some x) e d = omega (arith, clash-low e x d)
+  number-low (some f) c e d = leb-true f noVariable (firstFault-number (λ (k : ℕ). leb k noVariable) (compareFaults N g h) f refl e)
+
+  pub compare-answered : CompareAnswered N g h (compareReply N g h)
+  unfolding compareReply
+  compare-answered =
+      let o = only (firstFault (compareFaults N g h)) (firstClash N g h) refl refl in
+      record {
+        names = λ sound x c. ap₂ answer (none-firstFault (compareFaults N g h) sound) (firstClash-is x c);
+        agrees = λ sound c. ap₂ answer (none-firstFault (compareFaults N g h) sound) (firstClash-none c);
+        refused = λ f first. ap (λ (p : Option ℕ). answer p (firstClash N g h)) (first-fault first);
+        names-only = o .0;
+        agrees-only = o .1;
+        low = number-low (firstFault (compareFaults N g h)) (firstClash N g h) refl refl;
+      }

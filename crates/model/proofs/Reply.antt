@@ -10,6 +10,7 @@ use native.Mathlib.Decide.{decLt}
 use lib.Dec.{ltb}
 use lib.ListN.{length, drop}
 use borrow.Author.Tests.{lt-ltb, le-ltb}
+use Rattle.model.specs.Lists.{isNone}
 use Rattle.model.specs.declared.Counts.{Counts}
 use Rattle.model.specs.declared.Answer.the-variants.{Settled, Emptied}
 use Rattle.model.specs.TupleSet.{TupleSet, has, count, restrict, without}
@@ -17,12 +18,12 @@ use Rattle.model.specs.Network.{Network, total, size, firstId}
 use Rattle.model.specs.Consistency.{isConsistent, supportList, needed}
 use Rattle.model.specs.LiveWords.{isLive, living, nextLive, written}
 use Rattle.model.specs.Request.{Change, Instance, combinationsOf, Request, removes}
-use Rattle.model.specs.Fault.{firstFault, refusal, within, faultsOn, faults, testFaults, isNone, accepts}
+use Rattle.model.specs.Fault.{firstFault, refusal, within, faultsOn, faults, testFaults, accepts}
 use Rattle.model.specs.Reply.{Numbers, answerNumbers, verdictNumbers, verdictFor, Reply, isEmptied, lowestEmpty, answerFor, remainder, countsFor, leaving, accepted, refused, replyTo, reply, testReply}
 use Rattle.model.specs.Promises.{Tells}
 use Rattle.model.proofs.Bools.{not-both}
-use Rattle.model.proofs.Lists.{First, select-from, any-first}
-use Rattle.model.proofs.Fault.{isNone-none, isNone-some, refusal-some, refusal-none, refusal-within, refusal-all}
+use Rattle.model.proofs.Lists.{First, select-from, any-first, isNone-none, isNone-some}
+use Rattle.model.proofs.Fault.{refusal-some, refusal-none, refusal-within, refusal-all}
 use Rattle.model.proofs.TupleSet.{without-count, without-length}
 use Rattle.model.proofs.Consistency.{filtered-length, filtered-count}
 use Rattle.model.proofs.LiveWords.{living-has, nextLive-first, written-written}

@@ -1,5 +1,5 @@
 -- No solution is lost by filtering, and where a relation is empty there is none.
-use mathlib.Core.Path.{_≡_, refl, sym, subst}
+use mathlib.Core.Path.{_≡_, refl, sym, _∙_, subst}
 use mathlib.Core.Bool.{true, false, _&&_}
 use mathlib.Core.List.{List, [], _∷_, map, List·Memᴰ, List·Memᴰ·head, List·Memᴰ·tail, List·Memᴰ·cases-cons, List·Memᴰ·not-nil}
 use mathlib.Core.Logic.{⊎-elim}
@@ -18,7 +18,7 @@ use Rattle.model.proofs.Bools.{and-left, and-right, and-intro, not-both
 use Rattle.model.proofs.Lists.{all-at, all-intro, any-at, any-intro, pairwise-intro, Picks, done, pick, here, from-mem, mem-from}
 use Rattle.model.proofs.TupleSet.{has-below}
 use Rattle.model.proofs.Network.{ids-relationOf}
-use Rattle.model.proofs.Agreement.{fit-common, clash-none, agreeing-intro}
+use Rattle.model.proofs.Agreement.{fit-common, clash-none, agreeing-intro, agree-cells}
 use Rattle.model.proofs.Support.{isSupport-intro, picks-candidates}
 use Rattle.model.proofs.Consistency.{supported-intro, filtered-keeps}
 
@@ -29,9 +29,9 @@ module _ (N : Network) (a : Assignment) where
 
   -- tuples that follow one assignment agree
   pub follows-agree : (g h : ℕ) → follows N a g ≡ true → follows N a h ≡ true → agree N g h ≡ true
-  unfolding agree
   follows-agree g h p q =
-      agreeing-intro (cellsOf N g) (cellsOf N h)
+      agree-cells N g h
+      ∙ agreeing-intro (cellsOf N g) (cellsOf N h)
       (λ x y mx my. clash-none x y
       (λ e. fit-common (x .1) (y .1) (a (x .0)) (follows-at g p mx) (subst (λ (v : ℕ). fit (y .1) (a v) ≡ true) (sym e) (follows-at h q my))))
 

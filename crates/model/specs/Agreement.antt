@@ -1,9 +1,11 @@
--- When two tuples agree, and when two relations share a variable.
+-- Where two tuples clash, when they agree, and when two relations share a variable.
 use mathlib.Core.Bool.{Bool, not, _&&_}
-use mathlib.Core.List.{List, [], _∷_}
+use mathlib.Core.Option.{Option, none, some}
+use mathlib.Core.List.{List, [], _∷_, map}
 use Prim.Native.Nat.{ℕ}
 use lib.Dec.{eqb}
-use Rattle.model.specs.Lists.{all, any, elem, select}
+use Rattle.model.specs.Limits.{noVariable}
+use Rattle.model.specs.Lists.{any, elem, select, isNone, least}
 use Rattle.model.specs.Network.{Network, relationOf, scopeOf, tupleOf}
 
 -- Two values fit (document 01: two codes fit only if equal).
@@ -24,9 +26,17 @@ cells (x ∷ xs) (v ∷ vs) = (x, v) ∷ cells xs vs
 unfoldable pub clash : Cell → Cell → Bool
 clash x y = eqb (x .0) (y .0) && not (fit (x .1) (y .1))
 
--- no cell of the one clashes with a cell of the other, in whatever places they stand
+-- the variables under which a cell of the one clashes with a cell of the other, in whatever places they stand
+unfoldable pub clashes : List Cell → List Cell → List ℕ
+clashes xs ys = map (λ (x : Cell). x .0) (select (λ (x : Cell). any (clash x) ys) xs)
+
+-- the lowest of them, or none
+abbrev pub firstClashing : List Cell → List Cell → Option ℕ
+firstClashing xs ys = least (clashes xs ys)
+
+-- there is none
 unfoldable pub agreeing : List Cell → List Cell → Bool
-agreeing xs ys = all (λ (x : Cell). all (λ (y : Cell). not (clash x y)) ys) xs
+agreeing xs ys = isNone (firstClashing xs ys)
 
 -- the cells under the variables that pass the test
 abbrev pub under : (ℕ → Bool) → List Cell → List Cell
@@ -35,9 +45,19 @@ under test xs = select (λ (x : Cell). test (x .0)) xs
 unfoldable pub cellsOf : Network → ℕ → List Cell
 cellsOf N g = cells (scopeOf N (relationOf N g)) (tupleOf N g)
 
--- The tuples with ids g and h agree: their values fit under every variable that both scopes have.
+-- Where the tuples with ids g and h clash: the lowest variable that both scopes have and whose values do not fit, or none (card 3:
+-- the lowest-numbered shared question on which two rows differ).
+unfoldable pub firstClash : Network → ℕ → ℕ → Option ℕ
+firstClash N g h = firstClashing (cellsOf N g) (cellsOf N h)
+
+-- The two tuples agree: they clash nowhere.
 unfoldable pub agree : Network → ℕ → ℕ → Bool
-agree N g h = agreeing (cellsOf N g) (cellsOf N h)
+agree N g h = isNone (firstClash N g h)
+
+-- a clash as one number
+abbrev pub clashNumber : Option ℕ → ℕ
+clashNumber none = noVariable
+clashNumber (some x) = x
 
 -- Relations r and s share a variable.
 unfoldable pub share : Network → ℕ → ℕ → Bool

@@ -19,7 +19,7 @@ use Rattle.model.specs.Request
 use Rattle.model.specs.Request.{Instance, Request, Change, filter, withdraw, choose}
 use Rattle.model.specs.Fault
 use Rattle.model.specs.Reply
-use Rattle.model.specs.Reply.{Numbers, reply}
+use Rattle.model.specs.Reply.{Numbers, reply, compareReply}
 use Rattle.model.specs.Text
 use Rattle.model.specs.Text.{textOf}
 use Rattle.model.specs.Reading
@@ -123,7 +123,7 @@ said e = (e .answer, e .words, e .supports)
 
 -- P1 to P9
 pub examples : map given table ≡ map said table
-unfolding table given said relation networkA triangle lone pairs asked next numbers p1 p3 p6 p7 TupleSet.closure Network.relationOf Network.indexOf Network.scopeOf Network.valuesAt Network.tupleOf Agreement.fit Agreement.clash Agreement.agreeing Agreement.cellsOf Agreement.agree Agreement.share Combination.combinations Combination.connected Support.candidates Support.isSupport Support.supports Support.firstSupport Consistency.supported Consistency.filtered Consistency.supportList Consistency.needed LiveWords.bit LiveWords.isSet LiveWords.isLive LiveWords.living LiveWords.word LiveWords.written Request.removes Fault.faultsOn Fault.faults Reply.lowestEmpty Reply.answerFor Reply.remainder Reply.countsFor Reply.leaving Reply.accepted Reply.reply
+unfolding table given said relation networkA triangle lone pairs asked next numbers p1 p3 p6 p7 TupleSet.closure Network.relationOf Network.indexOf Network.scopeOf Network.valuesAt Network.tupleOf Agreement.fit Agreement.clash Agreement.clashes Agreement.cellsOf Agreement.firstClash Agreement.agree Agreement.share Combination.combinations Combination.connected Support.candidates Support.isSupport Support.supports Support.firstSupport Consistency.supported Consistency.filtered Consistency.supportList Consistency.needed LiveWords.bit LiveWords.isSet LiveWords.isLive LiveWords.living LiveWords.word LiveWords.written Request.removes Fault.faultsOn Fault.faults Reply.lowestEmpty Reply.answerFor Reply.remainder Reply.countsFor Reply.leaving Reply.accepted Reply.reply
 examples = refl
 
 -- ---- The first fault wins
@@ -161,8 +161,24 @@ damaged =
 
 -- each is refused with the number of its first fault
 first-fault-wins : map (λ (q : Request). (reply q) .answer) damaged ≡ map (λ (n : ℕ). numbers 2 n 0 0 0) (from 2 13)
-unfolding damaged twins sized bare relation asked numbers TupleSet.closure Network.relationOf Network.indexOf Network.scopeOf Network.valuesAt Network.tupleOf Agreement.fit Agreement.clash Agreement.agreeing Agreement.cellsOf Agreement.agree Agreement.share Combination.combinations Combination.connected Support.candidates Support.isSupport Support.supports Support.firstSupport Consistency.supported Consistency.filtered Consistency.supportList Consistency.needed LiveWords.bit LiveWords.isSet LiveWords.isLive LiveWords.living LiveWords.word LiveWords.written Request.removes Fault.faultsOn Fault.faults Reply.lowestEmpty Reply.answerFor Reply.remainder Reply.countsFor Reply.leaving Reply.accepted Reply.reply
+unfolding damaged twins sized bare relation asked numbers TupleSet.closure Network.relationOf Network.indexOf Network.scopeOf Network.valuesAt Network.tupleOf Agreement.fit Agreement.clash Agreement.clashes Agreement.cellsOf Agreement.firstClash Agreement.agree Agreement.share Combination.combinations Combination.connected Support.candidates Support.isSupport Support.supports Support.firstSupport Consistency.supported Consistency.filtered Consistency.supportList Consistency.needed LiveWords.bit LiveWords.isSet LiveWords.isLive LiveWords.living LiveWords.word LiveWords.written Request.removes Fault.faultsOn Fault.faults Reply.lowestEmpty Reply.answerFor Reply.remainder Reply.countsFor Reply.leaving Reply.accepted Reply.reply
 first-fault-wins = refl
+
+-- ---- Where two tuples clash
+
+-- scopes 9, 4, 1 and 4, 9, 2: shared variables in falling order, and in other places
+unfoldable pub crossed : Network
+crossed =
+    record {
+      relations = relation 3 2 ∷ relation 3 3 ∷ [];
+      variables = 9 ∷ 4 ∷ 1 ∷ 4 ∷ 9 ∷ 2 ∷ [];
+      values = 5 ∷ 6 ∷ 7 ∷ 5 ∷ 6 ∷ 8 ∷ 6 ∷ 5 ∷ 7 ∷ 1 ∷ 2 ∷ 3 ∷ 6 ∷ 2 ∷ 3 ∷ [];
+    }
+
+-- the lowest clash is named, whichever is met first and whichever tuple is named first
+first-clashes : map (λ (p : ℕ × ℕ). compareReply crossed (p .0) (p .1)) ((0, 2) ∷ (0, 3) ∷ (3, 0) ∷ (0, 4) ∷ (0, 1) ∷ (0, 5) ∷ []) ≡ (1, 64) ∷ (0, 4) ∷ (0, 4) ∷ (0, 9) ∷ (0, 1) ∷ (2, 13) ∷ []
+unfolding crossed relation Network.relationOf Network.indexOf Network.scopeOf Network.valuesAt Network.tupleOf Agreement.fit Agreement.clash Agreement.clashes Agreement.cellsOf Agreement.firstClash Fault.compareFaults Reply.compareReply
+first-clashes = refl
 
 -- ---- The desk's text
 
@@ -201,7 +217,7 @@ listedA =
     ∷ []
 
 input-A : listing (textOf linesA) ≡ textOf listedA
-unfolding linesA listedA Text.decimal Text.textOf Reading.readField Reading.readInstance Reading.read Listing.allLive Listing.fresh Listing.tupleLines Listing.replyLines Listing.listing relation asked numbers TupleSet.closure Network.relationOf Network.indexOf Network.scopeOf Network.valuesAt Network.tupleOf Agreement.fit Agreement.clash Agreement.agreeing Agreement.cellsOf Agreement.agree Agreement.share Combination.combinations Combination.connected Support.candidates Support.isSupport Support.supports Support.firstSupport Consistency.supported Consistency.filtered Consistency.supportList Consistency.needed LiveWords.bit LiveWords.isSet LiveWords.isLive LiveWords.living LiveWords.word LiveWords.written Request.removes Fault.faultsOn Fault.faults Reply.lowestEmpty Reply.answerFor Reply.remainder Reply.countsFor Reply.leaving Reply.accepted Reply.reply
+unfolding linesA listedA Text.decimal Text.textOf Reading.readField Reading.readInstance Reading.read Listing.allLive Listing.fresh Listing.tupleLines Listing.replyLines Listing.listing relation asked numbers TupleSet.closure Network.relationOf Network.indexOf Network.scopeOf Network.valuesAt Network.tupleOf Agreement.fit Agreement.clash Agreement.clashes Agreement.cellsOf Agreement.firstClash Agreement.agree Agreement.share Combination.combinations Combination.connected Support.candidates Support.isSupport Support.supports Support.firstSupport Consistency.supported Consistency.filtered Consistency.supportList Consistency.needed LiveWords.bit LiveWords.isSet LiveWords.isLive LiveWords.living LiveWords.word LiveWords.written Request.removes Fault.faultsOn Fault.faults Reply.lowestEmpty Reply.answerFor Reply.remainder Reply.countsFor Reply.leaving Reply.accepted Reply.reply
 input-A = refl
 
 -- the text of n relations of w variables and h tuples, whose values are all v, and of k combinations of m

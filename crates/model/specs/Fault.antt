@@ -1,5 +1,5 @@
 -- The faults of each call, in checking order (document 01: refused requests).
-use mathlib.Core.Bool.{Bool, true, false, not, _&&_, _||_, cond}
+use mathlib.Core.Bool.{Bool, not, _&&_, _||_, cond}
 use mathlib.Core.Option.{Option, none, some}
 use mathlib.Core.List.{List, [], _∷_, _++_, map}
 use Prim.Native.Nat.{ℕ, _*_, _/_, _%_}
@@ -7,7 +7,7 @@ use lib.Dec.{leb, ltb, eqb}
 use lib.ListN.{length}
 use Rattle.model.specs.declared.Relation.{Relation}
 use Rattle.model.specs.Limits.{maxRelations, maxWidth, maxTuples, variableCount, minMembers, maxMembers, maxCombinations, maxSupportNumbers, wordBits}
-use Rattle.model.specs.Lists.{from, sum, all, pairwise}
+use Rattle.model.specs.Lists.{from, sum, all, pairwise, isNone}
 use Rattle.model.specs.Network.{Network, total, variablesIn, valuesIn, scopeOf}
 use Rattle.model.specs.Combination.{Combination, connected}
 use Rattle.model.specs.Consistency.{needed}
@@ -110,10 +110,6 @@ testFaults I ws = instanceFaults I ++ (wordsFault (I .network) (length ws) ∷ [
 -- of compare
 unfoldable pub compareFaults : Network → ℕ → ℕ → List Fault
 compareFaults N g h = networkFaults N ++ (idsFault N (g ∷ h ∷ []) ∷ [])
-
-abbrev pub isNone : Option ℕ → Bool
-isNone none = true
-isNone (some k) = false
 
 -- the request has no fault
 unfoldable pub accepts : Request → Bool

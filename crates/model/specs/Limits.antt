@@ -17,6 +17,10 @@ maxTuples = 4096
 abbrev pub variableCount : ℕ
 variableCount = 64
 
+-- named in place of a variable where two tuples agree (card 3)
+abbrev pub noVariable : ℕ
+noVariable = 64
+
 -- "m from 2 to 4"
 abbrev pub minMembers : ℕ
 minMembers = 2

@@ -1,5 +1,6 @@
 -- Lists, and tests on them that compute.
-use mathlib.Core.Bool.{Bool, true, false, _&&_, _||_}
+use mathlib.Core.Bool.{Bool, true, false, _&&_, _||_, cond}
+use mathlib.Core.Option.{Option, none, some}
 use mathlib.Core.List.{List, [], _∷_, _++_, map}
 use Prim.Native.Nat.{ℕ, zero, suc, _+_}
 use lib.Dec.{ltb, eqb}
@@ -70,6 +71,20 @@ earlier (x ∷ xs) (y ∷ ys) = ltb x y || (eqb x y && earlier xs ys)
 
 abbrev pub elem : ℕ → List ℕ → Bool
 elem x = any (eqb x)
+
+abbrev pub isNone : Option ℕ → Bool
+isNone none = true
+isNone (some x) = false
+
+-- the lesser of x and a number, if there is one
+abbrev pub lesser : ℕ → Option ℕ → ℕ
+lesser x none = x
+lesser x (some y) = cond (ltb y x) y x
+
+-- the least element, or none
+abbrev pub least : List ℕ → Option ℕ
+least [] = none
+least (x ∷ xs) = some (lesser x (least xs))
 
 -- f applied n times
 abbrev pub iterate {ℓ} : {A : Type ℓ} → ℕ → (A → A) → A → A

@@ -5,14 +5,14 @@ use mathlib.Core.Bool.{true, false, cond}
 use mathlib.Core.Option.{some}
 use mathlib.Core.Logic.{_⊎_}
 use mathlib.Core.List.{List, _∷_, _++_, map, List·Memᴰ}
-use Prim.Native.Nat.{ℕ, _+_, _*_, _<_}
+use Prim.Native.Nat.{ℕ, _+_, _*_, _≤_, _<_}
 use lib.Dec.{ltb}
 use lib.ListN.{length, drop, replicate}
-use Rattle.model.specs.Limits.{maxRelations, noSupport, wordBits}
+use Rattle.model.specs.Limits.{maxRelations, noVariable, noSupport, wordBits}
 use Rattle.model.specs.Lists.{earlier}
 use Rattle.model.specs.TupleSet.{TupleSet, has, count, without, Largest, Consistent}
 use Rattle.model.specs.Network.{Network, total, idsOf, relationOf, indexOf}
-use Rattle.model.specs.Agreement.{Cell, fit, cellsOf}
+use Rattle.model.specs.Agreement.{fit, cellsOf}
 use Rattle.model.specs.Combination.{Combination, Chain}
 use Rattle.model.specs.Support.{candidates, isSupport, firstSupport}
 use Rattle.model.specs.Consistency.{supported, supportList, needed}
@@ -144,10 +144,24 @@ pub record Decides (fs : List Fault) (claim : Type 0) (n : ℕ × ℕ) : Type 0 
 abbrev pub TestAnswered : Instance → List ℕ → ℕ × ℕ → Type 0
 TestAnswered I ws n = Decides (testFaults I ws) (Consistent (supported (I .network) (combinationsOf I)) (starting I ws)) n
 
--- the values of tuples g and h fit under every variable that both their scopes have
-abbrev pub FitShared : Network → ℕ → ℕ → Type 0
-FitShared N g h = (x y : Cell) → List·Memᴰ x (cellsOf N g) → List·Memᴰ y (cellsOf N h) → x .0 ≡ y .0 → fit (x .1) (y .1) ≡ true
+-- both scopes have variable x, and the values of tuples g and h under it do not fit
+abbrev pub ClashUnder : Network → ℕ → ℕ → ℕ → Type 0
+ClashUnder N g h x = (a : ℕ) × (b : ℕ) × List·Memᴰ (x, a) (cellsOf N g) × List·Memᴰ (x, b) (cellsOf N h) × (fit a b ≡ false)
 
--- compare
-abbrev pub CompareAnswered : Network → ℕ → ℕ → ℕ × ℕ → Type 0
-CompareAnswered N g h n = Decides (compareFaults N g h) (FitShared N g h) n
+-- .. and it is the lowest such variable
+abbrev pub FirstClash : Network → ℕ → ℕ → ℕ → Type 0
+FirstClash N g h x = ClashUnder N g h x × ((y : ℕ) → y < x → ClashUnder N g h y → ⊥)
+
+-- the values under every variable that both scopes have fit
+abbrev pub NoClash : Network → ℕ → ℕ → Type 0
+NoClash N g h = (x : ℕ) → ClashUnder N g h x → ⊥
+
+-- compare, whose answer has the numbers n: it names x exactly if there is no fault and x is the first clash; it says agree exactly if
+-- there is no fault and no clash; and it is refused for the first fault. The second number is at most 64.
+pub record CompareAnswered (N : Network) (g h : ℕ) (n : ℕ × ℕ) : Type 0 where
+  pub names : NoFault (compareFaults N g h) → (x : ℕ) → FirstClash N g h x → n ≡ (0, x)
+  pub agrees : NoFault (compareFaults N g h) → NoClash N g h → n ≡ (1, noVariable)
+  pub refused : (f : ℕ) → FirstFault f (compareFaults N g h) → n ≡ (2, f)
+  pub names-only : n .0 ≡ 0 → NoFault (compareFaults N g h) × FirstClash N g h (n .1)
+  pub agrees-only : n .0 ≡ 1 → NoFault (compareFaults N g h) × NoClash N g h
+  pub low : n .1 ≤ noVariable

@@ -13,11 +13,11 @@ use Rattle.model.specs.declared.Verdict.{Verdict}
 use Rattle.model.specs.declared.Verdict.the-variants as verdict
 use Rattle.model.specs.declared.Comparison.{Comparison}
 use Rattle.model.specs.declared.Comparison.the-variants as comparison
-use Rattle.model.specs.Limits.{maxRelations}
+use Rattle.model.specs.Limits.{maxRelations, noVariable}
 use Rattle.model.specs.Lists.{from, any, select, firstOr}
 use Rattle.model.specs.TupleSet.{TupleSet, has, count, restrict, without}
 use Rattle.model.specs.Network.{Network, total, idsOf}
-use Rattle.model.specs.Agreement.{agree}
+use Rattle.model.specs.Agreement.{firstClash}
 use Rattle.model.specs.Consistency.{filtered, isConsistent, supportList, needed}
 use Rattle.model.specs.LiveWords.{living, written}
 use Rattle.model.specs.Request.{Change, Instance, combinationsOf, Request, removes}
@@ -109,15 +109,16 @@ replyTo (some f) q = refused f q
 unfoldable pub reply : Request → Reply
 reply q = replyTo (firstFault (faults q)) q
 
--- The numbers of test's and compare's answers: 0 no, 1 yes, 2 refused; and the refusal number.
+-- The numbers of test's answer: 0 no, 1 yes, 2 refused; and the refusal number.
 abbrev pub verdictNumbers : Verdict → ℕ × ℕ
 verdictNumbers verdict.No = (0, 0)
 verdictNumbers verdict.Yes = (1, 0)
 verdictNumbers (verdict.Refused f) = (2, f)
 
+-- .. and of compare's: 0 differ, with the variable; 1 agree, with 64; 2 refused, with the refusal number
 abbrev pub comparisonNumbers : Comparison → ℕ × ℕ
-comparisonNumbers comparison.Differ = (0, 0)
-comparisonNumbers comparison.Agree = (1, 0)
+comparisonNumbers (comparison.Differ x) = (0, x)
+comparisonNumbers comparison.Agree = (1, noVariable)
 comparisonNumbers (comparison.Refused f) = (2, f)
 
 abbrev pub verdictFor : Option ℕ → Bool → Verdict
@@ -125,10 +126,11 @@ verdictFor none true = verdict.Yes
 verdictFor none false = verdict.No
 verdictFor (some f) b = verdict.Refused f
 
-abbrev pub comparisonFor : Option ℕ → Bool → Comparison
-comparisonFor none true = comparison.Agree
-comparisonFor none false = comparison.Differ
-comparisonFor (some f) b = comparison.Refused f
+-- by the first fault and the first clash
+abbrev pub comparisonFor : Option ℕ → Option ℕ → Comparison
+comparisonFor none none = comparison.Agree
+comparisonFor none (some x) = comparison.Differ x
+comparisonFor (some f) clash = comparison.Refused f
 
 -- What test answers: are the live words consistent. It writes nothing.
 unfoldable pub testReply : Instance → List ℕ → ℕ × ℕ
@@ -136,9 +138,9 @@ testReply I ws =
     verdictNumbers
     (verdictFor (firstFault (testFaults I ws)) (isConsistent (I .network) (combinationsOf I) (living (total (I .network)) ws)))
 
--- What compare answers: do the tuples with ids g and h agree. It writes nothing.
+-- What compare answers: where the tuples with ids g and h clash, or that they agree. It writes nothing.
 unfoldable pub compareReply : Network → ℕ → ℕ → ℕ × ℕ
-compareReply N g h = comparisonNumbers (comparisonFor (firstFault (compareFaults N g h)) (agree N g h))
+compareReply N g h = comparisonNumbers (comparisonFor (firstFault (compareFaults N g h)) (firstClash N g h))
 
 -- ---- The contracts of the published calls, which they cite by these names
 

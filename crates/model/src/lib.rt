@@ -11,6 +11,9 @@ pub const MAX_TUPLES: usize = 4096;
 
 pub const VARIABLES: usize = 64;
 
+// in place of a variable where two tuples agree (card 3)
+pub const NO_VARIABLE: u16 = 64;
+
 pub const MIN_MEMBERS: usize = 2;
 
 pub const MAX_MEMBERS: usize = 4;
@@ -54,10 +57,10 @@ pub enum Verdict {
     Refused(u8),
 }
 
-// What compare answers.
+// What compare answers: Differ names the lowest variable under which the tuples clash.
 pub enum Comparison {
     Agree,
-    Differ,
+    Differ(u16),
     Refused(u8),
 }
 

@@ -20,7 +20,7 @@ use Rattle.model.proofs.Bools.{and-left, and-intro, or-right, not-both}
 use Rattle.model.proofs.Lists.{from-append, all-of-append}
 use Rattle.model.proofs.Network.{ids-apart}
 use Rattle.model.proofs.LiveWords.{nextLive-first}
-use Rattle.model.proofs.Agreement.{cellAt, cellsOf-at, agreeing-clash, clash-unfit, fit-equal}
+use Rattle.model.proofs.Agreement.{cellAt, cellsOf-at, agreeing-clash, clash-unfit, fit-equal, agree-cells}
 use Rattle.layout.specs.Setting.{Lists, networkIn, SoundLists}
 use Rattle.layout.proofs.Places.{below-limit, scope-length, values-length}
 use Rattle.value_index.specs.Plan.{columnStart, digitCount, rowAt}
@@ -96,7 +96,6 @@ agreeing-none N r x s ws = record { inside = λ g e. e; outside = λ g o. refl; 
 
 -- relation s, by its scope and the values of its tuples
 pub narrows-agreeing : {L : Lists} → SoundLists L → (let N = networkIn L in (index : List ℕ) → Indexed N index → (r x s start end : ℕ) → start ≡ firstId N s → end ≡ firstId N s + size N s → (xs : List Cell) → xs ≡ cellsOf N (firstId N r + x) → (scope : List ℕ) → scope ≡ scopeOf N s → (before after : List ℕ) → Narrows (λ (b : List ℕ). agreeing xs (cells scope b)) (length scope) index s start end before after → Agreeing N r x s before after)
-unfolding agree
 narrows-agreeing {L} laid index marks r x s start end es ee xs ex scope ep before after n =
     let N = networkIn L in
     record {
@@ -109,6 +108,7 @@ narrows-agreeing {L} laid index marks r x s start end es ee xs ex scope ep befor
           (ap (λ (p : List ℕ). agreeing xs (cells p (valuesAt N s z))) ep
           ∙ ap (agreeing xs) (sym (cellsOf-at N s z h))
           ∙ ap (λ (ys : List Cell). agreeing ys (cellsOf N (firstId N s + z))) ex
+          ∙ sym (agree-cells N (firstId N r + x) (firstId N s + z))
           ∙ a)
           e;
     }

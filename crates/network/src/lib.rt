@@ -1,4 +1,4 @@
-// A network's faults, and which of its tuples agree.
+// A network's faults, and where its tuples clash.
 pub mod faults; // the faults of a network, in checking order
-pub mod agreement; // which tuples agree
+pub mod agreement; // where tuples clash, and which agree
 pub mod comparison; // the call that compares two tuples by id

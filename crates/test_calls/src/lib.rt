@@ -5,6 +5,7 @@ use changes::withdraw;
 use layout::Shape;
 use model::Answer;
 use model::Comparison;
+use model::NO_VARIABLE;
 use model::Value;
 use model::Verdict;
 
@@ -133,7 +134,7 @@ pub extern "C" fn plain_test(
     }
 }
 
-// 0 or 1, or 256 times the refusal number and 2.
+// 256 times the variable named, 64 where the tuples agree, or the refusal number; and 0, 1 or 2.
 #[no_mangle]
 pub extern "C" fn plain_compare(
     records: &[u16],
@@ -144,8 +145,8 @@ pub extern "C" fn plain_compare(
 ) -> u32 {
     let answer = network::comparison::compare(shape_of(records), variables, values, g, h);
     match answer {
-        Comparison::Differ => 0,
-        Comparison::Agree => 1,
+        Comparison::Differ(x) => x as u32 * 256,
+        Comparison::Agree => NO_VARIABLE as u32 * 256 + 1,
         Comparison::Refused(f) => f as u32 * 256 + 2,
     }
 }

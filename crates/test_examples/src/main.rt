@@ -60,8 +60,10 @@ fn say_verdict(what: &[u8], verdict: Verdict) {
 fn say_comparison(what: &[u8], comparison: Comparison) {
     io::write_all(1, what);
     match comparison {
-        Comparison::Differ => put(0, b"\n"),
-        Comparison::Agree => put(1, b"\n"),
+        Comparison::Differ(x) => put(x as u64, b" differs\n"),
+        Comparison::Agree => {
+            io::write_all(1, b"agree\n");
+        }
         Comparison::Refused(f) => put(f as u64, b" refused\n"),
     }
 }
@@ -113,20 +115,15 @@ fn withdrawn(
     say(what, answer, words[0]);
 }
 
-// P9: fresh A with value 6 chosen under variable 2; and two comparisons.
+// P9: fresh A with value 6 chosen under variable 2; and three comparisons.
 fn chosen(variables: &[u16], values: &[Value], words: &mut [u64; 1], supports: &mut [u16; 40]) {
     let shape = triangle(3, 2, 2);
     let pairs = [0u16, 1, 0, 2, 1, 2];
     let p9 = choose(shape, variables, values, 2, &pairs, words, supports, 2, 6);
     say(b"P9: ", p9, words[0]);
-    say_comparison(
-        b"rows 0 and 3 agree: ",
-        compare(shape, variables, values, 0, 3),
-    );
-    say_comparison(
-        b"rows 2 and 3 agree: ",
-        compare(shape, variables, values, 2, 3),
-    );
+    say_comparison(b"rows 0 and 3: ", compare(shape, variables, values, 0, 3));
+    say_comparison(b"rows 2 and 3: ", compare(shape, variables, values, 2, 3));
+    say_comparison(b"rows 0 and 2: ", compare(shape, variables, values, 0, 2));
 }
 
 // P1 to P5 and P9, on book A.

@@ -13,7 +13,7 @@ use lib.Dec.{eqb, leb}
 use lib.ListN.{length, getD}
 use Rattle.model.specs.Request.{combinationsOf}
 use Rattle.model.specs.Network.{total}
-use Rattle.model.specs.Agreement.{agree}
+use Rattle.model.specs.Agreement.{firstClash}
 use Rattle.model.specs.Consistency.{isConsistent}
 use Rattle.model.specs.LiveWords.{living}
 use Rattle.model.specs.Fault.{firstFault, testFaults, compareFaults, accepts}
@@ -392,4 +392,4 @@ unfolding byteCompare compareReply
 compare-promise-bytes sheets questions codes a b n kept =
     let N = byteNetwork sheets questions codes in
     decides-bytes (wholeBook sheets questions codes) (CompareAnswered N a b) n (compareReply N a b)
-    (comparison-back (comparisonFor (firstFault (compareFaults N a b)) (agree N a b))) (compare-answered N a b) kept
+    (comparison-back (comparisonFor (firstFault (compareFaults N a b)) (firstClash N a b))) (compare-answered N a b) kept

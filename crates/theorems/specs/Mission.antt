@@ -40,7 +40,7 @@ use Rattle.model.specs.Reply
 use Rattle.model.specs.Reply.{Reply, reply, answerNumbers, verdictNumbers, testReply, comparisonNumbers, compareReply, replied, Keeps, Tested, Compared}
 use Rattle.model.specs.Calls.{Proper, Made, callsOf, start, AllKeep}
 use Rattle.model.specs.Promises.{Answered, Filtered, Claim, TestAnswered, CompareAnswered}
-use Rattle.model.specs.Examples.{relation, networkA, triangle, pairs, asked, next, p1, p3, p7}
+use Rattle.model.specs.Examples.{relation, networkA, triangle, crossed, pairs, asked, next, p1, p3, p7}
 use Rattle.model.proofs.Mission.{answered, filtering, claim, test-answered, compare-answered}
 
 -- ---- Points 1 and 2, of one change call
@@ -67,7 +67,8 @@ point-3 = claim
 pub test-promise : (I : Instance) (ws : List ℕ) (n : ℕ × ℕ) → Tested I ws n → TestAnswered I ws n
 test-promise I ws n kept = subst (TestAnswered I ws) (sym kept) (test-answered I ws)
 
--- .. and if the values of both tuples fit under every variable that both have
+-- it names a variable exactly if both tuples have it, their values under it do not fit, and those under every lower variable that
+-- both have do; it says agree exactly if there is no such variable
 pub compare-promise : (N : Network) (g h : ℕ) (n : ℕ × ℕ) → Compared N g h n → CompareAnswered N g h n
 compare-promise N g h n kept = subst (CompareAnswered N g h) (sym kept) (compare-answered N g h)
 
@@ -85,9 +86,9 @@ pairsOf : Network → Instance
 pairsOf N = record { network = N; m = 2; members = pairs }
 
 -- what the definitions give
-right : ((reply p1) .words ≡ 123 ∷ []) × (((reply p7) .answer) .kind ≡ 1) × ((reply p3) .words ≡ 82 ∷ []) × (((reply twice) .answer) .withdrawn ≡ 1) × ((reply p9) .words ≡ 82 ∷ []) × (((reply p9) .answer) .left ≡ 3) × (testReply (pairsOf networkA) (127 ∷ []) ≡ (0, 0)) × (testReply (p7 .given) (63 ∷ []) ≡ (0, 0)) × (compareReply networkA 0 3 ≡ (1, 0)) × (compareReply networkA 2 3 ≡ (0, 0))
-unfolding p9 twice pairsOf relation networkA triangle pairs asked next p1 p3 p7 TupleSet.closure Network.relationOf Network.indexOf Network.scopeOf Network.valuesAt Network.tupleOf Agreement.fit Agreement.clash Agreement.agreeing Agreement.cellsOf Agreement.agree Agreement.share Combination.combinations Combination.connected Support.candidates Support.isSupport Support.supports Support.firstSupport Consistency.supported Consistency.isConsistent Consistency.filtered Consistency.supportList Consistency.needed LiveWords.bit LiveWords.isSet LiveWords.isLive LiveWords.living LiveWords.word LiveWords.written Request.removes Fault.faultsOn Fault.faults Fault.testFaults Fault.compareFaults Reply.lowestEmpty Reply.answerFor Reply.remainder Reply.countsFor Reply.leaving Reply.accepted Reply.reply Reply.testReply Reply.compareReply
-right = (refl, refl, refl, refl, refl, refl, refl, refl, refl, refl)
+right : ((reply p1) .words ≡ 123 ∷ []) × (((reply p7) .answer) .kind ≡ 1) × ((reply p3) .words ≡ 82 ∷ []) × (((reply twice) .answer) .withdrawn ≡ 1) × ((reply p9) .words ≡ 82 ∷ []) × (((reply p9) .answer) .left ≡ 3) × (testReply (pairsOf networkA) (127 ∷ []) ≡ (0, 0)) × (testReply (p7 .given) (63 ∷ []) ≡ (0, 0)) × (compareReply networkA 0 3 ≡ (1, 64)) × (compareReply networkA 2 3 ≡ (0, 1)) × (compareReply networkA 0 2 ≡ (0, 0)) × (compareReply crossed 0 3 ≡ (0, 4))
+unfolding p9 twice pairsOf relation networkA triangle crossed pairs asked next p1 p3 p7 TupleSet.closure Network.relationOf Network.indexOf Network.scopeOf Network.valuesAt Network.tupleOf Agreement.fit Agreement.clash Agreement.clashes Agreement.cellsOf Agreement.firstClash Agreement.agree Agreement.share Combination.combinations Combination.connected Support.candidates Support.isSupport Support.supports Support.firstSupport Consistency.supported Consistency.isConsistent Consistency.filtered Consistency.supportList Consistency.needed LiveWords.bit LiveWords.isSet LiveWords.isLive LiveWords.living LiveWords.word LiveWords.written Request.removes Fault.faultsOn Fault.faults Fault.testFaults Fault.compareFaults Reply.lowestEmpty Reply.answerFor Reply.remainder Reply.countsFor Reply.leaving Reply.accepted Reply.reply Reply.testReply Reply.compareReply
+right = (refl, refl, refl, refl, refl, refl, refl, refl, refl, refl, refl, refl)
 
 -- a filter that touches nothing
 filter-touches-nothing : (a : Answer) (supports : List ℕ) → Keeps p1 (replied a (127 ∷ []) supports) → ⊥
@@ -130,9 +131,17 @@ test-seeking-tuple-only : Tested (p7 .given) (63 ∷ []) (verdictNumbers Yes) �
 test-seeking-tuple-only kept = eqb-false 1 0 refl (ap (λ (n : ℕ × ℕ). n .0) (kept ∙ right .7))
 
 -- a compare that takes columns by place
-compare-by-place : Compared networkA 0 3 (comparisonNumbers Differ) → ⊥
-compare-by-place kept = eqb-false 0 1 refl (ap (λ (n : ℕ × ℕ). n .0) (kept ∙ right .8))
+compare-by-place : (x : ℕ) → Compared networkA 0 3 (comparisonNumbers (Differ x)) → ⊥
+compare-by-place x kept = eqb-false 0 1 refl (ap (λ (n : ℕ × ℕ). n .0) (kept ∙ right .8))
 
 -- .. that says that all agree
 compare-says-yes : Compared networkA 2 3 (comparisonNumbers Agree) → ⊥
 compare-says-yes kept = eqb-false 1 0 refl (ap (λ (n : ℕ × ℕ). n .0) (kept ∙ right .9))
+
+-- .. that names the highest clash
+compare-highest : Compared networkA 0 2 (comparisonNumbers (Differ 1)) → ⊥
+compare-highest kept = eqb-false 1 0 refl (ap (λ (n : ℕ × ℕ). n .1) (kept ∙ right .10))
+
+-- .. that names the first clash met
+compare-first-met : Compared crossed 0 3 (comparisonNumbers (Differ 9)) → ⊥
+compare-first-met kept = eqb-false 9 4 refl (ap (λ (n : ℕ × ℕ). n .1) (kept ∙ right .11))

@@ -1,54 +1,17 @@
--- `tuples_agree` decides whether two tuples agree: it hands `agree` the parts of the lists where they lie.
--- From the laws of places, and of agreement by relation and index.
-use mathlib.Core.Path.{sym, ap₂, _∙_}
-use native.Mathlib.Omega.{arith}
-use Rattle.model.specs.Agreement.{agreeing}
-use Rattle.model.proofs.Agreement.{agree-at}
-use Rattle.layout.specs.Setting.{Lists, networkIn}
-use Rattle.layout.proofs.Places.{Within, below-limit, place-within, place-lengths, place-cells}
+-- `tuples_agree` decides whether two tuples agree: they clash nowhere.
+-- From what `tuples_clash` ensures.
+use Rattle.layout.specs.Setting.{Lists}
+use Rattle.network.proofs.Columns.{number-agrees}
 use Rattle.network.proofs.agreement.tuples_agree.Statement.{statement}
 use Rattle.network.proofs.agreement.tuples_agree.Tie as tie
 
 abbrev given : tie.Start → Lists
 given c = record { variables = c .args .variables .now; values = c .args .values .now; starts = c .args .starts .now }
 
-abbrev start : tie.After-place-of2 → tie.Start
-start c = c .before .before .before .before
-
--- each place lies within the lists
-first : (c : tie.After-place-of2) → Within (start c .pre .laid) (start c .args .r) (start c .args .x) (start c .pre .first) (c .before .place-of .result)
-first c = place-within (start c .pre .laid) (start c .args .r) (start c .args .x) (start c .pre .first) (c .before .place-of .result) (c .before .place-of .ensures)
-
-second : (c : tie.After-place-of2) → Within (start c .pre .laid) (start c .args .s) (start c .args .y) (start c .pre .second) (c .place-of2 .result)
-second c = place-within (start c .pre .laid) (start c .args .s) (start c .args .y) (start c .pre .second) (c .place-of2 .result) (c .place-of2 .ensures)
-
-agree-requires : tie.Need-agree-requires
-agree-requires c κs =
-    let places = c .before .before .before .before in
-    let s = start places in (
-      place-lengths (s .pre .laid) (s .args .r) (s .args .x) (s .pre .first) (places .before .place-of .result) (places .before .place-of .ensures),
-      place-lengths (s .pre .laid) (s .args .s) (s .args .y) (s .pre .second) (places .place-of2 .result) (places .place-of2 .ensures),
-    )
-
 returns : tie.Need-returns
 returns c =
-    let places = c .before .before .before .before .before in
-    let s = start places in
-    c .agree .ensures
-    ∙ ap₂ agreeing
-    (place-cells (s .pre .laid) (s .args .r) (s .args .x) (s .pre .first) (places .before .place-of .result) (places .before .place-of .ensures))
-    (place-cells (s .pre .laid) (s .args .s) (s .args .y) (s .pre .second) (places .place-of2 .result) (places .place-of2 .ensures))
-    ∙ sym (agree-at (networkIn (given s)) (s .args .r) (s .args .x) (s .args .s) (s .args .y) (s .pre .first) (s .pre .second))
+    let s = c .before .before .before in
+    number-agrees (given s) (s .args .r) (s .args .x) (s .args .s) (s .args .y) (c .tuples-clash .result) (s .pre) (c .tuples-clash .ensures)
 
 pub tuples-agree-spec : {M : Type 1} → statement M
-tuples-agree-spec =
-    tie.close
-    (tie.spec
-    (λ c κs. let s = c .before .before in (s .pre .laid .framed, below-limit (s .pre .laid) (s .args .r) (s .args .x) (s .pre .first)))
-    (λ c κs. let s = c .before .before .before in (s .pre .laid .framed, below-limit (s .pre .laid) (s .args .s) (s .args .y) (s .pre .second)))
-    (λ c. omega (arith, first c)) (λ c. omega (arith, first c)) (λ c. omega (arith, first c)) (λ c. omega (arith, first c))
-    (λ c. omega (arith, first (c .before))) (λ c. omega (arith, first (c .before))) (λ c. omega (arith, first (c .before))) (λ c. omega (arith, first (c .before)))
-    (λ c. omega (arith, second (c .before .before))) (λ c. omega (arith, second (c .before .before))) (λ c. omega (arith, second (c .before .before))) (λ c. omega (arith, second (c .before .before)))
-    (λ c. omega (arith, second (c .before .before .before))) (λ c. omega (arith, second (c .before .before .before))) (λ c. omega (arith, second (c .before .before .before))) (λ c. omega (arith, second (c .before .before .before)))
-    agree-requires
-    returns)
+tuples-agree-spec = tie.close (tie.spec (λ c κs. c .before .before .pre) returns)

@@ -1,4 +1,4 @@
--- `compare` answers as the definition of the call says: the first fault, or whether the two tuples agree.
+-- `compare` answers as the definition of the call says: the first fault, or where the two tuples clash.
 -- From what its parts ensure, the laws of the first fault, and the bridge from no fault to sound lists.
 use mathlib.Core.Path.{_≡_, refl, sym, ap, ap₂, subst, _∙_}
 use mathlib.Core.Bool.{Bool, true, false, not, _&&_, and-false}
@@ -9,11 +9,13 @@ use native.Mathlib.Omega.{arith}
 use borrow.Author.Needs.{needs}
 use borrow.Author.Tests.{lt-ltb, le-ltb}
 use lib.Dec.{ltb}
+use Rattle.model.specs.Limits.{variableCount}
 use Rattle.model.specs.Network.{Network, total}
-use Rattle.model.specs.Agreement.{agree}
+use Rattle.model.specs.Agreement.{firstClash, clashNumber}
 use Rattle.model.specs.Fault.{firstFault, networkFaults, idsFault, compareFaults}
 use Rattle.model.specs.Reply.{comparisonNumbers, comparisonFor, compareReply}
-use Rattle.model.proofs.Fault.{fault-here, fault-next, firstFault-append-none, firstFault-append-some, refusal-some, refusal-none}
+use Rattle.model.proofs.Agreement.{firstClash-low, clashNumber-none, clashNumber-some}
+use Rattle.model.proofs.Fault.{faultless, fault-here, fault-next, firstFault-append-none, firstFault-append-some, refusal-some, refusal-none}
 use Rattle.layout.specs.Shape.{networkOf}
 use Rattle.layout.specs.Setting.{Lists, networkIn, SoundLists}
 use Rattle.layout.proofs.SoundStarts.{tuple-count}
@@ -26,7 +28,7 @@ use Rattle.network.proofs.comparison.compare.Tie as tie
 
 module _ (N : Network) (g h : ℕ) where
   abbrev answer : Option ℕ → ℕ × ℕ
-  answer o = comparisonNumbers (comparisonFor o (agree N g h))
+  answer o = comparisonNumbers (comparisonFor o (firstClash N g h))
 
   refused : (k : ℕ) → firstFault (networkFaults N) ≡ some k → (2, k) ≡ compareReply N g h
   unfolding compareReply compareFaults
@@ -38,12 +40,12 @@ module _ (N : Network) (g h : ℕ) where
     refused-id d =
         sym (ap answer (firstFault-append-none (networkFaults N) (idsFault N (g ∷ h ∷ []) ∷ []) e ∙ fault-here (idsFault N (g ∷ h ∷ [])) [] (ap not d)))
 
-    answered : (b : Bool) → g < total N → h < total N → agree N g h ≡ b → comparisonNumbers (comparisonFor none b) ≡ compareReply N g h
+    answered : (o : Option ℕ) → g < total N → h < total N → firstClash N g h ≡ o → comparisonNumbers (comparisonFor none o) ≡ compareReply N g h
     unfolding compareReply compareFaults
-    answered b k l d =
+    answered o k l d =
         let ids = ap₂ (λ (x y : Bool). not (x && (y && true))) (lt-ltb g (total N) k) (lt-ltb h (total N) l) in
         sym (ap answer (firstFault-append-none (networkFaults N) (idsFault N (g ∷ h ∷ []) ∷ []) e ∙ fault-next (idsFault N (g ∷ h ∷ [])) [] ids)
-        ∙ ap (λ (x : Bool). comparisonNumbers (comparisonFor none x)) d)
+        ∙ ap (λ (p : Option ℕ). comparisonNumbers (comparisonFor none p)) d)
 
 -- ---- What is known on the way
 
@@ -83,10 +85,22 @@ asked c =
     let e = ap total (described (c .before .before .before .before)) in
     record { laid = laid (c .before .before .before .before); first = omega (arith, low c); second = omega (arith, low c) }
 
-agreed : (c : tie.After-ids-agree) → agree (network (start (c .before .before .before .before .before .before .before))) (start (c .before .before .before .before .before .before .before) .args .g) (start (c .before .before .before .before .before .before .before) .args .h) ≡ c .ids-agree .result
-agreed c =
-    let s = start (c .before .before .before .before .before .before .before) in
-    sym (c .ids-agree .ensures ∙ ap (λ (N : Network). agree N (s .args .g) (s .args .h)) (described (c .before .before .before .before .before .before)))
+-- the number found is that of the first clash
+abbrev asker : tie.After-ids-clash → tie.Start
+asker c = start (c .before .before .before .before .before .before .before)
+
+abbrev found : tie.After-ids-clash → Option ℕ
+found c = firstClash (network (asker c)) (asker c .args .g) (asker c .args .h)
+
+number : (c : tie.After-ids-clash) → clashNumber (found c) ≡ c .ids-clash .result
+number c =
+    let s = asker c in
+    sym (c .ids-clash .ensures ∙ ap (λ (N : Network). clashNumber (firstClash N (s .args .g) (s .args .h))) (described (c .before .before .before .before .before .before)))
+
+low-number : (c : tie.After-ids-clash) (v : ℕ) → found c ≡ some v → v < variableCount
+low-number c =
+    let s = asker c in
+    firstClash-low (network s) (faultless (network s) (sound (c .before .before .before .before .before .before .before))) (s .args .g) (s .args .h) (low (c .before .before) .0)
 
 returns : tie.Need-returns
 returns c =
@@ -112,13 +126,16 @@ returns-3 c =
 
 returns-4 : tie.Need-returns-4
 returns-4 c =
-    let s = start (c .before .before .before .before .before .before .before .before) in
-    answered (network s) (s .args .g) (s .args .h) (sound (c .before .before .before .before .before .before .before .before)) true (low (c .before .before .before) .0) (low (c .before .before .before) .1) (agreed (c .before) ∙ c .if4 .taken)
+    let s = asker (c .before) in
+    answered (network s) (s .args .g) (s .args .h) (sound (c .before .before .before .before .before .before .before .before)) none (low (c .before .before .before) .0) (low (c .before .before .before) .1)
+    (clashNumber-none (found (c .before)) (low-number (c .before)) (number (c .before) ∙ c .if4 .taken))
 
 returns-5 : tie.Need-returns-5
 returns-5 c =
-    let s = start (c .before .before .before .before .before .before .before .before) in
-    answered (network s) (s .args .g) (s .args .h) (sound (c .before .before .before .before .before .before .before .before)) false (low (c .before .before .before) .0) (low (c .before .before .before) .1) (agreed (c .before) ∙ c .if4 .left)
+    let s = asker (c .before) in
+    let n = c .before .ids-clash .result in
+    answered (network s) (s .args .g) (s .args .h) (sound (c .before .before .before .before .before .before .before .before)) (some n) (low (c .before .before .before) .0) (low (c .before .before .before) .1)
+    (clashNumber-some (found (c .before)) n (number (c .before)) (c .if4 .left))
 
 pub compare-spec : {M : Type 1} → statement M
 compare-spec =

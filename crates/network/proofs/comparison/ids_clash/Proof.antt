@@ -1,4 +1,4 @@
--- `ids_agree` decides whether the tuples with two ids agree: it finds the relation and the index of each.
+-- `ids_clash` finds where the tuples with two ids clash: it finds the relation and the index of each.
 -- From the laws of the relation and the index of an id.
 use mathlib.Core.Path.{_≡_, ap₂, subst, sym, _∙_}
 use mathlib.Core.List.{List}
@@ -6,12 +6,12 @@ use Prim.Native.Nat.{ℕ, _+_, _-_, _≤_, _<_}
 use native.Mathlib.Omega.{arith}
 use borrow.Author.Needs.{needs}
 use Rattle.model.specs.Network.{size, total, firstId, relationOf}
-use Rattle.model.specs.Agreement.{agree}
+use Rattle.model.specs.Agreement.{firstClash, clashNumber}
 use Rattle.layout.specs.Starts.{tupleStart, outline, SoundStarts}
 use Rattle.layout.specs.Setting.{networkIn}
 use Rattle.layout.proofs.SoundStarts.{id-relation, id-begun, id-index, id-back}
-use Rattle.network.proofs.comparison.ids_agree.Statement.{statement}
-use Rattle.network.proofs.comparison.ids_agree.Tie as tie
+use Rattle.network.proofs.comparison.ids_clash.Statement.{statement}
+use Rattle.network.proofs.comparison.ids_clash.Tie as tie
 
 -- What the number r of an id's relation, and where that one's tuples begin, say of the id.
 record Found (xs : List ℕ) (g r at : ℕ) : Type 0 where
@@ -44,13 +44,14 @@ returns c =
     let t = c .before in
     let r = c .before .before .before in
     let s = start r in
-    c .tuples-agree .ensures
-    ∙ ap₂ (agree (networkIn (record { variables = s .args .variables .now; values = s .args .values .now; starts = s .args .starts .now })))
+    let N = networkIn (record { variables = s .args .variables .now; values = s .args .values .now; starts = s .args .starts .now }) in
+    c .tuples-clash .ensures
+    ∙ ap₂ (λ (g h : ℕ). clashNumber (firstClash N g h))
     (first r (t .before .tuple-start .result) .back (t .before .tuple-start .ensures))
     (second r (t .tuple-start2 .result) .back (t .tuple-start2 .ensures))
 
-pub ids-agree-spec : {M : Type 1} → statement M
-ids-agree-spec =
+pub ids-clash-spec : {M : Type 1} → statement M
+ids-clash-spec =
     tie.close
     (tie.spec
     (λ c κs. search needs) (λ c κs. search needs)

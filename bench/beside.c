@@ -1,0 +1,76 @@
+/* Times filter and test of two builds of the library, in turn and in one run, on the benchmark's networks: the one's functions have
+ * their names, the other's `before_` in front. Both must give the same answers, marks and supports. */
+#include "bench.h"
+#include "wakhvosi.h"
+#include <math.h>
+#include <string.h>
+#include <time.h>
+
+#define BOOK const uint8_t *, size_t, const uint8_t *, size_t, const uint8_t *, size_t, uint16_t, const uint8_t *, size_t
+uint64_t before_wakhvosi_filter(BOOK, uint8_t *, size_t, uint8_t *, size_t);
+uint64_t before_wakhvosi_test(BOOK, const uint8_t *, size_t);
+
+enum { LEAST_ROUNDS = 15, MOST_ROUNDS = 400 };
+static const double ENOUGH = 0.4; /* seconds after which a network is timed no more */
+
+/* The lists of one network; on this machine they are their own little-endian bytes. */
+static network n;
+static uint16_t records[2 * MAX_RELATIONS];
+
+/* Of each build, the one before and the one after: what a call leaves, its answers and its least times. */
+static uint16_t supports[2][MAX_NUMBERS];
+static uint64_t marks[2][WORDS], filtered[2], tested[2];
+static double filter_time[2], test_time[2];
+
+#define BYTES(at, count) (const uint8_t *)(at), 2 * (count)
+#define GIVEN BYTES(records, 2 * n.relations), BYTES(n.variables, n.variable_count), BYTES(n.values, n.value_count), (uint16_t)n.m, BYTES(n.members, n.pairs)
+
+static double now(void) {
+    struct timespec t;
+    clock_gettime(CLOCK_MONOTONIC, &t);
+    return (double)t.tv_sec + (double)t.tv_nsec * 1e-9;
+}
+
+static double least(double a, double b) { return a < b ? a : b; }
+
+/* Filters all rows, and tests what is left. */
+static void turn(int build) {
+    memset(marks[build], 0, sizeof marks[build]);
+    for (size_t g = 0; g < tuple_count(&n); g++) marks[build][g / 64] |= 1ull << (g % 64);
+    uint8_t *words = (uint8_t *)marks[build], *numbers = (uint8_t *)supports[build];
+    double t = now();
+    filtered[build] = (build ? wakhvosi_filter : before_wakhvosi_filter)(GIVEN, words, sizeof marks[build], numbers, sizeof supports[build]);
+    filter_time[build] = least(filter_time[build], now() - t);
+    t = now();
+    tested[build] = (build ? wakhvosi_test : before_wakhvosi_test)(GIVEN, words, sizeof marks[build]);
+    test_time[build] = least(test_time[build], now() - t);
+}
+
+static double filter_sum, test_sum, filter_most, test_most;
+static size_t count, differing;
+
+static void timed(const description *d) {
+    char name[NAME_SIZE];
+    draw_network(&n, d);
+    name_network(d, name);
+    for (size_t r = 0; r < n.relations; r++) records[2 * r] = (uint16_t)width_of(&n, r), records[2 * r + 1] = (uint16_t)size_of(&n, r);
+    for (int i = 0; i < 2; i++) filter_time[i] = test_time[i] = 1e9;
+    double start = now();
+    for (int k = 0; k < LEAST_ROUNDS || (k < MOST_ROUNDS && now() - start < ENOUGH); k++) turn(k % 2), turn(1 - k % 2);
+    double filter = filter_time[1] / filter_time[0], test = test_time[1] / test_time[0];
+    bool same = filtered[0] == filtered[1] && tested[0] == tested[1] && !memcmp(marks[0], marks[1], sizeof marks[0]) &&
+                !memcmp(supports[0], supports[1], sizeof supports[0]);
+    printf("%-36s %8.3f ms %8.3f ms  %.3f   %8.3f ms %8.3f ms  %.3f%s\n", name, filter_time[0] * 1e3, filter_time[1] * 1e3, filter,
+           test_time[0] * 1e3, test_time[1] * 1e3, test, same ? "" : "  RESULTS DIFFER");
+    filter_sum += log(filter), test_sum += log(test), filter_most = fmax(filter_most, filter), test_most = fmax(test_most, test);
+    count++, differing += !same;
+}
+
+int main(void) {
+    printf("%-36s %11s %11s  ratio   %11s %11s  ratio\n", "", "filter was", "is", "test was", "is");
+    for (size_t i = 0; i < suite_count; i++) timed(suite + i);
+    for (size_t i = 0; i < growth_count; i++) timed(growth + i);
+    printf("mean of %zu (geometric): filter %.3f, test %.3f; most: filter %.3f, test %.3f\n", count, exp(filter_sum / (double)count),
+           exp(test_sum / (double)count), filter_most, test_most);
+    return differing != 0;
+}
