@@ -21,6 +21,7 @@ use model::Value;
 use model::Verdict;
 use request::checks::test_checked;
 use spreading::steps::steps_of_pair;
+use support::FOUND;
 use support::first_support;
 use value_index::INDEX;
 use value_index::Index;
@@ -55,7 +56,7 @@ fn has_support(
         low,
         steps,
     );
-    found.ok
+    found.kind == FOUND
 }
 
 // Whether every live tuple of pair p's member has a support in the pair's combination.

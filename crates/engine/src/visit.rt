@@ -19,6 +19,7 @@ use model::MAX_MEMBERS;
 use model::NO_SUPPORT;
 use model::Value;
 use spreading::steps::steps_of_pair;
+use support::FOUND;
 use support::first_support;
 use support::put;
 use twins::Twin;
@@ -78,7 +79,7 @@ fn seek(
         low,
         steps,
     );
-    if found.ok {
+    if found.kind == FOUND {
         let tuples = found.tuples;
         store(numbers, at, each, tuples);
         return true;

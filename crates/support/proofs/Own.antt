@@ -21,7 +21,7 @@ use Rattle.model.proofs.Network.{relationOf-at}
 use Rattle.model.proofs.Agreement.{agree-sym}
 use Rattle.model.proofs.Search.{completion-other, reach-cut, reach-skip, reach-step, reach-none}
 use Rattle.support.specs.declared.Stage.{Stage}
-use Rattle.support.specs.Search.{Search, netOf, liveOf, seeker, SoundSearch, chosenIds, Prefix, pastOwn, sought}
+use Rattle.support.specs.Search.{Search, netOf, liveOf, seeker, SoundSearch, chosenIds, Prefix, pastOwn, placeBehind, sought}
 use Rattle.support.proofs.Chosen.{chosen-picks}
 use Rattle.support.proofs.Prefix.{ids-more, prefix-next}
 use Rattle.support.proofs.Walking.{rises}
@@ -120,6 +120,21 @@ past-forth place own k chosen = go (eqb k place) refl
   where
     go : (b : Bool) → eqb k place ≡ b → k ≤ pastOwn place own k chosen .k
     go true q = rw q (omega arith)
+    go false q = rw q (omega arith)
+
+pub past-place : (place own k : ℕ) (chosen : List ℕ) → pastOwn place own (k + 1) chosen .k ≡ placeBehind place k
+past-place place own k chosen = go (eqb (k + 1) place) refl
+  where
+    go : (b : Bool) → eqb (k + 1) place ≡ b → pastOwn place own (k + 1) chosen .k ≡ placeBehind place k
+    go true q = rw q (omega arith)
+    go false q = rw q refl
+
+-- a place behind one of so many is one too, or their number
+pub behind-within : (place k n : ℕ) → k < n → place < n → placeBehind place k ≤ n
+behind-within place k n h l = go (eqb (k + 1) place) refl
+  where
+    go : (b : Bool) → eqb (k + 1) place ≡ b → placeBehind place k ≤ n
+    go true q = let e = eqb-true (k + 1) place q in rw q (omega (arith, e))
     go false q = rw q (omega arith)
 
 -- Stage s follows from the tuples chosen for the members before k: it is another member's turn, or all have their tuples.

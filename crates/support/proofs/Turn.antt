@@ -1,9 +1,9 @@
 -- Laws of one member's turn in the search: the walk from live tuple to live tuple, and what is known once one tuple more is chosen.
 -- From the laws of the walk, of the tuples chosen and of the search, and the law of one tuple more.
-use mathlib.Core.Path.{_≡_, sym, _∙_, ap}
+use mathlib.Core.Path.{_≡_, refl, sym, _∙_, ap, subst}
 use mathlib.Core.Bool.{Bool, true, false, _&&_}
 use mathlib.Core.Option.{Option, none, some, orElse}
-use mathlib.Core.List.{List, [], _∷_, _++_, map, List·Memᴰ, List·Memᴰ·tail}
+use mathlib.Core.List.{List, [], _∷_, _++_, map, List·Memᴰ, List·Memᴰ·tail, Memᴰ·append-right}
 use Prim.Native.Nat.{ℕ, suc, _+_, _-_, _*_, _≤_, _<_}
 use native.Mathlib.Numerals.{add-one}
 use native.Mathlib.Omega.{arith}
@@ -19,9 +19,9 @@ use Rattle.model.proofs.Lists.{here, all-at}
 use Rattle.model.proofs.Network.{relationOf-at}
 use Rattle.model.proofs.Agreement.{agree-sym}
 use Rattle.model.proofs.LiveWords.{living-has, nextLive-first}
-use Rattle.model.proofs.Search.{completion-clash, reach, reach-none, reach-step, reach-live}
+use Rattle.model.proofs.Search.{completion-dead, completion-clash, reach, reach-none, reach-skip, reach-step, reach-live}
 use Rattle.layout.specs.Starts.{tupleStart}
-use Rattle.support.specs.Search.{Search, netOf, liveOf, idAt, seeker, SoundSearch, chosenIds, Prefix, fits, Trial, onward, span, left, WalkAt, sought}
+use Rattle.support.specs.Search.{Search, netOf, liveOf, idAt, seeker, SoundSearch, chosenIds, Prefix, fits, Trial, Trials, ComesFrom, FirstFitting, onward, span, left, WalkAt, sought}
 use Rattle.support.proofs.Chosen.{fits-each, fits-none}
 use Rattle.support.proofs.Prefix.{ids-more, prefix-next}
 use Rattle.support.proofs.Walking.{members-apart, few-tuples, member-below, member-start, member-within, span-inside, walk-whole}
@@ -124,6 +124,28 @@ module _ {Q : Search} {k : ℕ} {resumes : Bool} {chosen : List ℕ} {first begi
     pub come-lives : isLive (Q .words) g ≡ true
     come-lives = C .lives before-stop
 
+  -- what the tests of its tuples ask
+  pub trials : Trials (Q .lists) (Q .members) (Q .place) (Q .own) k chosen
+  trials =
+      record {
+        laid = R .laid;
+        inside = inside;
+        few = R .few;
+        relation = member-below Q R k inside;
+        each =
+            λ x h.
+            record {
+              laid = R .laid;
+              inside = inside;
+              few = R .few;
+              place-in = R .place;
+              own-in = R .own;
+              index = h;
+              within = B .within;
+              own-chosen = B .own;
+            };
+      }
+
   module _ (x : ℕ) (from : span Q k resumes .start ≤ first + x) (h : first + x < end) where
     in-walk : first + x < stop
     in-walk = omega arith
@@ -137,17 +159,7 @@ module _ {Q : Search} {k : ℕ} {resumes : Bool} {chosen : List ℕ} {first begi
     id-back = ap (λ (n : ℕ). n + x) (sym first-id)
 
     pub trial : Trial (Q .lists) (Q .members) (Q .place) (Q .own) k chosen x
-    trial =
-        record {
-          laid = R .laid;
-          inside = inside;
-          few = R .few;
-          place-in = R .place;
-          own-in = R .own;
-          index = index-below;
-          within = B .within;
-          own-chosen = B .own;
-        }
+    trial = trials .each x index-below
 
     -- it is another tuple than the seeking one
     pub id-other : seeker Q ≡ first + x → ⊥
@@ -199,3 +211,50 @@ module _ {Q : Search} {k : ℕ} {resumes : Bool} {chosen : List ℕ} {first begi
           agrees-seeker = λ _. agrees-fixed e (seeker Q) here;
           low = index-low;
         }))
+
+  -- ---- The first tuple that fits
+
+  -- where the walk has come to, it has come to a live tuple or its end
+  pub comes-from : (g : ℕ) → WalkAt Q k resumes chosen g → ComesFrom (netOf Q) (Q .members) k (Q .words) g
+  comes-from g C =
+      let i = span-inside Q k R inside resumes in
+      record {
+        from-first = omega (arith, i .from-first, C .from-start);
+        to-end = omega (arith, i .end-is, C .to-end);
+        lives = λ h. C .lives (omega (arith, i .end-is));
+      }
+
+  -- a tuple before the first that fits leads to nothing
+  nowhere-before : (f g : ℕ) → WalkAt Q k resumes chosen f → FirstFitting (netOf Q) (Q .members) (Q .place) (Q .own) k chosen (Q .words) f g → (x : ℕ) → (f ≤ x) × (x < g) → onward Q k chosen x ≡ none
+  nowhere-before f g C F x h = go (isLive (Q .words) x) refl
+    where
+      first-is : first ≡ firstId (netOf Q) (getD (Q .members) k 0)
+      first-is = first-id
+
+      from-first : first ≤ x
+      from-first = omega (arith, come-from f C .0, h .0)
+
+      below-stop : x < stop
+      below-stop = let i = span-inside Q k R inside resumes in omega (arith, i .end-is, F .comes .to-end, h .1)
+
+      is-x : first + (x - first) ≡ x
+      is-x = omega (arith, from-first)
+
+      go : (b : Bool) → isLive (Q .words) x ≡ b → onward Q k chosen x ≡ none
+      go true l =
+          subst (λ (y : ℕ). onward Q k chosen y ≡ none) is-x
+          (come-clash (x - first) (omega (arith, is-x, C .from-start, h .0)) (omega (arith, is-x, below-stop, T .is-end))
+          (subst (λ (n : ℕ). fits (netOf Q) (Q .members) (Q .place) (Q .own) k chosen (x - n) ≡ false) (sym first-is) (F .none-before x (h .0) (h .1) l)))
+      go false l =
+          completion-dead (netOf Q) (liveOf Q) (seeker Q) (Q .low) (ids ++ (x ∷ [])) later (Memᴰ·append-right ids here)
+          (living-has (total (netOf Q)) (Q .words) x (omega (arith, below-stop, stop-total)) ∙ l)
+
+  pub come-fitting : (f g : ℕ) → WalkAt Q k resumes chosen f → FirstFitting (netOf Q) (Q .members) (Q .place) (Q .own) k chosen (Q .words) f g → WalkAt Q k resumes chosen g
+  come-fitting f g C F =
+      let i = span-inside Q k R inside resumes in
+      record {
+        from-start = omega (arith, C .from-start, F .from-on);
+        to-end = omega (arith, i .end-is, F .comes .to-end);
+        lives = λ h. F .comes .lives (omega (arith, i .end-is));
+        rest = sym (reach-skip (netOf Q) (liveOf Q) (seeker Q) (Q .low) ids later f g stop (F .from-on) (omega (arith, i .end-is, F .comes .to-end)) (nowhere-before f g C F)) ∙ C .rest;
+      }

@@ -7,7 +7,7 @@ use mathlib.Core.List.{List, [], _∷_, _++_, map}
 use Prim.Native.Nat.{ℕ, suc, _+_, _-_, _*_, _≤_, _<_}
 use lib.Dec.{eqb}
 use lib.ListN.{length, getD, take, drop, set}
-use Rattle.model.specs.Limits.{wordBits, maxMembers}
+use Rattle.model.specs.Limits.{wordBits, maxRelations, maxMembers}
 use Rattle.model.specs.Lists.{from, all, pairwise, earlier}
 use Rattle.model.specs.Network.{Network, size, total, firstId, idsOf}
 use Rattle.model.specs.Agreement.{agree}
@@ -108,6 +108,10 @@ abbrev pub pastOwn : ℕ → ℕ → ℕ → List ℕ → Stage
 pastOwn place own k chosen =
     cond (eqb k place) (record { k = k + 1; chosen = set chosen k own }) (record { k = k; chosen = chosen })
 
+-- the place behind k, past the seeking tuple's
+abbrev pub placeBehind : ℕ → ℕ → ℕ
+placeBehind place k = cond (eqb (k + 1) place) (k + 2) (k + 1)
+
 -- the ids that a member's walk goes over: the relation's tuples, from index `from` on where the search resumes
 abbrev pub spanAt : List ℕ → ℕ → Bool → ℕ → Span
 spanAt starts r resumes from =
@@ -129,6 +133,27 @@ pub record Trial (L : Lists) (c : Combination) (place own k : ℕ) (chosen : Lis
   pub within : (j : ℕ) → j < k → getD chosen j 0 < size (networkIn L) (getD c j 0)
   pub own-chosen : place < k → getD chosen place 0 ≡ own
 
+-- What the tests of all its tuples ask.
+pub record Trials (L : Lists) (c : Combination) (place own k : ℕ) (chosen : List ℕ) : Type 0 where
+  pub laid : SoundLists L
+  pub inside : k < length c
+  pub few : length c ≤ maxMembers
+  pub relation : getD c k 0 < maxRelations
+  pub each : (x : ℕ) → x < size (networkIn L) (getD c k 0) → Trial L c place own k chosen x
+
+-- Id g is that of a live tuple of member k, or the end of its ids.
+pub record ComesFrom (N : Network) (c : Combination) (k : ℕ) (words : List ℕ) (g : ℕ) : Type 0 where
+  pub from-first : firstId N (getD c k 0) ≤ g
+  pub to-end : g ≤ firstId N (getD c k 0) + size N (getD c k 0)
+  pub lives : g < firstId N (getD c k 0) + size N (getD c k 0) → isLive words g ≡ true
+
+-- .. and the first such one from id `from` on that fits.
+pub record FirstFitting (N : Network) (c : Combination) (place own k : ℕ) (chosen words : List ℕ) (from g : ℕ) : Type 0 where
+  pub comes : ComesFrom N c k words g
+  pub from-on : from ≤ g
+  pub fitting : g < firstId N (getD c k 0) + size N (getD c k 0) → fits N c place own k chosen (g - firstId N (getD c k 0)) ≡ true
+  pub none-before : (h : ℕ) → from ≤ h → h < g → isLive words h ≡ true → fits N c place own k chosen (h - firstId N (getD c k 0)) ≡ false
+
 -- ---- The walk over a member's tuples
 
 -- what there is to find once the tuples before k are chosen, and x
@@ -145,7 +170,11 @@ left Q k resumes chosen g =
 
 -- ---- The answer
 
--- what `ok` and the first m indices stand for
+-- what a search came to is a support
+abbrev pub isFound : ℕ → Bool
+isFound kind = eqb kind 1
+
+-- what this and the first m indices stand for
 abbrev pub answer : Bool → List ℕ → Option (List ℕ)
 answer ok tuples = cond ok (some tuples) none
 
@@ -155,22 +184,23 @@ sought Q k chosen =
     completion (netOf Q) (liveOf Q) (seeker Q) (Q .low) (chosenIds (netOf Q) (Q .members) chosen k) (map (idsOf (netOf Q)) (drop k (Q .members)))
 
 abbrev pub Finds : Search → ℕ → List ℕ → Found → Type 0
-Finds Q k chosen f = answer (f .ok) (take (length (Q .members)) (f .tuples)) ≡ sought Q k chosen
+Finds Q k chosen f = answer (isFound (f .kind)) (take (length (Q .members)) (f .tuples)) ≡ sought Q k chosen
 
 -- .. with nothing chosen yet
 abbrev pub FindsFirst : Search → Found → Type 0
-FindsFirst Q f = answer (f .ok) (take (length (Q .members)) (f .tuples)) ≡ supportFrom (netOf Q) (liveOf Q) (Q .members) (seeker Q) (Q .low)
+FindsFirst Q f = answer (isFound (f .kind)) (take (length (Q .members)) (f .tuples)) ≡ supportFrom (netOf Q) (liveOf Q) (Q .members) (seeker Q) (Q .low)
 
--- It is the turn of member k, and of its live tuple x, which is on the walk.
+-- It is the turn of member k, which is not the last, and of its live tuple x, which is on the walk.
 pub record AttemptAt (Q : Search) (index : List ℕ) (k : ℕ) (resumes : Bool) (chosen : List ℕ) (x : ℕ) : Type 0 where
   pub turn : SearchAt Q index k resumes chosen
   pub from-start : span Q k resumes .start ≤ span Q k resumes .first + x
   pub to-end : span Q k resumes .first + x < span Q k resumes .end
   pub lives : isLive (Q .words) (span Q k resumes .first + x) ≡ true
+  pub further : placeBehind (Q .place) k < length (Q .members)
 
 -- what there is to find with tuple x
 abbrev pub Attempts : Search → ℕ → List ℕ → ℕ → Found → Type 0
-Attempts Q k chosen x f = answer (f .ok) (take (length (Q .members)) (f .tuples)) ≡ onward Q k chosen (tupleStart (Q .lists .starts) (getD (Q .members) k 0) + x)
+Attempts Q k chosen x f = answer (isFound (f .kind)) (take (length (Q .members)) (f .tuples)) ≡ onward Q k chosen (tupleStart (Q .lists .starts) (getD (Q .members) k 0) + x)
 
 -- The walk has come to id g, a live one unless it is at its end: what is left to find is all there is to find.
 pub record WalkAt (Q : Search) (k : ℕ) (resumes : Bool) (chosen : List ℕ) (g : ℕ) : Type 0 where
@@ -181,8 +211,8 @@ pub record WalkAt (Q : Search) (k : ℕ) (resumes : Bool) (chosen : List ℕ) (g
 
 -- A walk that found something found what there is to find; another one has come to an id.
 pub record Walks (Q : Search) (k : ℕ) (resumes : Bool) (chosen : List ℕ) (w : Walked) : Type 0 where
-  pub found : w .ok ≡ true → sought Q k chosen ≡ some (take (length (Q .members)) (w .tuples))
-  pub on : w .ok ≡ false → WalkAt Q k resumes chosen (w .at)
+  pub found : isFound (w .kind) ≡ true → sought Q k chosen ≡ some (take (length (Q .members)) (w .tuples))
+  pub on : isFound (w .kind) ≡ false → WalkAt Q k resumes chosen (w .at)
 
 -- ---- Tuples that lead to nothing
 

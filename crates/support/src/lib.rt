@@ -10,7 +10,7 @@ ghost use Rattle.layout.specs.Loan.{entry, exit};
 ghost use Rattle.layout.specs.Starts.{tupleStart};
 ghost use Rattle.layout.specs.Setting.{lists, networkIn};
 ghost use Rattle.narrowing.specs.Narrows.{Long};
-ghost use Rattle.support.specs.Search.{searching, Seeking, SearchAt, pastOwn, spanAt, fits, Trial, TurnOf, Sifts, MayLead, AttemptAt, Attempts, WalkAt, Walks, Finds, FindsFirst};
+ghost use Rattle.support.specs.Search.{searching, Seeking, SearchAt, pastOwn, placeBehind, spanAt, fits, Trial, Trials, ComesFrom, FirstFitting, TurnOf, Sifts, MayLead, AttemptAt, Attempts, WalkAt, Walks, Finds, FindsFirst};
 use doubles::PLACES;
 use doubles::Table;
 use doubles::alike::variables_from;
@@ -60,19 +60,25 @@ pub fn put(tuples: Indices, k: usize, x: u16) -> Indices
     t
 }
 
-// The indices of a support, one for each member; where there is none, ok is false. And whether the search was hard.
+// What a search came to: a support, or none, after a search that was hard or not.
+pub const FOUND: u16 = 1;
+
+const NONE: u16 = 0;
+
+const HARD: u16 = 2;
+
+// The indices of a support, one for each member, if the kind is FOUND. Its fields are of one width and are read back as they are written: a
+// word made of two flags would be waited for.
 pub struct Found {
-    pub ok: bool,
-    pub hard: bool,
     pub tuples: Indices,
+    pub kind: u16,
 }
 
 // How a walk over a member's tuples ended: with a support, or at an id before which no tuple leads to one.
 struct Walked {
-    ok: bool,
-    hard: bool,
-    at: u16,
     tuples: Indices,
+    kind: u16,
+    at: u16,
 }
 
 // The id of a relation's first tuple, and the ids that a walk goes over: from start on and below end.
@@ -100,6 +106,17 @@ fn past_own(place: usize, own: u16, k: usize, chosen: Indices) -> Stage
         };
     }
     Stage { k, chosen }
+}
+
+// The place behind k, past the seeking tuple's.
+fn place_behind(place: usize, k: usize) -> usize
+    requires { ⌜ k < maxMembers ⌝ }
+    ensures { λ n. ⌜ n ≡ placeBehind place k ⌝ }
+{
+    if k + 1 == place {
+        return k + 2;
+    }
+    k + 1
 }
 
 // The walk over relation r: its tuples, from index `from` on if the search resumes.
@@ -151,7 +168,47 @@ fn fits(
     true
 }
 
-// The first support at or after `low` that has the tuples chosen for the members before k, and tuple x for member k.
+// The id of the first live tuple of member k from id `from` on that fits; the end of its relation's ids if none does.
+fn first_fitting(
+    variables: &[u16],
+    values: &[Value],
+    starts: &Starts,
+    words: &Words,
+    members: &[u16],
+    place: usize,
+    own: u16,
+    k: usize,
+    chosen: Indices,
+    from: u16,
+) -> u16
+    requires { ⌜ Long (now words) × Trials (lists now variables values starts) (now members) place own k chosen ⌝ }
+    requires { ⌜ ComesFrom (networkIn (lists now variables values starts)) (now members) k (now words) from ⌝ }
+    ensures { λ g. ⌜ FirstFitting (networkIn (lists entry variables values starts)) (entry members) place own k chosen (entry words) from g ⌝ }
+{
+    let r = members[k];
+    let first = tuple_start(starts, r);
+    let end = tuple_start(starts, r + 1);
+    let mut g = from;
+    while g < end {
+        if fits(
+            variables,
+            values,
+            starts,
+            members,
+            place,
+            own,
+            k,
+            chosen,
+            g - first,
+        ) {
+            return g;
+        }
+        g = next(words, g + 1, end);
+    }
+    g
+}
+
+// The first support at or after `low` that has the tuples chosen for the members before k, and tuple x for member k, which is not the last.
 fn attempt(
     variables: &[u16],
     values: &[Value],
@@ -175,14 +232,6 @@ fn attempt(
     let stage = past_own(place, own, k + 1, put(chosen, k, x));
     let on = stage.k;
     let tuples = stage.chosen;
-    if on == members.len() {
-        let ok = fits(variables, values, starts, members, place, own, k, chosen, x);
-        return Found {
-            ok,
-            hard: false,
-            tuples,
-        };
-    }
     let mut fewer = *words;
     if narrow_members(
         variables,
@@ -215,11 +264,7 @@ fn attempt(
             );
         }
     }
-    Found {
-        ok: false,
-        hard: false,
-        tuples,
-    }
+    Found { tuples, kind: NONE }
 }
 
 // The walk over member k's live tuples from id `from` on, at the turn that `search` is called for. It stops where the search is hard.
@@ -239,7 +284,7 @@ fn walk(
     from: u16,
 ) -> Walked
     requires { ⌜ Long (now words) × SearchAt (searching now variables values starts words members place own low) (now index) k resumes chosen ⌝ }
-    requires { ⌜ WalkAt (searching now variables values starts words members place own low) k resumes chosen from ⌝ }
+    requires { ⌜ WalkAt (searching now variables values starts words members place own low) k resumes chosen from × (placeBehind place k < length (now members)) ⌝ }
     ensures { λ w. ⌜ Walks (searching entry variables values starts words members place own low) k resumes chosen w ⌝ }
 {
     let r = members[k];
@@ -264,32 +309,29 @@ fn walk(
             g - first,
             false,
         );
-        let hard = found.hard;
-        let tuples = found.tuples;
-        if found.ok {
+        let kind = found.kind;
+        if kind == FOUND {
+            let tuples = found.tuples;
             return Walked {
-                ok: true,
-                hard,
-                at: g,
                 tuples,
+                kind,
+                at: g,
             };
         }
         g = next(words, g + 1, end);
         failures += 1;
-        if hard || failures == FAILURES {
+        if kind == HARD || failures == FAILURES {
             return Walked {
-                ok: false,
-                hard: true,
-                at: g,
                 tuples: chosen,
+                kind: HARD,
+                at: g,
             };
         }
     }
     Walked {
-        ok: false,
-        hard: false,
-        at: g,
         tuples: chosen,
+        kind: NONE,
+        at: g,
     }
 }
 
@@ -377,7 +419,7 @@ fn comb(
     from: u16,
 ) -> Found
     requires { ⌜ Long (now words) × SearchAt (searching now variables values starts words members place own low) (now index) k resumes chosen ⌝ }
-    requires { ⌜ WalkAt (searching now variables values starts words members place own low) k resumes chosen from ⌝ }
+    requires { ⌜ WalkAt (searching now variables values starts words members place own low) k resumes chosen from × (placeBehind place k < length (now members)) ⌝ }
     ensures { λ f. ⌜ Finds (searching entry variables values starts words members place own low) k chosen f ⌝ }
 {
     let r = members[k];
@@ -422,16 +464,15 @@ fn comb(
                 x,
                 true,
             );
-            if found.ok {
+            if found.kind == FOUND {
                 return found;
             }
         }
         g = next(words, g + 1, end);
     }
     Found {
-        ok: false,
-        hard: true,
         tuples: chosen,
+        kind: HARD,
     }
 }
 
@@ -458,6 +499,32 @@ fn search(
     let span = span_of(starts, members[k], resumes, low[k]);
     let end = span.end;
     let from = next(words, span.start, end);
+    if place_behind(place, k) == members.len() {
+        let g = first_fitting(
+            variables,
+            values,
+            starts,
+            words,
+            members,
+            place,
+            own,
+            k,
+            chosen,
+            from,
+        );
+        if end <= g {
+            return Found {
+                tuples: chosen,
+                kind: NONE,
+            };
+        }
+        let full = past_own(place, own, k + 1, put(chosen, k, g - span.first));
+        let tuples = full.chosen;
+        return Found {
+            tuples,
+            kind: FOUND,
+        };
+    }
     if eager {
         return comb(
             variables,
@@ -490,12 +557,11 @@ fn search(
         chosen,
         from,
     );
-    let ok = walked.ok;
-    let hard = walked.hard;
     let tuples = walked.tuples;
+    let kind = walked.kind;
     let at = walked.at;
-    if ok || end <= at {
-        return Found { ok, hard, tuples };
+    if kind == FOUND || end <= at {
+        return Found { tuples, kind };
     }
     let mut fewer = *words;
     let steps = steps_between(index, starts, words, members, place, k);
@@ -511,7 +577,7 @@ fn search(
         steps,
         MANY,
     ) {
-        return Found { ok, hard, tuples };
+        return Found { tuples, kind };
     }
     let again = next(&fewer, at, end);
     comb(
@@ -549,9 +615,8 @@ pub fn first_support(
     ensures { λ f. ⌜ FindsFirst (searching entry variables values starts words members place own low) f ⌝ }
 {
     let none = Found {
-        ok: false,
-        hard: false,
         tuples: low,
+        kind: NONE,
     };
     let r = members[place];
     if !is_live(words, tuple_start(starts, r) + own) {
@@ -591,9 +656,8 @@ pub fn first_support(
     let tuples = stage.chosen;
     if k == members.len() {
         return Found {
-            ok: true,
-            hard: false,
             tuples,
+            kind: FOUND,
         };
     }
     search(

@@ -8,7 +8,7 @@ use borrow.Author.Needs.{needs}
 use Rattle.model.specs.Lists.{all, pairwise}
 use Rattle.model.proofs.Bools.{and-right}
 use Rattle.model.proofs.Search.{start-lowest, supportFrom-any}
-use Rattle.support.specs.Search.{Search, searching, netOf, liveOf, seeker}
+use Rattle.support.specs.Search.{Search, searching, netOf, liveOf, seeker, isFound}
 use Rattle.consistency.specs.Consistent.{lowest}
 use Rattle.consistency.proofs.Pairs.{lowest-other}
 use Rattle.consistency.proofs.has_support.Statement.{statement}
@@ -21,7 +21,8 @@ searchOf a =
 
 returns : tie.Need-returns
 returns c =
-    let a = c .before .before .before .before in
+    let f = c .before in
+    let a = f .before .before .before .before in
     let Q = searchOf a in
     let N = netOf Q in
     let s = a .pre .1 .sound in
@@ -29,7 +30,7 @@ returns c =
     (start-lowest N (liveOf Q) (seeker Q) (Q .low) (Q .members) (Q .place) (Q .own)
     (and-right (all (λ r. ltb r (length (N .relations))) (Q .members)) (pairwise ltb (Q .members)) (s .members))
     (s .place) (s .own) refl (s .low-own) (lowest-other (Q .place) (Q .own)))
-    (c .first-support .result .ok) (take (length (Q .members)) (c .first-support .result .tuples)) (c .first-support .ensures)
+    (isFound (f .first-support .result .kind)) (take (length (Q .members)) (f .first-support .result .tuples)) (f .first-support .ensures)
 
 pub has-support-spec : {M : Type 1} → statement M
 has-support-spec =

@@ -16,7 +16,8 @@ use mir.Syntax.{w16}
 use borrow.Fn.Kinds.{In}
 use borrow.Fn.PlainCycle.{Measures, is, falls, and}
 use borrow.Author.Needs.{needs}
-use borrow.Author.Tests.{not-true, leb-true}
+use borrow.Author.Tests.{not-true, leb-true, eq-eqb, ne-eqb}
+use Rattle.model.specs.Network.{size, firstId}
 use Rattle.model.specs.TupleSet.{has}
 use Rattle.model.specs.LiveWords.{isLive, nextLive}
 use Rattle.model.proofs.Bools.{not-both}
@@ -25,12 +26,12 @@ use Rattle.layout.specs.Starts.{tupleStart}
 use Rattle.support.specs.declared.Span.{Span}
 use Rattle.support.specs.declared.Stage.{Stage}
 use Rattle.narrowing.specs.declared.sieve.Sieve.{Sieve}
-use Rattle.support.specs.Search.{Search, netOf, liveOf, idAt, seeker, SoundSearch, chosenIds, Prefix, SearchAt, pastOwn, span, onward, left, WalkAt, MayLead, fits, sought, answer}
+use Rattle.support.specs.Search.{Search, netOf, liveOf, idAt, seeker, SoundSearch, chosenIds, Prefix, SearchAt, pastOwn, placeBehind, span, onward, left, WalkAt, MayLead, fits, sought, isFound, answer}
 use Rattle.support.proofs.Chosen.{chosen-mem}
-use Rattle.support.proofs.Walking.{member-below, exists}
+use Rattle.support.proofs.Walking.{member-below, exists, span-inside}
 use Rattle.support.proofs.Ends.{turn-done}
-use Rattle.support.proofs.Own.{NextStage, next-stage, past-forth}
-use Rattle.support.proofs.Turn.{span-asks, Turn, walk-asks, walk-forward, come-first, come-from, come-none, come-found, come-next, come-lives, come-live, index-below, trial, come-clash, onward-more, come-more, agrees-own}
+use Rattle.support.proofs.Own.{NextStage, next-stage, past-forth, past-place, behind-within}
+use Rattle.support.proofs.Turn.{span-asks, Turn, walk-asks, walk-forward, come-first, come-from, come-none, come-found, come-next, come-lives, come-live, index-below, trial, trials, comes-from, come-fitting, come-clash, onward-more, come-more, agrees-own, first-id}
 use Rattle.support.proofs.Failed.{Known, known-none, known-next, leads-nowhere}
 use Rattle.support.proofs.Narrow.{others, onWords, Fewer, fewer-words, ready-narrowed, sought-bare, sought-none, prefix-narrowed, sought-narrowed, turn-sound, turn-lives, turn-prefix, turn-sought, turn-left}
 use Rattle.support.proofs.attempt.Reads as attempt
@@ -51,8 +52,10 @@ use Rattle.live.proofs.next.Reads as next-reads
 use Rattle.narrowing.proofs.narrow_members.Reads as narrow-members-reads
 use Rattle.spreading.proofs.spread_members.Reads as spread-members-reads
 use Rattle.spreading.proofs.steps.steps_between.Reads as steps-between-reads
+use Rattle.support.proofs.first_fitting.Reads as first-fitting-reads
 use Rattle.support.proofs.fits.Reads as fits-reads
 use Rattle.support.proofs.past_own.Reads as past-own-reads
+use Rattle.support.proofs.place_behind.Reads as place-behind-reads
 use Rattle.support.proofs.put.Reads as put-reads
 use Rattle.support.proofs.span_of.Reads as span-of-reads
 use Rattle.support.proofs.may_lead.Reads as may-lead-reads
@@ -111,11 +114,11 @@ walk-below t = and 6 walk-kinds.ps (falls 6 walk-kinds.ps _<_ μ-walk t) walk.Pr
 
 abbrev attempt-callees : ℕ → attempt-lts.Claims
 attempt-callees t =
-    (put-reads.Asked, put-reads.Learnt, past-own-reads.Asked, past-own-reads.Learnt, fits-reads.Asked, fits-reads.Learnt, narrow-members-reads.Asked, narrow-members-reads.Learnt, search-below t, search′.Post)
+    (put-reads.Asked, put-reads.Learnt, past-own-reads.Asked, past-own-reads.Learnt, narrow-members-reads.Asked, narrow-members-reads.Learnt, fits-reads.Asked, fits-reads.Learnt, search-below t, search′.Post)
 
 abbrev search-callees : ℕ → search-lts.Claims
 search-callees t =
-    (span-of-reads.Asked, span-of-reads.Learnt, next-reads.Asked, next-reads.Learnt, comb-below t, comb.Post, walk-below t, walk.Post, steps-between-reads.Asked, steps-between-reads.Learnt, spread-members-reads.Asked, spread-members-reads.Learnt)
+    (span-of-reads.Asked, span-of-reads.Learnt, next-reads.Asked, next-reads.Learnt, place-behind-reads.Asked, place-behind-reads.Learnt, first-fitting-reads.Asked, first-fitting-reads.Learnt, put-reads.Asked, put-reads.Learnt, past-own-reads.Asked, past-own-reads.Learnt, comb-below t, comb.Post, walk-below t, walk.Post, steps-between-reads.Asked, steps-between-reads.Learnt, spread-members-reads.Asked, spread-members-reads.Learnt)
 
 abbrev walk-callees : ℕ → walk-lts.Claims
 walk-callees t =
@@ -141,6 +144,17 @@ turn-of Q index k resumes chosen A sized low-sized =
       is-begin = refl;
       is-end = refl;
     }
+
+-- a tuple more is chosen, which fits: the stage behind it
+module _ {Q : Search} {k : ℕ} {resumes : Bool} {chosen : List ℕ} {first begin end : ℕ} (T : Turn Q k resumes chosen first begin end) (lively : has (liveOf Q) (seeker Q) ≡ true) (x : ℕ) (from : span Q k resumes .start ≤ first + x) (to : first + x < end) (lives : isLive (Q .words) (first + x) ≡ true) (f : fits (netOf Q) (Q .members) (Q .place) (Q .own) k chosen x ≡ true) (s : Stage) (e : s ≡ pastOwn (Q .place) (Q .own) (k + 1) (set chosen k x)) where
+  stage-behind : NextStage Q (resumes && eqb x (getD (Q .low) k 0)) (k + 1) (set chosen k x) s
+  stage-behind =
+      next-stage Q (T .ready) (resumes && eqb x (getD (Q .low) k 0)) (k + 1) (set chosen k x) (length-set chosen k x ∙ T .sized) (T .low-sized) lively
+      (come-more T x from to lives f) s e
+
+  -- what there is to find then is what there is to find onward
+  stage-onward : sought Q (s .k) (s .chosen) ≡ onward Q k chosen (first + x)
+  stage-onward = stage-behind .same ∙ onward-more T x from to
 
 flag : (resumes equal on : Bool) → ((resumes ≡ true) × (on ≡ equal)) ⊎ ((resumes ≡ false) × (on ≡ resumes)) → (resumes && equal) ≡ on
 flag resumes equal on =
@@ -201,13 +215,10 @@ module _ (t : ℕ) where
 
       module _ (f : fit ≡ true) where
         stage : NextStage given resumed (a .args .k + 1) more s
-        stage =
-            next-stage given ready resumed (a .args .k + 1) more (length-set (a .args .chosen) (a .args .k) (a .args .x) ∙ sized) low-sized (a .pre .1 .1 .turn .lives)
-            (come-more turn (a .args .x) (a .pre .1 .1 .from-start) (a .pre .1 .1 .to-end) (a .pre .1 .1 .lives) f) s e
+        stage = stage-behind turn (a .pre .1 .1 .turn .lives) (a .args .x) (a .pre .1 .1 .from-start) (a .pre .1 .1 .to-end) (a .pre .1 .1 .lives) f s e
 
-        -- what there is to find then is what there is to find onward
         stage-ahead : sought given (s .k) (s .chosen) ≡ ahead
-        stage-ahead = stage .same ∙ onward-more turn (a .args .x) (a .pre .1 .1 .from-start) (a .pre .1 .1 .to-end)
+        stage-ahead = stage-onward turn (a .pre .1 .1 .turn .lives) (a .args .x) (a .pre .1 .1 .from-start) (a .pre .1 .1 .to-end) (a .pre .1 .1 .lives) f s e
 
         latest-chosen : List·Memᴰ latest (chosenIds (netOf given) (a .args .members .now) (s .chosen) (s .k))
         latest-chosen =
@@ -219,16 +230,9 @@ module _ (t : ℕ) where
   staged : (b : attempt-lts.After-past-own (attempt-callees t) (attempt-at t) attempt.Post) → let a = b .before .before .before .before .before .before in b .past-own .result ≡ pastOwn (a .args .place) (a .args .own) (a .args .k + 1) (more a)
   staged b = let a = b .before .before .before .before .before .before in b .past-own .ensures ∙ ap (pastOwn (a .args .place) (a .args .own) (a .args .k + 1)) (b .before .put .ensures)
 
-  -- every member has its tuple
-  last : (a : Attempt) (s : Stage) → s ≡ pastOwn (a .args .place) (a .args .own) (a .args .k + 1) (more a) → s .k ≡ length (a .args .members .now) → (ok : Bool) → ok ≡ fit a → answer ok (take (length (a .args .members .now)) (s .chosen)) ≡ ahead a
-  last a s e q true f =
-      let S = stage a s e (sym f) in
-      sym (turn-done (given a) (ready a) (resumed a) (s .chosen) (S .sized) (s .k) q (S .prefix)) ∙ stage-ahead a s e (sym f)
-  last a s e q false f = sym (clash a (sym f))
-
   module _ (n : attempt-lts.After-narrow-members (attempt-callees t) (attempt-at t) attempt.Post) where
     abbrev chosen : attempt-lts.After-past-own (attempt-callees t) (attempt-at t) attempt.Post
-    chosen = n .before .before .before .before .before
+    chosen = n .before .before .before .before
 
     abbrev start : Attempt
     start = chosen .before .before .before .before .before .before
@@ -255,7 +259,7 @@ module _ (t : ℕ) where
 
   attempt-narrow-members-requires : attempt-lts.Need-narrow-members-requires (attempt-callees t) (attempt-at t) attempt.Post
   attempt-narrow-members-requires c κs =
-      let b = c .before .before .before .before in
+      let b = c .before .before .before in
       let a = b .before .before .before .before .before .before in
       let l = forth a (b .past-own .result) (staged b) in (
         a .pre .1 .0,
@@ -272,10 +276,11 @@ module _ (t : ℕ) where
       let b = chosen n in
       let a = start n in
       let s = b .past-own .result in
-      let f : fit a ≡ true = sym (j .before .before .fits3 .ensures) ∙ j .before .if3 .taken in
+      let f : fit a ≡ true = sym (j .before .before .fits2 .ensures) ∙ j .before .if2 .taken in
       let S = stage a s (staged b) f in
       let m = latest-chosen a s (staged b) f in
-      let e = flag (a .args .resumes) (eqb (a .args .x) (getD (a .args .t9) (a .args .k) 0)) (j .if4 .resuming) (⊎-elim (λ w. _⊎_.inl (w .0 .taken, w .1)) (λ w. _⊎_.inr (w .0 .left, w .1)) (j .if4 .came)) in (
+      let e = flag (a .args .resumes) (eqb (a .args .x) (getD (a .args .t9) (a .args .k) 0)) (j .if3 .resuming) (⊎-elim (λ w. _⊎_.inl (w .0 .taken, w .1)) (λ w. _⊎_.inr (w .0 .left, w .1)) (j .if3 .came)) in
+      let on : s .k ≡ placeBehind (a .args .place) (a .args .k) = ap (λ (s : Stage). s .k) (staged b) ∙ past-place (a .args .place) (a .args .own) (a .args .k) (more a) in (
         omega (arith, a .pre .0, turn a .inside, S .forth, S .prefix .depth),
         (
           n .narrow-members .ensures .0,
@@ -283,17 +288,17 @@ module _ (t : ℕ) where
             seeking = record { sound = ready-narrowed (over n); indexed = a .pre .1 .1 .turn .seeking .indexed };
             prefix = subst (λ (on : Bool). Prefix (onWords (given a) (fewer n)) (s .k) on (s .chosen)) e (prefix-narrowed (over n) (s .k) (s .chosen) m (resumed a) (S .prefix));
             lives = over n .narrower .keeps (seeker (given a)) (a .pre .1 .1 .turn .lives) (agrees-own (turn a) (a .args .x) (a .pre .1 .1 .from-start) (a .pre .1 .1 .to-end) f);
-            inside = omega (arith, S .prefix .depth, n .before .before .before .if1 .left);
+            inside = omega (arith, on, a .pre .1 .1 .further);
             other = S .other;
           },
         ),
       )
 
-  attempt-returns-2 : attempt-lts.Need-returns-2 (attempt-callees t) (attempt-at t) attempt.Post
-  attempt-returns-2 c =
+  attempt-returns : attempt-lts.Need-returns (attempt-callees t) (attempt-at t) attempt.Post
+  attempt-returns c =
       let j = c .before .before in
       let n = j .before .before .before .before in
-      c .search .ensures ∙ narrowed-ahead n (sym (j .before .before .fits3 .ensures) ∙ j .before .if3 .taken)
+      c .search .ensures ∙ narrowed-ahead n (sym (j .before .before .fits2 .ensures) ∙ j .before .if2 .taken)
 
 -- ---- walk
 
@@ -358,7 +363,7 @@ module _ (t : ℕ) where
 
   module _ (c : walk-lts.After-next (walk-callees t) (walk-at t) walk.Post walk-Inv-loop walk-μ-loop) where
     abbrev tried : walk-lts.After-attempt (walk-callees t) (walk-at t) walk.Post walk-Inv-loop walk-μ-loop
-    tried = c .before .before .before .before
+    tried = c .before .before .before
 
     abbrev looped : walk-lts.In-loop (walk-callees t) (walk-at t) walk.Post walk-Inv-loop walk-μ-loop
     looped = tried .before
@@ -372,7 +377,7 @@ module _ (t : ℕ) where
         (come-next (walking a) (l .before .loop .g) (reached l) (inside l)
         (ap (onward (walked a) (a .args .k) (a .args .chosen)) (sym (is-g l))
         ∙ sym (tried .attempt .ensures)
-        ∙ ap (λ (b : Bool). answer b (take (length (a .args .members .now)) (tried .attempt .result .tuples))) (c .before .before .if1 .left)))
+        ∙ ap (λ (b : Bool). answer b (take (length (a .args .members .now)) (tried .attempt .result .tuples))) (ne-eqb (tried .attempt .result .kind) 1 (c .before .before .if1 .left))))
 
     further-on : (l₀ : ℕ) → l₀ ≡ looped .before .loop .g → l₀ < c .next .result
     further-on l₀ e =
@@ -391,6 +396,7 @@ module _ (t : ℕ) where
             from-start = omega (arith, is-g l, reached l .from-start);
             to-end = omega (arith, is-g l, inside l);
             lives = subst (λ (g : ℕ). isLive (a .args .words .now) g ≡ true) (sym (is-g l)) (reached l .lives (inside l));
+            further = a .pre .1 .1 .1;
           },
         ),
       )
@@ -401,16 +407,17 @@ module _ (t : ℕ) where
       let l = u .before in
       let a = begun l in
       let ts = take (length (a .args .members .now)) (u .attempt .result .tuples) in
+      let found = eq-eqb (u .attempt .result .kind) 1 (c .before .if1 .taken) in
       record {
         found =
             λ e.
             come-found (walking a) (l .before .loop .g) (reached l) (inside l) ts
-            (ap (onward (walked a) (a .args .k) (a .args .chosen)) (sym (is-g l)) ∙ sym (u .attempt .ensures) ∙ ap (λ (b : Bool). answer b ts) (c .if1 .taken));
-        on = λ e. absurd (not-both refl e);
+            (ap (onward (walked a) (a .args .k) (a .args .chosen)) (sym (is-g l)) ∙ sym (u .attempt .ensures) ∙ ap (λ (b : Bool). answer b ts) found);
+        on = λ e. absurd (not-both found e);
       }
 
   walk-loop-holds : walk-lts.Need-loop-holds (walk-callees t) (walk-at t) walk.Post walk-Inv-loop walk-μ-loop
-  walk-loop-holds c = let a = c .before .before .before .before .before .before in (a .pre .1 .1, omega arith)
+  walk-loop-holds c = let a = c .before .before .before .before .before .before in (a .pre .1 .1 .0, omega arith)
 
   walk-loop-again : walk-lts.Need-loop-again (walk-callees t) (walk-at t) walk.Post walk-Inv-loop walk-μ-loop
   walk-loop-again c =
@@ -529,7 +536,7 @@ module _ (t : ℕ) where
         let l = at-loop in
         let a = origin l in
         ⊎-elim
-        (λ w. sym (w .1 .ensures) ∙ ap (λ (b : Bool). answer b (take (length (a .args .members .now)) (w .1 .result .tuples))) (w .2 .left))
+        (λ w. sym (w .1 .ensures) ∙ ap (λ (b : Bool). answer b (take (length (a .args .members .now)) (w .1 .result .tuples))) (ne-eqb (w .1 .result .kind) 1 (w .3 .left)))
         (λ w. leads-nowhere (l .before .loop .inv .1) (lead led) (combing a) (covering l .variables-from .ensures) (x-from l) (x-to l) (l .before .before .sieve-behind .ensures) (w .left))
         (joined .if2 .came)
 
@@ -594,16 +601,74 @@ module _ (t : ℕ) where
         (sym (n .next .ensures ∙ ap (λ (i : ℕ). nextLive (a .args .words .now) i (spanned .span-of .result .end)) start-is ∙ ap (nextLive (a .args .words .now) (path a .start)) stop-is))
         (come-first (going a))
 
+    first-of : spanned .span-of .result .first ≡ path entered .first
+    first-of = ap (λ (s : Span). s .first) (spanned .span-of .ensures)
+
+  -- the last member's turn
+  module _ (w : search-lts.After-first-fitting (search-callees t) (search-at t) search′.Post) where
+    abbrev on-last : search-lts.After-next (search-callees t) (search-at t) search′.Post
+    on-last = w .before .before .before
+
+    abbrev asker : Searching
+    asker = entered on-last
+
+    abbrev fitted : ℕ
+    fitted = w .first-fitting .result
+
+    fits-at : WalkAt (sent asker) (asker .args .k) (asker .args .resumes) (asker .args .chosen) fitted
+    fits-at = come-fitting (going asker) (on-last .next .result) fitted (begins on-last) (w .first-fitting .ensures)
+
+    -- its index
+    abbrev fitted-x : ℕ
+    fitted-x = fitted - spanned on-last .span-of .result .first
+
+    fitted-is : path asker .first + fitted-x ≡ fitted
+    fitted-is = omega (arith, first-of on-last, come-from (going asker) fitted fits-at .0)
+
+    module _ (below : fitted < spanned on-last .span-of .result .end) (s : Stage) (e : s ≡ pastOwn (asker .args .place) (asker .args .own) (asker .args .k + 1) (set (asker .args .chosen) (asker .args .k) fitted-x)) where
+      before-end : fitted < path asker .end
+      before-end = omega (arith, below, stop-is on-last)
+
+      fit-there : fits (netOf (sent asker)) (asker .args .members .now) (asker .args .place) (asker .args .own) (asker .args .k) (asker .args .chosen) fitted-x ≡ true
+      fit-there =
+          let f = w .first-fitting .ensures in
+          let T = going asker in
+          ap (λ (n : ℕ). fits (netOf (sent asker)) (asker .args .members .now) (asker .args .place) (asker .args .own) (asker .args .k) (asker .args .chosen) (fitted - n)) (first-of on-last ∙ first-id T)
+          ∙ f .fitting (omega (arith, before-end, span-end-is))
+        where
+          span-end-is : path asker .end ≡ firstId (netOf (sent asker)) (getD (asker .args .members .now) (asker .args .k) 0) + size (netOf (sent asker)) (getD (asker .args .members .now) (asker .args .k) 0)
+          span-end-is = span-inside (sent asker) (asker .args .k) (sound asker) (asked asker .inside) (asker .args .resumes) .end-is
+
+      full : sought (sent asker) (asker .args .k) (asker .args .chosen) ≡ some (take (length (asker .args .members .now)) (s .chosen))
+      full =
+          let T = going asker in
+          let from : path asker .start ≤ path asker .first + fitted-x = omega (arith, fitted-is, fits-at .from-start) in
+          let to : path asker .first + fitted-x < path asker .end = omega (arith, fitted-is, before-end) in
+          let lives : isLive (asker .args .words .now) (path asker .first + fitted-x) ≡ true = subst (λ (g : ℕ). isLive (asker .args .words .now) g ≡ true) (sym fitted-is) (fits-at .lives before-end) in
+          let S = stage-behind T (asked asker .lives) fitted-x from to lives fit-there s e in
+          let q : s .k ≡ length (asker .args .members .now) =
+          ap (λ (s : Stage). s .k) e ∙ past-place (asker .args .place) (asker .args .own) (asker .args .k) (set (asker .args .chosen) (asker .args .k) fitted-x) ∙ sym (w .before .before .place-behind .ensures) ∙ w .before .if1 .taken in
+          come-found T fitted fits-at before-end (take (length (asker .args .members .now)) (s .chosen))
+          (ap (onward (sent asker) (asker .args .k) (asker .args .chosen)) (sym fitted-is)
+          ∙ sym (stage-onward T (asked asker .lives) fitted-x from to lives fit-there s e)
+          ∙ turn-done (sent asker) (sound asker) (asker .args .resumes && eqb fitted-x (getD (asker .args .t9) (asker .args .k) 0)) (s .chosen) (S .sized) (s .k) q (S .prefix))
+
+  -- another's
+  more-behind : (b : search-lts.Else1 (search-callees t) (search-at t) search′.Post) → let a = entered (b .before .before) in placeBehind (a .args .place) (a .args .k) < length (a .args .members .now)
+  more-behind b =
+      let a = entered (b .before .before) in
+      omega (arith, behind-within (a .args .place) (a .args .k) (length (a .args .members .now)) (asked a .inside) (sound a .place), b .before .place-behind .ensures, b .if1 .left)
+
   -- the members from k on, narrowed through each other
   module _ (p : search-lts.After-spread-members (search-callees t) (search-at t) search′.Post) where
-    abbrev stopped : search-lts.Else3 (search-callees t) (search-at t) search′.Post
+    abbrev stopped : search-lts.Else5 (search-callees t) (search-at t) search′.Post
     stopped = p .before .before .before .before
 
     abbrev first-walk : search-lts.After-walk (search-callees t) (search-at t) search′.Post
     first-walk = stopped .before .before .before
 
     abbrev input : Searching
-    input = entered (first-walk .before .before)
+    input = entered (first-walk .before .before .before .before)
 
     abbrev fewest : List ℕ
     fewest = p .spread-members .last .1 .1 .1 .1 .0
@@ -615,8 +680,11 @@ module _ (t : ℕ) where
     same : sought thinner (input .args .k) (input .args .chosen) ≡ sought (sent input) (input .args .k) (input .args .chosen)
     same = turn-sought (sent input) fewest (input .args .k) (p .spread-members .ensures .0) (p .spread-members .ensures .1 .0) (sound input) (asked input .inside) (input .args .resumes) (input .args .chosen) (asked input .prefix)
 
+    unfound : isFound (first-walk .walk .result .kind) ≡ false
+    unfound = ne-eqb (first-walk .walk .result .kind) 1 (stopped .before .if4 .left)
+
     came : WalkAt (sent input) (input .args .k) (input .args .resumes) (input .args .chosen) (first-walk .walk .result .at)
-    came = first-walk .walk .ensures .on (stopped .before .if2 .left)
+    came = first-walk .walk .ensures .on unfound
 
     thinner-at : SearchAt thinner (input .args .index .now) (input .args .k) (input .args .resumes) (input .args .chosen)
     thinner-at =
@@ -643,19 +711,19 @@ module _ (t : ℕ) where
 
   search-steps-between-requires : search-lts.Need-steps-between-requires (search-callees t) (search-at t) search′.Post
   search-steps-between-requires c κs =
-      let a = entered (c .before .before .before .before .before .before) in
+      let a = entered (c .before .before .before .before .before .before .before .before) in
       (a .pre .1 .0, (sound a .laid .framed, (sound a .few, λ j h. member-below (sent a) (sound a) j h)))
 
   search-spread-members-requires : search-lts.Need-spread-members-requires (search-callees t) (search-at t) search′.Post
   search-spread-members-requires c κs =
-      let a = entered (c .before .before .before .before .before .before .before .before) in
+      let a = entered (c .before .before .before .before .before .before .before .before .before .before) in
       (a .pre .1 .0, ((record { laid = sound a .laid; indexed = asked a .seeking .indexed }, record { proper = sound a .members; few = sound a .few }), sound a .place))
 
   search-next-requires-2 : search-lts.Need-next-requires-2 (search-callees t) (search-at t) search′.Post
   search-next-requires-2 c κs =
       let p = c .before .before in
       let a = input p in
-      let e = stop-is (first-walk p .before .before) in
+      let e = stop-is (first-walk p .before .before .before .before) in
       let few = walk-asks (going a) (path a .start) (omega arith) (walk-forward (going a)) .2 in
       (omega (arith, came p .to-end, e), omega (arith, p .spread-members .ensures .0, few, e), omega (arith, few, e))
 
@@ -667,9 +735,12 @@ module _ (t : ℕ) where
         omega (arith, a .pre .0),
         (
           (p .spread-members .ensures .0, thinner-at p),
-          subst (WalkAt (thinner p) (a .args .k) (a .args .resumes) (a .args .chosen))
-              (sym (x .next2 .ensures ∙ ap (nextLive (fewest p) (first-walk p .walk .result .at)) (stop-is (first-walk p .before .before))))
-              (goes-on p),
+          (
+            subst (WalkAt (thinner p) (a .args .k) (a .args .resumes) (a .args .chosen))
+                (sym (x .next2 .ensures ∙ ap (nextLive (fewest p) (first-walk p .walk .result .at)) (stop-is (first-walk p .before .before .before .before))))
+                (goes-on p),
+            more-behind (first-walk p .before .before),
+          ),
         ),
       )
 
@@ -682,19 +753,14 @@ pub +attempt+comb+search+walk-spec : {M : Type 1} → statement M
     (λ c. let a = c .before .before .before .before in omega (arith, ready t a .few, turn t a .inside))
     (λ c κs. search needs)
     (λ c κs. let a = c .before .before .before .before .before in omega (arith, ready t a .place, ready t a .few))
-    (λ c κs. let a = c .before .before .before .before .before .before .before .before in trial (turn t a) (a .args .x) (a .pre .1 .1 .from-start) (a .pre .1 .1 .to-end))
-    (λ c.
-    let b = c .before .before .before in
-    let a = b .before .before .before .before .before .before in
-    last t a (b .past-own .result) (staged t b) (c .before .if1 .taken) (c .fits2 .result) (c .fits2 .ensures))
     (attempt-narrow-members-requires t)
     (λ c κs. let a = start t (c .before) in trial (turn t a) (a .args .x) (a .pre .1 .1 .from-start) (a .pre .1 .1 .to-end))
     (λ c. let a = start t (c .before .before .before .before) in omega (arith, ready t a .few, turn t a .inside))
     (λ c. let a = start t (c .before .before .before .before) in omega (arith, ready t a .few, turn t a .inside))
     (attempt-search-requires t)
-    (attempt-returns-2 t)
-    (λ c. sym (clash t (start t (c .before .before .before)) (sym (c .before .fits3 .ensures) ∙ c .if3 .left)))
-    (λ c. sym (nowhere t (c .before) (c .if2 .left) (fit t (start t (c .before))) refl)))
+    (attempt-returns t)
+    (λ c. sym (clash t (start t (c .before .before .before)) (sym (c .before .fits2 .ensures) ∙ c .if2 .left)))
+    (λ c. sym (nowhere t (c .before) (c .if1 .left) (fit t (start t (c .before))) refl)))
     (λ t. comb-lts.spec (comb-callees t) (comb-at t) comb.Post comb-Inv-loop comb-μ-loop
     (λ c. let a = c .before .before .before in omega (arith, combing t a .ready .few, combing t a .inside))
     (λ c. let a = c .before .before .before .before in combing t a .inside)
@@ -706,19 +772,19 @@ pub +attempt+comb+search+walk-spec : {M : Type 1} → statement M
     (λ c. let a = c .before .before .before .before .before .before in omega (arith, combing t a .ready .few, combing t a .inside))
     (λ c κs. let a = c .before .before .before .before .before .before in record { laid = combing t a .ready .laid; exist = λ j h. exists (combed t a) (combing t a .ready) j h })
     (λ c κs. let a = c .before .before .before .before .before .before .before in (a .pre .1 .0 .0, (record { laid = combing t a .ready .laid; exist = λ j h. exists (combed t a) (combing t a .ready) j h }, record { inside = combing t a .inside; place-in = combing t a .ready .place; other = combing t a .other })))
-    (λ c. let a = c .before .before .before .before .before .before .before .before in (a .pre .1 .1, known-none (combed t a) (a .args .k) (a .args .resumes) (a .args .chosen)))
+    (λ c. let a = c .before .before .before .before .before .before .before .before in (a .pre .1 .1 .0, known-none (combed t a) (a .args .k) (a .args .resumes) (a .args .chosen)))
     (λ l. omega (arith, head-is t l, from-head t l))
     (λ c κs. let l = c .before .before in (trial (combing t (origin t l)) (x t l) (x-from t l) (x-to t l), l .before .loop .inv .1 .0))
     (λ c κs.
     let l = here t (c .before) in
     let a = origin t l in
-    (omega (arith, a .pre .0), (a .pre .1 .0 .0, record { turn = from-pre t a; from-start = x-from t l; to-end = x-to t l; lives = x-lives t l })))
+    (omega (arith, a .pre .0), (a .pre .1 .0 .0, record { turn = from-pre t a; from-start = x-from t l; to-end = x-to t l; lives = x-lives t l; further = a .pre .1 .1 .1 })))
     (λ c.
-    let u = c .before in
+    let u = c .before .before in
     let l = here t (u .before .before) in
     let a = origin t l in
     let ts = take (length (a .args .members .now)) (u .attempt .result .tuples) in
-    let e = ap (λ (b : Bool). answer b ts) (c .if3 .taken) in
+    let e = ap (λ (b : Bool). answer b ts) (eq-eqb (u .attempt .result .kind) 1 (c .if3 .taken)) in
     e ∙ sym (come-found (combing t a) (l .before .loop .g) (arrived t l) (in-line t l) ts (ap (onward (combed t a) (a .args .k) (a .args .chosen)) (sym (x-is t l)) ∙ sym (u .attempt .ensures) ∙ e)))
     (λ c. let l = here t (c .before .before) in omega (arith, in-line t l, next-asks t l (l .before .loop .g) (arrived t l .from-start) (arrived t l .to-end) .2))
     (λ c κs.
@@ -744,26 +810,47 @@ pub +attempt+comb+search+walk-spec : {M : Type 1} → statement M
     let e = ap (λ (s : Span). s .end) (c .before .span-of .ensures) in
     let k = walk-asks (going t a) (path t a .start) (omega arith) (walk-forward (going t a)) in
     (omega (arith, s, e, k .0), omega (arith, e, k .1), omega (arith, e, k .2)))
-    (λ c κs. let n = c .before in let a = entered t n in (omega (arith, a .pre .0), ((a .pre .1 .0, asked t a), begins t n)))
+    (λ c κs. let a = entered t c in omega (arith, sound t a .few, asked t a .inside))
+    (λ c κs.
+    let n = c .before .before in
+    let a = entered t n in
+    ((a .pre .1 .0, trials (going t a)), comes-from (going t a) (n .next .result) (begins t n)))
+    (λ c.
+    let w = c .before in
+    sym (come-none (going t (asker t w)) (fitted t w) (fits-at t w) (omega (arith, c .if2 .taken, stop-is t (on-last t w)))))
+    (λ c. let a = asker t (c .before) in omega (arith, sound t a .few, asked t a .inside))
+    (λ c. let w = c .before .before in omega (arith, first-of t (on-last t w), come-from (going t (asker t w)) (fitted t w) (fits-at t w) .0))
+    (λ c κs. search needs)
+    (λ c κs. let a = asker t (c .before .before .before) in omega (arith, sound t a .place, sound t a .few))
+    (λ c.
+    let o = c .before in
+    let w = o .before .before .before .before in
+    let a = asker t w in
+    sym (full t w (o .before .before .before .if2 .left) (o .past-own .result)
+    (o .past-own .ensures ∙ ap (pastOwn (a .args .place) (a .args .own) (a .args .k + 1)) (o .before .put .ensures))))
+    (λ c κs. let b = c .before in let n = b .before .before in let a = entered t n in (omega (arith, a .pre .0), ((a .pre .1 .0, asked t a), (begins t n, more-behind t b))))
     (λ c. c .comb .ensures)
-    (λ c κs. let n = c .before in let a = entered t n in (omega (arith, a .pre .0), ((a .pre .1 .0, asked t a), begins t n)))
+    (λ c κs. let b = c .before in let n = b .before .before in let a = entered t n in (omega (arith, a .pre .0), ((a .pre .1 .0, asked t a), (begins t n, more-behind t b))))
     (λ c.
     let w = c .before .before in
-    let n = w .before .before in
+    let n = w .before .before .before .before in
     let a = entered t n in
     let ts = take (length (a .args .members .now)) (w .walk .result .tuples) in
+    let kind = w .walk .result .kind in
     ⊎-elim
-    (λ v. ap (λ (b : Bool). answer b ts) (v .taken) ∙ sym (w .walk .ensures .found (v .taken)))
-    (λ v. ap (λ (b : Bool). answer b ts) (v .0 .left) ∙ sym (come-none (going t a) (w .walk .result .at) (w .walk .ensures .on (v .0 .left)) (omega (arith, leb-true (spanned t n .span-of .result .end) (w .walk .result .at) (v .1 .taken), stop-is t n))))
-    (c .if2 .came))
+    (λ v. let e = eq-eqb kind 1 (v .taken) in ap (λ (b : Bool). answer b ts) e ∙ sym (w .walk .ensures .found e))
+    (λ v.
+    let e = ne-eqb kind 1 (v .0 .left) in
+    ap (λ (b : Bool). answer b ts) e ∙ sym (come-none (going t a) (w .walk .result .at) (w .walk .ensures .on e) (omega (arith, leb-true (spanned t n .span-of .result .end) (w .walk .result .at) (v .1 .taken), stop-is t n))))
+    (c .if4 .came))
     (search-steps-between-requires t)
     (search-spread-members-requires t)
     (λ c.
     let p = c .before in
     let a = input t p in
     let ts = take (length (a .args .members .now)) (first-walk t p .walk .result .tuples) in
-    ap (λ (b : Bool). answer b ts) (stopped t p .before .if2 .left)
-    ∙ sym (sym (same t p) ∙ sought-none (sent t a) (fewest t p) (a .args .k) (a .args .chosen) (p .spread-members .ensures .1 .1 (not-true _ (c .if4 .taken)))))
+    ap (λ (b : Bool). answer b ts) (unfound t p)
+    ∙ sym (sym (same t p) ∙ sought-none (sent t a) (fewest t p) (a .args .k) (a .args .chosen) (p .spread-members .ensures .1 .1 (not-true _ (c .if6 .taken)))))
     (λ c. search needs)
     (search-next-requires-2 t)
     (search-comb-requires-2 t)
@@ -778,8 +865,8 @@ pub +attempt+comb+search+walk-spec : {M : Type 1} → statement M
     (λ l. omega (arith, first-is t l, from-first t l))
     (walk-attempt-requires t)
     (walk-returns t)
-    (λ c. let l = c .before .before .before .before in omega (arith, inside t l, asks t l (l .before .loop .g) (reached t l .from-start) (reached t l .to-end) .2))
-    (λ c κs. let l = c .before .before .before .before in let k = asks t l (l .before .loop .g + 1) (omega (arith, reached t l .from-start)) (omega (arith, inside t l)) in (omega (arith, end-is t l, k .0), omega (arith, end-is t l, k .1), omega (arith, end-is t l, k .2)))
+    (λ c. let l = c .before .before .before in omega (arith, inside t l, asks t l (l .before .loop .g) (reached t l .from-start) (reached t l .to-end) .2))
+    (λ c κs. let l = c .before .before .before in let k = asks t l (l .before .loop .g + 1) (omega (arith, reached t l .from-start)) (omega (arith, inside t l)) in (omega (arith, end-is t l, k .0), omega (arith, end-is t l, k .1), omega (arith, end-is t l, k .2)))
     (λ c. let n = c in omega (arith, looped t n .before .loop .inv .1, inside t (looped t n), asks t (looped t n) (looped t n .before .loop .g) (reached t (looped t n) .from-start) (reached t (looped t n) .to-end) .2))
     (λ c. record { found = λ e. absurd (not-both e refl); on = λ e. further t (c .before) })
     (walk-loop-less t)

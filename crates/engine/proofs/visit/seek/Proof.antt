@@ -5,15 +5,16 @@ use mathlib.Core.Bool.{true, false}
 use mathlib.Core.Logic.{⊎-elim}
 use mathlib.Core.List.{List, _++_}
 use Prim.Native.Nat.{ℕ, _+_, _-_, _*_, _/_, _%_, _≤_, _<_}
-use native.Mathlib.Nat.{div-mul-le-self, mod-lt, add-sub-cancel-left}
+use native.Mathlib.Nat.{div-mul-le-self, add-sub-cancel-left}
 use native.Mathlib.Omega.{arith}
 use lib.ListN.{length, getD, take, drop, set, replicate}
 use borrow.Author.Needs.{needs}
+use borrow.Author.Tests.{eq-eqb, ne-eqb}
 use Rattle.model.specs.Limits.{maxMembers}
 use Rattle.model.specs.Network.{total}
 use Rattle.model.specs.LiveWords.{cleared}
 use Rattle.model.specs.Support.{supportFrom}
-use Rattle.support.specs.Search.{Search, netOf, liveOf, SoundSearch, answer}
+use Rattle.support.specs.Search.{Search, netOf, liveOf, SoundSearch, isFound, answer}
 use Rattle.support.specs.Search as support
 use Rattle.layout.specs.Starts.{tupleStart}
 use Rattle.layout.specs.Setting.{Setting, network, Sound}
@@ -74,11 +75,6 @@ base-is c = ap₂ (λ (q n : ℕ). q / n * n) (pair-is c) (each-is c)
 place-is : (c : tie.After-wide2) → c .wide2 .result % c .before .wide .result ≡ entry c .args .p % entry c .args .m
 place-is c = ap₂ (λ (q n : ℕ). q % n) (pair-is c) (each-is c)
 
-place-small : (c : tie.After-wide2) → c .wide2 .result % c .before .wide .result < maxMembers
-place-small c =
-    let a = entry c in
-    omega (arith, place-is c, mod-lt (a .args .p) (sound a .paired .list .positive), sound a .paired .list .few)
-
 end-is : (c : tie.After-wide2) → c .wide2 .result / c .before .wide .result * c .before .wide .result + c .before .wide .result ≤ length (entry c .args .members .now)
 end-is c = omega (arith, base-is c, each-is c, base-within (sound (entry c) .laid .framed) (sound (entry c) .paired) (entry c .args .p) (in-members (entry c)))
 
@@ -123,16 +119,16 @@ search-is c =
     ∙ ap (searchOf a (combinationOf (G a) (a .args .p)) (a .args .p % a .args .m)) (low-is c)
 
 -- what it answers
-answer-is : (c : tie.After-first-support) → (let a = entry (c .before .before .before .before .before .before) in let Q = searched (seeker a) in answer (c .first-support .result .ok) (take (length (Q .members)) (c .first-support .result .tuples)) ≡ supportFrom (netOf Q) (liveOf Q) (Q .members) (support.seeker Q) (Q .low))
+answer-is : (c : tie.After-first-support) → (let a = entry (c .before .before .before .before .before .before) in let Q = searched (seeker a) in answer (isFound (c .first-support .result .kind)) (take (length (Q .members)) (c .first-support .result .tuples)) ≡ supportFrom (netOf Q) (liveOf Q) (Q .members) (support.seeker Q) (Q .low))
 answer-is c =
-    subst (λ (Q : Search). answer (c .first-support .result .ok) (take (length (Q .members)) (c .first-support .result .tuples)) ≡ supportFrom (netOf Q) (liveOf Q) (Q .members) (support.seeker Q) (Q .low))
+    subst (λ (Q : Search). answer (isFound (c .first-support .result .kind)) (take (length (Q .members)) (c .first-support .result .tuples)) ≡ supportFrom (netOf Q) (liveOf Q) (Q .members) (support.seeker Q) (Q .low))
     (search-is (c .before .before .before))
     (c .first-support .ensures)
 
 -- ---- The tuple's id
 
 abbrev looked : tie.After-tuple-start → tie.After-wide2
-looked c = c .before .before .before .before .before .before .before .before .before .before
+looked c = c .before .before .before .before .before .before .before .before .before .before .before
 
 id-is : (c : tie.After-tuple-start) → (let a = entry (looked c) in c .tuple-start .result + a .args .x ≡ tupleId (G a) (a .args .p) (a .args .x))
 id-is c =
@@ -163,13 +159,13 @@ first-support-requires c κs =
 
 store-requires : tie.Need-store-requires
 store-requires c κs =
-    let w = c .before .before .before .before .before .before .before .before .before in
+    let w = c .before .before .before .before .before .before .before .before .before .before in
     let a = entry w in
     (omega (arith, each-is w, inside a), omega (arith, each-is w, sound a .paired .list .few))
 
 returns : tie.Need-returns
 returns c =
-    let f = c .before .before .before .before .before .before in
+    let f = c .before .before .before .before .before .before .before in
     let w = f .before .before .before .before .before .before in
     let a = entry w in
     subst (Renewed (G a) (a .args .p) (a .args .x) (a .args .words .now) (a .args .numbers .now) true (a .args .words .now))
@@ -177,17 +173,17 @@ returns c =
     (c .before .before .store .ensures
     ∙ ap₂ (λ (at n : ℕ). take at (a .args .numbers .now) ++ take n (f .first-support .result .tuples) ++ drop (at + n) (a .args .numbers .now)) (is-at a) (each-is w)))
     (renewed-found (seeker a)
-    (f .first-support .result .ok) (f .first-support .result .tuples) (answer-is f) (c .before .before .before .before .before .if2 .taken))
+    (isFound (f .first-support .result .kind)) (f .first-support .result .tuples) (answer-is f) (eq-eqb (f .first-support .result .kind) 1 (c .before .before .before .before .before .if2 .taken)))
 
 returns-2 : tie.Need-returns-2
 returns-2 c =
     let l = c .before in
-    let f = l .before .before .before .before in
+    let f = l .before .before .before .before .before in
     let a = entry (looked l) in
     subst (λ (ws : List ℕ). Renewed (G a) (a .args .p) (a .args .x) (a .args .words .now) (a .args .numbers .now) false ws (a .args .numbers .now))
     (sym (c .clear .ensures ∙ ap (λ (g : ℕ). cleared g (a .args .words .now)) (id-is l)))
     (renewed-none (seeker a)
-    (f .first-support .result .ok) (f .first-support .result .tuples) (answer-is f) (l .before .before .before .if2 .left))
+    (isFound (f .first-support .result .kind)) (f .first-support .result .tuples) (answer-is f) (ne-eqb (f .first-support .result .kind) 1 (l .before .before .before .if2 .left)))
 
 pub seek-spec : {M : Type 1} → statement M
 seek-spec =
@@ -209,8 +205,8 @@ seek-spec =
     (λ c. search needs)
     returns
     (λ c. search needs)
-    (λ c. let w = c .before .before .before .before .before .before .before .before .before in omega (arith, pair-is w, in-members (entry w)))
-    (λ c κs. let w = c .before .before .before .before .before .before .before .before .before in let a = entry w in let h = member-below (sound a .laid .framed) (sound a .paired) (a .args .p) (in-members a) in subst (λ (q : ℕ). getD (a .args .members .now) q 0 < 65) (sym (pair-is w)) (omega arith))
+    (λ c. let w = c .before .before .before .before .before .before .before .before .before .before in omega (arith, pair-is w, in-members (entry w)))
+    (λ c κs. let w = c .before .before .before .before .before .before .before .before .before .before in let a = entry w in let h = member-below (sound a .laid .framed) (sound a .paired) (a .args .p) (in-members a) in subst (λ (q : ℕ). getD (a .args .members .now) q 0 < 65) (sym (pair-is w)) (omega arith))
     (λ c. let a = entry (looked c) in omega (arith, id-below c, tuples-few (sound a .laid .framed)))
     (λ c κs. let a = entry (looked c) in omega (arith, id-below c, seeker a .working .space .enough))
     returns-2)
