@@ -5,5 +5,6 @@ pub mod Walking
 pub mod Own
 pub mod Turn
 pub mod Ends
+pub mod Last
 pub mod Narrow
 pub mod Failed

@@ -129,6 +129,13 @@ past-place place own k chosen = go (eqb (k + 1) place) refl
     go true q = rw q (omega arith)
     go false q = rw q refl
 
+pub past-kept : (place own k : ℕ) (chosen : List ℕ) (j : ℕ) → j < k → getD (pastOwn place own k chosen .chosen) j 0 ≡ getD chosen j 0
+past-kept place own k chosen j l = go (eqb k place) refl
+  where
+    go : (b : Bool) → eqb k place ≡ b → getD (pastOwn place own k chosen .chosen) j 0 ≡ getD chosen j 0
+    go true q = rw q (getD-set-other chosen k j own 0 (λ e. omega arith))
+    go false q = rw q refl
+
 -- a place behind one of so many is one too, or their number
 pub behind-within : (place k n : ℕ) → k < n → place < n → placeBehind place k ≤ n
 behind-within place k n h l = go (eqb (k + 1) place) refl

@@ -2,6 +2,7 @@
 -- From the laws of the walk, of the tuples chosen and of the search, and the law of one tuple more.
 use mathlib.Core.Path.{_≡_, refl, sym, _∙_, ap, subst}
 use mathlib.Core.Bool.{Bool, true, false, _&&_}
+use mathlib.Core.Logic.{_⊎_}
 use mathlib.Core.Option.{Option, none, some, orElse}
 use mathlib.Core.List.{List, [], _∷_, _++_, map, List·Memᴰ, List·Memᴰ·tail, Memᴰ·append-right}
 use Prim.Native.Nat.{ℕ, suc, _+_, _-_, _*_, _≤_, _<_}
@@ -21,7 +22,9 @@ use Rattle.model.proofs.Agreement.{agree-sym}
 use Rattle.model.proofs.LiveWords.{living-has, nextLive-first}
 use Rattle.model.proofs.Search.{completion-dead, completion-clash, reach, reach-none, reach-skip, reach-step, reach-live}
 use Rattle.layout.specs.Starts.{tupleStart}
-use Rattle.support.specs.Search.{Search, netOf, liveOf, idAt, seeker, SoundSearch, chosenIds, Prefix, fits, Trial, Trials, ComesFrom, FirstFitting, onward, span, left, WalkAt, sought}
+use Rattle.value_index.specs.Index.{Indexed}
+use Rattle.support.specs.declared.Span.{Span}
+use Rattle.support.specs.Search.{Search, netOf, liveOf, idAt, seeker, SoundSearch, chosenIds, Prefix, SearchAt, fits, Trial, Trials, FittingAt, FirstFitting, onward, span, left, WalkAt, sought}
 use Rattle.support.proofs.Chosen.{fits-each, fits-none}
 use Rattle.support.proofs.Prefix.{ids-more, prefix-next}
 use Rattle.support.proofs.Walking.{members-apart, few-tuples, member-below, member-start, member-within, span-inside, walk-whole}
@@ -44,6 +47,20 @@ pub record Turn (Q : Search) (k : ℕ) (resumes : Bool) (chosen : List ℕ) (fir
   pub is-first : first ≡ span Q k resumes .first
   pub is-begin : begin ≡ span Q k resumes .start
   pub is-end : end ≡ span Q k resumes .end
+
+pub turn-on : {Q : Search} {index : List ℕ} {k : ℕ} {resumes : Bool} {chosen : List ℕ} → SearchAt Q index k resumes chosen → length chosen ≡ 4 → length (Q .low) ≡ 4 → (s : Span) → s ≡ span Q k resumes → Turn Q k resumes chosen (s .first) (s .start) (s .end)
+turn-on A sized low-sized s e =
+    record {
+      ready = A .seeking .sound;
+      begun = A .prefix;
+      inside = A .inside;
+      other = A .other;
+      sized = sized;
+      low-sized = low-sized;
+      is-first = ap (λ (s : Span). s .first) e;
+      is-begin = ap (λ (s : Span). s .start) e;
+      is-end = ap (λ (s : Span). s .end) e;
+    }
 
 module _ {Q : Search} {k : ℕ} {resumes : Bool} {chosen : List ℕ} {first begin end : ℕ} (T : Turn Q k resumes chosen first begin end) where
   abbrev R : SoundSearch Q
@@ -214,47 +231,59 @@ module _ {Q : Search} {k : ℕ} {resumes : Bool} {chosen : List ℕ} {first begi
 
   -- ---- The first tuple that fits
 
-  -- where the walk has come to, it has come to a live tuple or its end
-  pub comes-from : (g : ℕ) → WalkAt Q k resumes chosen g → ComesFrom (netOf Q) (Q .members) k (Q .words) g
-  comes-from g C =
+  -- what the search for it asks
+  pub fitting-at : (index : List ℕ) → Indexed (netOf Q) index → (by x : ℕ) → by < length (Q .members) → x < size (netOf Q) (getD (Q .members) by 0) → ((by ≡ Q .place) × (x ≡ Q .own)) ⊎ ((by < k) × (x ≡ getD chosen by 0)) → FittingAt (Q .lists) index (Q .members) (Q .place) (Q .own) k chosen begin by x
+  fitting-at index indexed by x h l fixed =
       let i = span-inside Q k R inside resumes in
       record {
-        from-first = omega (arith, i .from-first, C .from-start);
-        to-end = omega (arith, i .end-is, C .to-end);
-        lives = λ h. C .lives (omega (arith, i .end-is));
+        trials = trials;
+        indexed = indexed;
+        from-first = omega (arith, i .from-first, T .is-begin);
+        to-end = omega (arith, i .forward, i .end-is, T .is-begin);
+        by-inside = h;
+        by-own = l;
+        fixed = fixed;
       }
 
-  -- a tuple before the first that fits leads to nothing
-  nowhere-before : (f g : ℕ) → WalkAt Q k resumes chosen f → FirstFitting (netOf Q) (Q .members) (Q .place) (Q .own) k chosen (Q .words) f g → (x : ℕ) → (f ≤ x) × (x < g) → onward Q k chosen x ≡ none
-  nowhere-before f g C F x h = go (isLive (Q .words) x) refl
-    where
-      first-is : first ≡ firstId (netOf Q) (getD (Q .members) k 0)
-      first-is = first-id
+  module _ (g : ℕ) (F : FirstFitting (netOf Q) (Q .members) (Q .place) (Q .own) k chosen (Q .words) begin g) where
+    -- a tuple before it leads to nothing
+    nowhere-before : (x : ℕ) → (span Q k resumes .start ≤ x) × (x < g) → onward Q k chosen x ≡ none
+    nowhere-before x h = go (isLive (Q .words) x) refl
+      where
+        from-first : first ≤ x
+        from-first = let i = span-inside Q k R inside resumes in omega (arith, i .from-first, first-id, h .0)
 
-      from-first : first ≤ x
-      from-first = omega (arith, come-from f C .0, h .0)
+        below-stop : x < stop
+        below-stop = let i = span-inside Q k R inside resumes in omega (arith, i .end-is, F .comes .to-end, h .1)
 
-      below-stop : x < stop
-      below-stop = let i = span-inside Q k R inside resumes in omega (arith, i .end-is, F .comes .to-end, h .1)
+        is-x : first + (x - first) ≡ x
+        is-x = omega (arith, from-first)
 
-      is-x : first + (x - first) ≡ x
-      is-x = omega (arith, from-first)
+        go : (b : Bool) → isLive (Q .words) x ≡ b → onward Q k chosen x ≡ none
+        go true l =
+            subst (λ (y : ℕ). onward Q k chosen y ≡ none) is-x
+            (come-clash (x - first) (omega (arith, is-x, h .0)) (omega (arith, is-x, below-stop, T .is-end))
+            (subst (λ (n : ℕ). fits (netOf Q) (Q .members) (Q .place) (Q .own) k chosen (x - n) ≡ false) (sym first-id) (F .none-before x (omega (arith, h .0, T .is-begin)) (h .1) l)))
+        go false l =
+            completion-dead (netOf Q) (liveOf Q) (seeker Q) (Q .low) (ids ++ (x ∷ [])) later (Memᴰ·append-right ids here)
+            (living-has (total (netOf Q)) (Q .words) x (omega (arith, below-stop, stop-total)) ∙ l)
 
-      go : (b : Bool) → isLive (Q .words) x ≡ b → onward Q k chosen x ≡ none
-      go true l =
-          subst (λ (y : ℕ). onward Q k chosen y ≡ none) is-x
-          (come-clash (x - first) (omega (arith, is-x, C .from-start, h .0)) (omega (arith, is-x, below-stop, T .is-end))
-          (subst (λ (n : ℕ). fits (netOf Q) (Q .members) (Q .place) (Q .own) k chosen (x - n) ≡ false) (sym first-is) (F .none-before x (h .0) (h .1) l)))
-      go false l =
-          completion-dead (netOf Q) (liveOf Q) (seeker Q) (Q .low) (ids ++ (x ∷ [])) later (Memᴰ·append-right ids here)
-          (living-has (total (netOf Q)) (Q .words) x (omega (arith, below-stop, stop-total)) ∙ l)
+    -- the walk has come to it
+    pub come-fitting : WalkAt Q k resumes chosen g
+    come-fitting =
+        let i = span-inside Q k R inside resumes in
+        let whole = walk-whole Q k R inside resumes chosen B (T .sized) (T .low-sized) in
+        record {
+          from-start = omega (arith, F .from-on, T .is-begin);
+          to-end = omega (arith, i .end-is, F .comes .to-end);
+          lives = λ h. F .comes .lives (omega (arith, i .end-is));
+          rest = sym (reach-skip (netOf Q) (liveOf Q) (seeker Q) (Q .low) ids later (span Q k resumes .start) g stop (omega (arith, F .from-on, T .is-begin)) (omega (arith, i .end-is, F .comes .to-end)) nowhere-before) ∙ whole;
+        }
 
-  pub come-fitting : (f g : ℕ) → WalkAt Q k resumes chosen f → FirstFitting (netOf Q) (Q .members) (Q .place) (Q .own) k chosen (Q .words) f g → WalkAt Q k resumes chosen g
-  come-fitting f g C F =
-      let i = span-inside Q k R inside resumes in
-      record {
-        from-start = omega (arith, C .from-start, F .from-on);
-        to-end = omega (arith, i .end-is, F .comes .to-end);
-        lives = λ h. F .comes .lives (omega (arith, i .end-is));
-        rest = sym (reach-skip (netOf Q) (liveOf Q) (seeker Q) (Q .low) ids later f g stop (F .from-on) (omega (arith, i .end-is, F .comes .to-end)) (nowhere-before f g C F)) ∙ C .rest;
-      }
+    pub fitting-is : first + (g - first) ≡ g
+    fitting-is = let i = span-inside Q k R inside resumes in omega (arith, i .from-first, first-id, F .from-on, T .is-begin)
+
+    pub fitting-fits : g < end → fits (netOf Q) (Q .members) (Q .place) (Q .own) k chosen (g - first) ≡ true
+    fitting-fits h =
+        let i = span-inside Q k R inside resumes in
+        ap (λ (n : ℕ). fits (netOf Q) (Q .members) (Q .place) (Q .own) k chosen (g - n)) first-id ∙ F .fitting (omega (arith, h, i .end-is, T .is-end))

@@ -141,6 +141,16 @@ pub record Trials (L : Lists) (c : Combination) (place own k : ℕ) (chosen : Li
   pub relation : getD c k 0 < maxRelations
   pub each : (x : ℕ) → x < size (networkIn L) (getD c k 0) → Trial L c place own k chosen x
 
+-- .. from id `from` on, by tuple x of the member at `by`: it is the seeking tuple or one chosen.
+pub record FittingAt (L : Lists) (index : List ℕ) (c : Combination) (place own k : ℕ) (chosen : List ℕ) (from by x : ℕ) : Type 0 where
+  pub trials : Trials L c place own k chosen
+  pub indexed : Indexed (networkIn L) index
+  pub from-first : firstId (networkIn L) (getD c k 0) ≤ from
+  pub to-end : from ≤ firstId (networkIn L) (getD c k 0) + size (networkIn L) (getD c k 0)
+  pub by-inside : by < length c
+  pub by-own : x < size (networkIn L) (getD c by 0)
+  pub fixed : ((by ≡ place) × (x ≡ own)) ⊎ ((by < k) × (x ≡ getD chosen by 0))
+
 -- Id g is that of a live tuple of member k, or the end of its ids.
 pub record ComesFrom (N : Network) (c : Combination) (k : ℕ) (words : List ℕ) (g : ℕ) : Type 0 where
   pub from-first : firstId N (getD c k 0) ≤ g

@@ -1,6 +1,7 @@
 // The first support of a tuple, sought member by member with forward checking: after each choice the members still to come are narrowed to
 // the tuples that may agree with it.
 ghost use mathlib.Core.Path.{_≡_};
+ghost use mathlib.Core.Bool.{true};
 ghost use Prim.Native.Nat.{_+_, _<_};
 ghost use Rattle.model.specs.Limits.{maxRelations, maxMembers};
 ghost use lib.ListN.{length, set};
@@ -10,7 +11,7 @@ ghost use Rattle.layout.specs.Loan.{entry, exit};
 ghost use Rattle.layout.specs.Starts.{tupleStart};
 ghost use Rattle.layout.specs.Setting.{lists, networkIn};
 ghost use Rattle.narrowing.specs.Narrows.{Long};
-ghost use Rattle.support.specs.Search.{searching, Seeking, SearchAt, pastOwn, placeBehind, spanAt, fits, Trial, Trials, ComesFrom, FirstFitting, TurnOf, Sifts, MayLead, AttemptAt, Attempts, WalkAt, Walks, Finds, FindsFirst};
+ghost use Rattle.support.specs.Search.{searching, Seeking, SearchAt, pastOwn, placeBehind, spanAt, fits, Trial, FittingAt, FirstFitting, TurnOf, Sifts, MayLead, AttemptAt, Attempts, WalkAt, Walks, Finds, FindsFirst};
 use doubles::PLACES;
 use doubles::Table;
 use doubles::alike::variables_from;
@@ -168,11 +169,13 @@ fn fits(
     true
 }
 
-// The id of the first live tuple of member k from id `from` on that fits; the end of its relation's ids if none does.
+// The id of the first live tuple of member k from id `from` on that fits; the end of its relation's ids if none does. Only tuples are tried that
+// may agree with tuple x of the member at `by`, which is the seeking tuple or one chosen.
 fn first_fitting(
     variables: &[u16],
     values: &[Value],
     starts: &Starts,
+    index: &Index,
     words: &Words,
     members: &[u16],
     place: usize,
@@ -180,15 +183,16 @@ fn first_fitting(
     k: usize,
     chosen: Indices,
     from: u16,
+    by: usize,
+    x: u16,
 ) -> u16
-    requires { ⌜ Long (now words) × Trials (lists now variables values starts) (now members) place own k chosen ⌝ }
-    requires { ⌜ ComesFrom (networkIn (lists now variables values starts)) (now members) k (now words) from ⌝ }
+    requires { ⌜ Long (now words) × FittingAt (lists now variables values starts) (now index) (now members) place own k chosen from by x ⌝ }
     ensures { λ g. ⌜ FirstFitting (networkIn (lists entry variables values starts)) (entry members) place own k chosen (entry words) from g ⌝ }
 {
     let r = members[k];
     let first = tuple_start(starts, r);
     let end = tuple_start(starts, r + 1);
-    let mut g = from;
+    let mut g = next(words, from, end);
     while g < end {
         if fits(
             variables,
@@ -206,6 +210,59 @@ fn first_fitting(
         g = next(words, g + 1, end);
     }
     g
+}
+
+// What `attempt` is called for, where only one member is left behind k. This one is not narrowed first: its tuples are tried at once.
+fn attempt_last(
+    variables: &[u16],
+    values: &[Value],
+    starts: &Starts,
+    index: &Index,
+    words: &Words,
+    members: &[u16],
+    place: usize,
+    own: u16,
+    low: Indices,
+    k: usize,
+    resumes: bool,
+    chosen: Indices,
+    x: u16,
+) -> Found
+    requires { ⌜ Long (now words) × AttemptAt (searching now variables values starts words members place own low) (now index) k resumes chosen x ⌝ }
+    requires { ⌜ placeBehind place (placeBehind place k) ≡ length (now members) ⌝ }
+    ensures { λ f. ⌜ Attempts (searching entry variables values starts words members place own low) k chosen x f ⌝ }
+{
+    let stage = past_own(place, own, k + 1, put(chosen, k, x));
+    let on = stage.k;
+    let tuples = stage.chosen;
+    let resuming = resumes && x == low[k];
+    let span = span_of(starts, members[on], resuming, low[on]);
+    let g = first_fitting(
+        variables,
+        values,
+        starts,
+        index,
+        words,
+        members,
+        place,
+        own,
+        on,
+        tuples,
+        span.start,
+        k,
+        x,
+    );
+    if g < span.end {
+        if fits(variables, values, starts, members, place, own, k, chosen, x) {
+            let full = past_own(place, own, on + 1, put(tuples, on, g - span.first));
+            let tuples = full.chosen;
+            return Found {
+                tuples,
+                kind: FOUND,
+            };
+        }
+    }
+    Found { tuples, kind: NONE }
 }
 
 // The first support at or after `low` that has the tuples chosen for the members before k, and tuple x for member k, which is not the last.
@@ -228,6 +285,23 @@ fn attempt(
     requires { ⌜ Long (now words) × AttemptAt (searching now variables values starts words members place own low) (now index) k resumes chosen x ⌝ }
     ensures { λ f. ⌜ Attempts (searching entry variables values starts words members place own low) k chosen x f ⌝ }
 {
+    if place_behind(place, place_behind(place, k)) == members.len() {
+        return attempt_last(
+            variables,
+            values,
+            starts,
+            index,
+            words,
+            members,
+            place,
+            own,
+            low,
+            k,
+            resumes,
+            chosen,
+            x,
+        );
+    }
     let r = members[k];
     let stage = past_own(place, own, k + 1, put(chosen, k, x));
     let on = stage.k;
@@ -476,7 +550,7 @@ fn comb(
     }
 }
 
-// The first support at or after `low` that has the tuples chosen for the members before k. Where it is hard to find, the members from k on are
+// The first support at or after `low` that has the tuples chosen for the members before k, which is not the last. Where it is hard to find, the members from k on are
 // narrowed through each other. An eager search takes it for hard.
 fn search(
     variables: &[u16],
@@ -494,37 +568,12 @@ fn search(
     eager: bool,
 ) -> Found
     requires { ⌜ Long (now words) × SearchAt (searching now variables values starts words members place own low) (now index) k resumes chosen ⌝ }
+    requires { ⌜ placeBehind place k < length (now members) ⌝ }
     ensures { λ f. ⌜ Finds (searching entry variables values starts words members place own low) k chosen f ⌝ }
 {
     let span = span_of(starts, members[k], resumes, low[k]);
     let end = span.end;
     let from = next(words, span.start, end);
-    if place_behind(place, k) == members.len() {
-        let g = first_fitting(
-            variables,
-            values,
-            starts,
-            words,
-            members,
-            place,
-            own,
-            k,
-            chosen,
-            from,
-        );
-        if end <= g {
-            return Found {
-                tuples: chosen,
-                kind: NONE,
-            };
-        }
-        let full = past_own(place, own, k + 1, put(chosen, k, g - span.first));
-        let tuples = full.chosen;
-        return Found {
-            tuples,
-            kind: FOUND,
-        };
-    }
     if eager {
         return comb(
             variables,
@@ -597,6 +646,54 @@ fn search(
     )
 }
 
+// What `search` is called for, where only member k is left, and nothing but the seeking tuple is chosen.
+fn search_last(
+    variables: &[u16],
+    values: &[Value],
+    starts: &Starts,
+    index: &Index,
+    words: &Words,
+    members: &[u16],
+    place: usize,
+    own: u16,
+    low: Indices,
+    k: usize,
+    chosen: Indices,
+) -> Found
+    requires { ⌜ Long (now words) × SearchAt (searching now variables values starts words members place own low) (now index) k true chosen ⌝ }
+    requires { ⌜ placeBehind place k ≡ length (now members) ⌝ }
+    ensures { λ f. ⌜ Finds (searching entry variables values starts words members place own low) k chosen f ⌝ }
+{
+    let span = span_of(starts, members[k], true, low[k]);
+    let g = first_fitting(
+        variables,
+        values,
+        starts,
+        index,
+        words,
+        members,
+        place,
+        own,
+        k,
+        chosen,
+        span.start,
+        place,
+        own,
+    );
+    if span.end <= g {
+        return Found {
+            tuples: chosen,
+            kind: NONE,
+        };
+    }
+    let full = past_own(place, own, k + 1, put(chosen, k, g - span.first));
+    let tuples = full.chosen;
+    Found {
+        tuples,
+        kind: FOUND,
+    }
+}
+
 // The first support at or after `low` of tuple `own` of the member at `place`. Before the search, members are narrowed through others by these
 // steps (spreading::steps).
 pub fn first_support(
@@ -621,6 +718,30 @@ pub fn first_support(
     let r = members[place];
     if !is_live(words, tuple_start(starts, r) + own) {
         return none;
+    }
+    let stage = past_own(place, own, 0, low);
+    let k = stage.k;
+    let tuples = stage.chosen;
+    if k == members.len() {
+        return Found {
+            tuples,
+            kind: FOUND,
+        };
+    }
+    if place_behind(place, k) == members.len() {
+        return search_last(
+            variables,
+            values,
+            starts,
+            index,
+            words,
+            members,
+            place,
+            own,
+            low,
+            k,
+            tuples,
+        );
     }
     let mut candidates = *words;
     if !narrow_members(
@@ -650,15 +771,6 @@ pub fn first_support(
         FEW,
     ) {
         return none;
-    }
-    let stage = past_own(place, own, 0, low);
-    let k = stage.k;
-    let tuples = stage.chosen;
-    if k == members.len() {
-        return Found {
-            tuples,
-            kind: FOUND,
-        };
     }
     search(
         variables,

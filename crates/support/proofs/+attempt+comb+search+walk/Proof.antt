@@ -17,7 +17,6 @@ use borrow.Fn.Kinds.{In}
 use borrow.Fn.PlainCycle.{Measures, is, falls, and}
 use borrow.Author.Needs.{needs}
 use borrow.Author.Tests.{not-true, leb-true, eq-eqb, ne-eqb}
-use Rattle.model.specs.Network.{size, firstId}
 use Rattle.model.specs.TupleSet.{has}
 use Rattle.model.specs.LiveWords.{isLive, nextLive}
 use Rattle.model.proofs.Bools.{not-both}
@@ -28,10 +27,10 @@ use Rattle.support.specs.declared.Stage.{Stage}
 use Rattle.narrowing.specs.declared.sieve.Sieve.{Sieve}
 use Rattle.support.specs.Search.{Search, netOf, liveOf, idAt, seeker, SoundSearch, chosenIds, Prefix, SearchAt, pastOwn, placeBehind, span, onward, left, WalkAt, MayLead, fits, sought, isFound, answer}
 use Rattle.support.proofs.Chosen.{chosen-mem}
-use Rattle.support.proofs.Walking.{member-below, exists, span-inside}
-use Rattle.support.proofs.Ends.{turn-done}
-use Rattle.support.proofs.Own.{NextStage, next-stage, past-forth, past-place, behind-within}
-use Rattle.support.proofs.Turn.{span-asks, Turn, walk-asks, walk-forward, come-first, come-from, come-none, come-found, come-next, come-lives, come-live, index-below, trial, trials, comes-from, come-fitting, come-clash, onward-more, come-more, agrees-own, first-id}
+use Rattle.support.proofs.Walking.{member-below, exists}
+use Rattle.support.proofs.Own.{NextStage, past-forth, past-place, behind-within}
+use Rattle.support.proofs.Last.{flag, stage-behind, stage-onward}
+use Rattle.support.proofs.Turn.{span-asks, Turn, turn-on, walk-asks, walk-forward, come-first, come-from, come-none, come-found, come-next, come-lives, come-live, index-below, trial, come-clash, agrees-own}
 use Rattle.support.proofs.Failed.{Known, known-none, known-next, leads-nowhere}
 use Rattle.support.proofs.Narrow.{others, onWords, Fewer, fewer-words, ready-narrowed, sought-bare, sought-none, prefix-narrowed, sought-narrowed, turn-sound, turn-lives, turn-prefix, turn-sought, turn-left}
 use Rattle.support.proofs.attempt.Reads as attempt
@@ -52,7 +51,7 @@ use Rattle.live.proofs.next.Reads as next-reads
 use Rattle.narrowing.proofs.narrow_members.Reads as narrow-members-reads
 use Rattle.spreading.proofs.spread_members.Reads as spread-members-reads
 use Rattle.spreading.proofs.steps.steps_between.Reads as steps-between-reads
-use Rattle.support.proofs.first_fitting.Reads as first-fitting-reads
+use Rattle.support.proofs.attempt_last.Reads as attempt-last-reads
 use Rattle.support.proofs.fits.Reads as fits-reads
 use Rattle.support.proofs.past_own.Reads as past-own-reads
 use Rattle.support.proofs.place_behind.Reads as place-behind-reads
@@ -114,11 +113,11 @@ walk-below t = and 6 walk-kinds.ps (falls 6 walk-kinds.ps _<_ μ-walk t) walk.Pr
 
 abbrev attempt-callees : ℕ → attempt-lts.Claims
 attempt-callees t =
-    (put-reads.Asked, put-reads.Learnt, past-own-reads.Asked, past-own-reads.Learnt, narrow-members-reads.Asked, narrow-members-reads.Learnt, fits-reads.Asked, fits-reads.Learnt, search-below t, search′.Post)
+    (place-behind-reads.Asked, place-behind-reads.Learnt, attempt-last-reads.Asked, attempt-last-reads.Learnt, put-reads.Asked, put-reads.Learnt, past-own-reads.Asked, past-own-reads.Learnt, narrow-members-reads.Asked, narrow-members-reads.Learnt, fits-reads.Asked, fits-reads.Learnt, search-below t, search′.Post)
 
 abbrev search-callees : ℕ → search-lts.Claims
 search-callees t =
-    (span-of-reads.Asked, span-of-reads.Learnt, next-reads.Asked, next-reads.Learnt, place-behind-reads.Asked, place-behind-reads.Learnt, first-fitting-reads.Asked, first-fitting-reads.Learnt, put-reads.Asked, put-reads.Learnt, past-own-reads.Asked, past-own-reads.Learnt, comb-below t, comb.Post, walk-below t, walk.Post, steps-between-reads.Asked, steps-between-reads.Learnt, spread-members-reads.Asked, spread-members-reads.Learnt)
+    (span-of-reads.Asked, span-of-reads.Learnt, next-reads.Asked, next-reads.Learnt, comb-below t, comb.Post, walk-below t, walk.Post, steps-between-reads.Asked, steps-between-reads.Learnt, spread-members-reads.Asked, spread-members-reads.Learnt)
 
 abbrev walk-callees : ℕ → walk-lts.Claims
 walk-callees t =
@@ -132,35 +131,7 @@ comb-callees t =
 
 -- what is known at a turn, of which this is the walk
 turn-of : (Q : Search) (index : List ℕ) (k : ℕ) (resumes : Bool) (chosen : List ℕ) → SearchAt Q index k resumes chosen → length chosen ≡ 4 → length (Q .low) ≡ 4 → Turn Q k resumes chosen (span Q k resumes .first) (span Q k resumes .start) (span Q k resumes .end)
-turn-of Q index k resumes chosen A sized low-sized =
-    record {
-      ready = A .seeking .sound;
-      begun = A .prefix;
-      inside = A .inside;
-      other = A .other;
-      sized = sized;
-      low-sized = low-sized;
-      is-first = refl;
-      is-begin = refl;
-      is-end = refl;
-    }
-
--- a tuple more is chosen, which fits: the stage behind it
-module _ {Q : Search} {k : ℕ} {resumes : Bool} {chosen : List ℕ} {first begin end : ℕ} (T : Turn Q k resumes chosen first begin end) (lively : has (liveOf Q) (seeker Q) ≡ true) (x : ℕ) (from : span Q k resumes .start ≤ first + x) (to : first + x < end) (lives : isLive (Q .words) (first + x) ≡ true) (f : fits (netOf Q) (Q .members) (Q .place) (Q .own) k chosen x ≡ true) (s : Stage) (e : s ≡ pastOwn (Q .place) (Q .own) (k + 1) (set chosen k x)) where
-  stage-behind : NextStage Q (resumes && eqb x (getD (Q .low) k 0)) (k + 1) (set chosen k x) s
-  stage-behind =
-      next-stage Q (T .ready) (resumes && eqb x (getD (Q .low) k 0)) (k + 1) (set chosen k x) (length-set chosen k x ∙ T .sized) (T .low-sized) lively
-      (come-more T x from to lives f) s e
-
-  -- what there is to find then is what there is to find onward
-  stage-onward : sought Q (s .k) (s .chosen) ≡ onward Q k chosen (first + x)
-  stage-onward = stage-behind .same ∙ onward-more T x from to
-
-flag : (resumes equal on : Bool) → ((resumes ≡ true) × (on ≡ equal)) ⊎ ((resumes ≡ false) × (on ≡ resumes)) → (resumes && equal) ≡ on
-flag resumes equal on =
-    ⊎-elim
-    (λ w. ap (λ (b : Bool). b && equal) (w .0) ∙ sym (w .1))
-    (λ w. ap (λ (b : Bool). b && equal) (w .0) ∙ sym (w .1 ∙ w .0))
+turn-of Q index k resumes chosen A sized low-sized = turn-on A sized low-sized (span Q k resumes) refl
 
 -- ---- attempt
 
@@ -227,15 +198,15 @@ module _ (t : ℕ) where
             (chosen-mem (netOf given) (a .args .members .now) (s .chosen) (s .k) (a .args .k) (omega (arith, stage .forth)))
 
   -- the stage behind it
-  staged : (b : attempt-lts.After-past-own (attempt-callees t) (attempt-at t) attempt.Post) → let a = b .before .before .before .before .before .before in b .past-own .result ≡ pastOwn (a .args .place) (a .args .own) (a .args .k + 1) (more a)
-  staged b = let a = b .before .before .before .before .before .before in b .past-own .ensures ∙ ap (pastOwn (a .args .place) (a .args .own) (a .args .k + 1)) (b .before .put .ensures)
+  staged : (b : attempt-lts.After-past-own (attempt-callees t) (attempt-at t) attempt.Post) → let a = b .before .before .before .before .before .before .before .before .before in b .past-own .result ≡ pastOwn (a .args .place) (a .args .own) (a .args .k + 1) (more a)
+  staged b = let a = b .before .before .before .before .before .before .before .before .before in b .past-own .ensures ∙ ap (pastOwn (a .args .place) (a .args .own) (a .args .k + 1)) (b .before .put .ensures)
 
   module _ (n : attempt-lts.After-narrow-members (attempt-callees t) (attempt-at t) attempt.Post) where
     abbrev chosen : attempt-lts.After-past-own (attempt-callees t) (attempt-at t) attempt.Post
     chosen = n .before .before .before .before
 
     abbrev start : Attempt
-    start = chosen .before .before .before .before .before .before
+    start = chosen .before .before .before .before .before .before .before .before .before
 
     abbrev fewer : List ℕ
     fewer = n .narrow-members .last .1 .1 .1 .1 .0
@@ -260,7 +231,7 @@ module _ (t : ℕ) where
   attempt-narrow-members-requires : attempt-lts.Need-narrow-members-requires (attempt-callees t) (attempt-at t) attempt.Post
   attempt-narrow-members-requires c κs =
       let b = c .before .before .before in
-      let a = b .before .before .before .before .before .before in
+      let a = b .before .before .before .before .before .before .before .before .before in
       let l = forth a (b .past-own .result) (staged b) in (
         a .pre .1 .0,
         (
@@ -269,6 +240,15 @@ module _ (t : ℕ) where
         ),
       )
 
+  -- the place behind the next is one of a member
+  two-behind : (c : attempt-lts.After-place-behind2 (attempt-callees t) (attempt-at t) attempt.Post) → let a = c .before .before .before .before .before in c .place-behind2 .result ≡ placeBehind (a .args .place) (placeBehind (a .args .place) (a .args .k))
+  two-behind c = let a = c .before .before .before .before .before in c .place-behind2 .ensures ∙ ap (placeBehind (a .args .place)) (c .before .place-behind .ensures)
+
+  more-left : (c : attempt-lts.Else1 (attempt-callees t) (attempt-at t) attempt.Post) → let a = c .before .before .before .before .before .before in placeBehind (a .args .place) (placeBehind (a .args .place) (a .args .k)) < length (a .args .members .now)
+  more-left c =
+      let a = c .before .before .before .before .before .before in
+      omega (arith, behind-within (a .args .place) (placeBehind (a .args .place) (a .args .k)) (length (a .args .members .now)) (a .pre .1 .1 .further) (ready a .place), two-behind (c .before), c .if1 .left)
+
   attempt-search-requires : attempt-lts.Need-search-requires (attempt-callees t) (attempt-at t) attempt.Post
   attempt-search-requires c κs =
       let j = c .before in
@@ -276,29 +256,32 @@ module _ (t : ℕ) where
       let b = chosen n in
       let a = start n in
       let s = b .past-own .result in
-      let f : fit a ≡ true = sym (j .before .before .fits2 .ensures) ∙ j .before .if2 .taken in
+      let f : fit a ≡ true = sym (j .before .before .fits2 .ensures) ∙ j .before .if3 .taken in
       let S = stage a s (staged b) f in
       let m = latest-chosen a s (staged b) f in
-      let e = flag (a .args .resumes) (eqb (a .args .x) (getD (a .args .t9) (a .args .k) 0)) (j .if3 .resuming) (⊎-elim (λ w. _⊎_.inl (w .0 .taken, w .1)) (λ w. _⊎_.inr (w .0 .left, w .1)) (j .if3 .came)) in
+      let e = flag (a .args .resumes) (eqb (a .args .x) (getD (a .args .t9) (a .args .k) 0)) (j .if4 .resuming) (⊎-elim (λ w. _⊎_.inl (w .0 .taken, w .1)) (λ w. _⊎_.inr (w .0 .left, w .1)) (j .if4 .came)) in
       let on : s .k ≡ placeBehind (a .args .place) (a .args .k) = ap (λ (s : Stage). s .k) (staged b) ∙ past-place (a .args .place) (a .args .own) (a .args .k) (more a) in (
         omega (arith, a .pre .0, turn a .inside, S .forth, S .prefix .depth),
         (
-          n .narrow-members .ensures .0,
-          record {
-            seeking = record { sound = ready-narrowed (over n); indexed = a .pre .1 .1 .turn .seeking .indexed };
-            prefix = subst (λ (on : Bool). Prefix (onWords (given a) (fewer n)) (s .k) on (s .chosen)) e (prefix-narrowed (over n) (s .k) (s .chosen) m (resumed a) (S .prefix));
-            lives = over n .narrower .keeps (seeker (given a)) (a .pre .1 .1 .turn .lives) (agrees-own (turn a) (a .args .x) (a .pre .1 .1 .from-start) (a .pre .1 .1 .to-end) f);
-            inside = omega (arith, on, a .pre .1 .1 .further);
-            other = S .other;
-          },
+          (
+            n .narrow-members .ensures .0,
+            record {
+              seeking = record { sound = ready-narrowed (over n); indexed = a .pre .1 .1 .turn .seeking .indexed };
+              prefix = subst (λ (on : Bool). Prefix (onWords (given a) (fewer n)) (s .k) on (s .chosen)) e (prefix-narrowed (over n) (s .k) (s .chosen) m (resumed a) (S .prefix));
+              lives = over n .narrower .keeps (seeker (given a)) (a .pre .1 .1 .turn .lives) (agrees-own (turn a) (a .args .x) (a .pre .1 .1 .from-start) (a .pre .1 .1 .to-end) f);
+              inside = omega (arith, on, a .pre .1 .1 .further);
+              other = S .other;
+            },
+          ),
+          subst (λ (n : ℕ). placeBehind (a .args .place) n < length (a .args .members .now)) (sym on) (more-left (b .before .before .before)),
         ),
       )
 
-  attempt-returns : attempt-lts.Need-returns (attempt-callees t) (attempt-at t) attempt.Post
+  attempt-returns : attempt-lts.Need-returns-2 (attempt-callees t) (attempt-at t) attempt.Post
   attempt-returns c =
       let j = c .before .before in
       let n = j .before .before .before .before in
-      c .search .ensures ∙ narrowed-ahead n (sym (j .before .before .fits2 .ensures) ∙ j .before .if2 .taken)
+      c .search .ensures ∙ narrowed-ahead n (sym (j .before .before .fits2 .ensures) ∙ j .before .if3 .taken)
 
 -- ---- walk
 
@@ -564,7 +547,7 @@ module _ (t : ℕ) where
     sent = searchOn (a .args .variables .now) (a .args .values .now) (a .args .starts .now) (a .args .words .now) (a .args .members .now) (a .args .place) (a .args .own) (a .args .t9)
 
     abbrev asked : SearchAt sent (a .args .index .now) (a .args .k) (a .args .resumes) (a .args .chosen)
-    asked = a .pre .1 .1
+    asked = a .pre .1 .0 .1
 
     abbrev sound : SoundSearch sent
     sound = asked .seeking .sound
@@ -601,74 +584,16 @@ module _ (t : ℕ) where
         (sym (n .next .ensures ∙ ap (λ (i : ℕ). nextLive (a .args .words .now) i (spanned .span-of .result .end)) start-is ∙ ap (nextLive (a .args .words .now) (path a .start)) stop-is))
         (come-first (going a))
 
-    first-of : spanned .span-of .result .first ≡ path entered .first
-    first-of = ap (λ (s : Span). s .first) (spanned .span-of .ensures)
-
-  -- the last member's turn
-  module _ (w : search-lts.After-first-fitting (search-callees t) (search-at t) search′.Post) where
-    abbrev on-last : search-lts.After-next (search-callees t) (search-at t) search′.Post
-    on-last = w .before .before .before
-
-    abbrev asker : Searching
-    asker = entered on-last
-
-    abbrev fitted : ℕ
-    fitted = w .first-fitting .result
-
-    fits-at : WalkAt (sent asker) (asker .args .k) (asker .args .resumes) (asker .args .chosen) fitted
-    fits-at = come-fitting (going asker) (on-last .next .result) fitted (begins on-last) (w .first-fitting .ensures)
-
-    -- its index
-    abbrev fitted-x : ℕ
-    fitted-x = fitted - spanned on-last .span-of .result .first
-
-    fitted-is : path asker .first + fitted-x ≡ fitted
-    fitted-is = omega (arith, first-of on-last, come-from (going asker) fitted fits-at .0)
-
-    module _ (below : fitted < spanned on-last .span-of .result .end) (s : Stage) (e : s ≡ pastOwn (asker .args .place) (asker .args .own) (asker .args .k + 1) (set (asker .args .chosen) (asker .args .k) fitted-x)) where
-      before-end : fitted < path asker .end
-      before-end = omega (arith, below, stop-is on-last)
-
-      fit-there : fits (netOf (sent asker)) (asker .args .members .now) (asker .args .place) (asker .args .own) (asker .args .k) (asker .args .chosen) fitted-x ≡ true
-      fit-there =
-          let f = w .first-fitting .ensures in
-          let T = going asker in
-          ap (λ (n : ℕ). fits (netOf (sent asker)) (asker .args .members .now) (asker .args .place) (asker .args .own) (asker .args .k) (asker .args .chosen) (fitted - n)) (first-of on-last ∙ first-id T)
-          ∙ f .fitting (omega (arith, before-end, span-end-is))
-        where
-          span-end-is : path asker .end ≡ firstId (netOf (sent asker)) (getD (asker .args .members .now) (asker .args .k) 0) + size (netOf (sent asker)) (getD (asker .args .members .now) (asker .args .k) 0)
-          span-end-is = span-inside (sent asker) (asker .args .k) (sound asker) (asked asker .inside) (asker .args .resumes) .end-is
-
-      full : sought (sent asker) (asker .args .k) (asker .args .chosen) ≡ some (take (length (asker .args .members .now)) (s .chosen))
-      full =
-          let T = going asker in
-          let from : path asker .start ≤ path asker .first + fitted-x = omega (arith, fitted-is, fits-at .from-start) in
-          let to : path asker .first + fitted-x < path asker .end = omega (arith, fitted-is, before-end) in
-          let lives : isLive (asker .args .words .now) (path asker .first + fitted-x) ≡ true = subst (λ (g : ℕ). isLive (asker .args .words .now) g ≡ true) (sym fitted-is) (fits-at .lives before-end) in
-          let S = stage-behind T (asked asker .lives) fitted-x from to lives fit-there s e in
-          let q : s .k ≡ length (asker .args .members .now) =
-          ap (λ (s : Stage). s .k) e ∙ past-place (asker .args .place) (asker .args .own) (asker .args .k) (set (asker .args .chosen) (asker .args .k) fitted-x) ∙ sym (w .before .before .place-behind .ensures) ∙ w .before .if1 .taken in
-          come-found T fitted fits-at before-end (take (length (asker .args .members .now)) (s .chosen))
-          (ap (onward (sent asker) (asker .args .k) (asker .args .chosen)) (sym fitted-is)
-          ∙ sym (stage-onward T (asked asker .lives) fitted-x from to lives fit-there s e)
-          ∙ turn-done (sent asker) (sound asker) (asker .args .resumes && eqb fitted-x (getD (asker .args .t9) (asker .args .k) 0)) (s .chosen) (S .sized) (s .k) q (S .prefix))
-
-  -- another's
-  more-behind : (b : search-lts.Else1 (search-callees t) (search-at t) search′.Post) → let a = entered (b .before .before) in placeBehind (a .args .place) (a .args .k) < length (a .args .members .now)
-  more-behind b =
-      let a = entered (b .before .before) in
-      omega (arith, behind-within (a .args .place) (a .args .k) (length (a .args .members .now)) (asked a .inside) (sound a .place), b .before .place-behind .ensures, b .if1 .left)
-
   -- the members from k on, narrowed through each other
   module _ (p : search-lts.After-spread-members (search-callees t) (search-at t) search′.Post) where
-    abbrev stopped : search-lts.Else5 (search-callees t) (search-at t) search′.Post
+    abbrev stopped : search-lts.Else3 (search-callees t) (search-at t) search′.Post
     stopped = p .before .before .before .before
 
     abbrev first-walk : search-lts.After-walk (search-callees t) (search-at t) search′.Post
     first-walk = stopped .before .before .before
 
     abbrev input : Searching
-    input = entered (first-walk .before .before .before .before)
+    input = entered (first-walk .before .before)
 
     abbrev fewest : List ℕ
     fewest = p .spread-members .last .1 .1 .1 .1 .0
@@ -681,7 +606,7 @@ module _ (t : ℕ) where
     same = turn-sought (sent input) fewest (input .args .k) (p .spread-members .ensures .0) (p .spread-members .ensures .1 .0) (sound input) (asked input .inside) (input .args .resumes) (input .args .chosen) (asked input .prefix)
 
     unfound : isFound (first-walk .walk .result .kind) ≡ false
-    unfound = ne-eqb (first-walk .walk .result .kind) 1 (stopped .before .if4 .left)
+    unfound = ne-eqb (first-walk .walk .result .kind) 1 (stopped .before .if2 .left)
 
     came : WalkAt (sent input) (input .args .k) (input .args .resumes) (input .args .chosen) (first-walk .walk .result .at)
     came = first-walk .walk .ensures .on unfound
@@ -711,19 +636,19 @@ module _ (t : ℕ) where
 
   search-steps-between-requires : search-lts.Need-steps-between-requires (search-callees t) (search-at t) search′.Post
   search-steps-between-requires c κs =
-      let a = entered (c .before .before .before .before .before .before .before .before) in
-      (a .pre .1 .0, (sound a .laid .framed, (sound a .few, λ j h. member-below (sent a) (sound a) j h)))
+      let a = entered (c .before .before .before .before .before .before) in
+      (a .pre .1 .0 .0, (sound a .laid .framed, (sound a .few, λ j h. member-below (sent a) (sound a) j h)))
 
   search-spread-members-requires : search-lts.Need-spread-members-requires (search-callees t) (search-at t) search′.Post
   search-spread-members-requires c κs =
-      let a = entered (c .before .before .before .before .before .before .before .before .before .before) in
-      (a .pre .1 .0, ((record { laid = sound a .laid; indexed = asked a .seeking .indexed }, record { proper = sound a .members; few = sound a .few }), sound a .place))
+      let a = entered (c .before .before .before .before .before .before .before .before) in
+      (a .pre .1 .0 .0, ((record { laid = sound a .laid; indexed = asked a .seeking .indexed }, record { proper = sound a .members; few = sound a .few }), sound a .place))
 
   search-next-requires-2 : search-lts.Need-next-requires-2 (search-callees t) (search-at t) search′.Post
   search-next-requires-2 c κs =
       let p = c .before .before in
       let a = input p in
-      let e = stop-is (first-walk p .before .before .before .before) in
+      let e = stop-is (first-walk p .before .before) in
       let few = walk-asks (going a) (path a .start) (omega arith) (walk-forward (going a)) .2 in
       (omega (arith, came p .to-end, e), omega (arith, p .spread-members .ensures .0, few, e), omega (arith, few, e))
 
@@ -737,9 +662,9 @@ module _ (t : ℕ) where
           (p .spread-members .ensures .0, thinner-at p),
           (
             subst (WalkAt (thinner p) (a .args .k) (a .args .resumes) (a .args .chosen))
-                (sym (x .next2 .ensures ∙ ap (nextLive (fewest p) (first-walk p .walk .result .at)) (stop-is (first-walk p .before .before .before .before))))
+                (sym (x .next2 .ensures ∙ ap (nextLive (fewest p) (first-walk p .walk .result .at)) (stop-is (first-walk p .before .before))))
                 (goes-on p),
-            more-behind (first-walk p .before .before),
+            a .pre .1 .1,
           ),
         ),
       )
@@ -748,19 +673,23 @@ pub +attempt+comb+search+walk-spec : {M : Type 1} → statement M
 +attempt+comb+search+walk-spec =
     close μ-attempt μ-comb μ-search μ-walk
     (λ t. attempt-lts.spec (attempt-callees t) (attempt-at t) attempt.Post
-    (λ c. let a = c .before .before .before in omega (arith, ready t a .few, turn t a .inside))
-    (λ c. let a = c .before .before .before .before in turn t a .inside)
-    (λ c. let a = c .before .before .before .before in omega (arith, ready t a .few, turn t a .inside))
+    (λ c κs. let a = c .before .before .before in omega (arith, ready t a .few, turn t a .inside))
+    (λ c κs. let a = c .before .before .before .before in omega (arith, ready t a .few, a .pre .1 .1 .further, c .place-behind .ensures))
+    (λ c κs. let a = c .before .before .before .before .before .before in (a .pre .1, sym (two-behind t (c .before)) ∙ c .if1 .taken))
+    (λ c. c .attempt-last .ensures)
+    (λ c. let a = c .before .before .before .before .before .before in omega (arith, ready t a .few, turn t a .inside))
+    (λ c. let a = c .before .before .before .before .before .before .before in turn t a .inside)
+    (λ c. let a = c .before .before .before .before .before .before .before in omega (arith, ready t a .few, turn t a .inside))
     (λ c κs. search needs)
-    (λ c κs. let a = c .before .before .before .before .before in omega (arith, ready t a .place, ready t a .few))
+    (λ c κs. let a = c .before .before .before .before .before .before .before .before in omega (arith, ready t a .place, ready t a .few))
     (attempt-narrow-members-requires t)
     (λ c κs. let a = start t (c .before) in trial (turn t a) (a .args .x) (a .pre .1 .1 .from-start) (a .pre .1 .1 .to-end))
     (λ c. let a = start t (c .before .before .before .before) in omega (arith, ready t a .few, turn t a .inside))
     (λ c. let a = start t (c .before .before .before .before) in omega (arith, ready t a .few, turn t a .inside))
     (attempt-search-requires t)
     (attempt-returns t)
-    (λ c. sym (clash t (start t (c .before .before .before)) (sym (c .before .fits2 .ensures) ∙ c .if2 .left)))
-    (λ c. sym (nowhere t (c .before) (c .if1 .left) (fit t (start t (c .before))) refl)))
+    (λ c. sym (clash t (start t (c .before .before .before)) (sym (c .before .fits2 .ensures) ∙ c .if3 .left)))
+    (λ c. sym (nowhere t (c .before) (c .if2 .left) (fit t (start t (c .before))) refl)))
     (λ t. comb-lts.spec (comb-callees t) (comb-at t) comb.Post comb-Inv-loop comb-μ-loop
     (λ c. let a = c .before .before .before in omega (arith, combing t a .ready .few, combing t a .inside))
     (λ c. let a = c .before .before .before .before in combing t a .inside)
@@ -810,30 +739,12 @@ pub +attempt+comb+search+walk-spec : {M : Type 1} → statement M
     let e = ap (λ (s : Span). s .end) (c .before .span-of .ensures) in
     let k = walk-asks (going t a) (path t a .start) (omega arith) (walk-forward (going t a)) in
     (omega (arith, s, e, k .0), omega (arith, e, k .1), omega (arith, e, k .2)))
-    (λ c κs. let a = entered t c in omega (arith, sound t a .few, asked t a .inside))
-    (λ c κs.
-    let n = c .before .before in
-    let a = entered t n in
-    ((a .pre .1 .0, trials (going t a)), comes-from (going t a) (n .next .result) (begins t n)))
-    (λ c.
-    let w = c .before in
-    sym (come-none (going t (asker t w)) (fitted t w) (fits-at t w) (omega (arith, c .if2 .taken, stop-is t (on-last t w)))))
-    (λ c. let a = asker t (c .before) in omega (arith, sound t a .few, asked t a .inside))
-    (λ c. let w = c .before .before in omega (arith, first-of t (on-last t w), come-from (going t (asker t w)) (fitted t w) (fits-at t w) .0))
-    (λ c κs. search needs)
-    (λ c κs. let a = asker t (c .before .before .before) in omega (arith, sound t a .place, sound t a .few))
-    (λ c.
-    let o = c .before in
-    let w = o .before .before .before .before in
-    let a = asker t w in
-    sym (full t w (o .before .before .before .if2 .left) (o .past-own .result)
-    (o .past-own .ensures ∙ ap (pastOwn (a .args .place) (a .args .own) (a .args .k + 1)) (o .before .put .ensures))))
-    (λ c κs. let b = c .before in let n = b .before .before in let a = entered t n in (omega (arith, a .pre .0), ((a .pre .1 .0, asked t a), (begins t n, more-behind t b))))
+    (λ c κs. let n = c .before in let a = entered t n in (omega (arith, a .pre .0), (a .pre .1 .0, (begins t n, a .pre .1 .1))))
     (λ c. c .comb .ensures)
-    (λ c κs. let b = c .before in let n = b .before .before in let a = entered t n in (omega (arith, a .pre .0), ((a .pre .1 .0, asked t a), (begins t n, more-behind t b))))
+    (λ c κs. let n = c .before in let a = entered t n in (omega (arith, a .pre .0), (a .pre .1 .0, (begins t n, a .pre .1 .1))))
     (λ c.
     let w = c .before .before in
-    let n = w .before .before .before .before in
+    let n = w .before .before in
     let a = entered t n in
     let ts = take (length (a .args .members .now)) (w .walk .result .tuples) in
     let kind = w .walk .result .kind in
@@ -842,7 +753,7 @@ pub +attempt+comb+search+walk-spec : {M : Type 1} → statement M
     (λ v.
     let e = ne-eqb kind 1 (v .0 .left) in
     ap (λ (b : Bool). answer b ts) e ∙ sym (come-none (going t a) (w .walk .result .at) (w .walk .ensures .on e) (omega (arith, leb-true (spanned t n .span-of .result .end) (w .walk .result .at) (v .1 .taken), stop-is t n))))
-    (c .if4 .came))
+    (c .if2 .came))
     (search-steps-between-requires t)
     (search-spread-members-requires t)
     (λ c.
@@ -850,7 +761,7 @@ pub +attempt+comb+search+walk-spec : {M : Type 1} → statement M
     let a = input t p in
     let ts = take (length (a .args .members .now)) (first-walk t p .walk .result .tuples) in
     ap (λ (b : Bool). answer b ts) (unfound t p)
-    ∙ sym (sym (same t p) ∙ sought-none (sent t a) (fewest t p) (a .args .k) (a .args .chosen) (p .spread-members .ensures .1 .1 (not-true _ (c .if6 .taken)))))
+    ∙ sym (sym (same t p) ∙ sought-none (sent t a) (fewest t p) (a .args .k) (a .args .chosen) (p .spread-members .ensures .1 .1 (not-true _ (c .if4 .taken)))))
     (λ c. search needs)
     (search-next-requires-2 t)
     (search-comb-requires-2 t)
