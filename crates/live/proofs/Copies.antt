@@ -1,15 +1,15 @@
 -- Laws of words copied into an array. From the definitions, and the laws of live words.
-use mathlib.Core.Path.{_≡_, sym, ap, subst}
+use mathlib.Core.Path.{_≡_, sym, subst}
 use mathlib.Core.List.{List, _++_}
-use Prim.Native.Nat.{ℕ, _*_, _/_, _%_, _^_, _≤_, _<_}
+use Prim.Native.Nat.{ℕ, _*_, _^_, _≤_, _<_}
 use native.Mathlib.Decide.{decLt}
 use native.Mathlib.Omega.{arith}
 use lib.ListN.{length, getD, take, drop}
 use Rattle.model.specs.Limits.{wordBits}
 use Rattle.model.specs.TupleSet.{TupleSet}
-use Rattle.model.specs.LiveWords.{isSet, isLive, living, written}
+use Rattle.model.specs.LiveWords.{living, written}
 use Rattle.model.proofs.LiveWords.{living-same, written-copy}
-use Rattle.live.specs.Words.{WordArray, Copied, CopiedBetween}
+use Rattle.live.specs.Words.{WordArray, Copied}
 
 module _ (n : ℕ) (words array : List ℕ) (copy : Copied n words array) where
   pub copied-array : ((i : ℕ) → getD words i 0 < 2 ^ 64) → WordArray array
@@ -27,9 +27,3 @@ module _ (n : ℕ) (words array : List ℕ) (copy : Copied n words array) where
     -- what is written to it and put back is written to the words
     pub copied-written : (S : TupleSet) → n ≤ 64 → n ≤ length words → ((i : ℕ) → getD words i 0 < 2 ^ 64) → take n (written ids S array) ++ drop n words ≡ written ids S words
     copied-written S few l small = written-copy ids n S array words (omega (arith, copy .long)) l (copy .same) (λ i _. small i) enough
-
-module _ {start end : ℕ} {words before after : List ℕ} (copy : CopiedBetween start end words before after) where
-  -- the same of these ids live in both
-  pub between-live : (g : ℕ) → start ≤ g → g < end → isLive after g ≡ isLive words g
-  unfolding isLive
-  between-live g l h = ap (λ (w : ℕ). isSet w (g % wordBits)) (copy .same (g / wordBits) (omega arith) (omega arith))

@@ -1,11 +1,8 @@
 -- Arrays of 64 live words.
 use mathlib.Core.Path.{_≡_}
 use mathlib.Core.List.{List}
-use mathlib.Core.Logic.{_⊎_}
-use Prim.Native.Nat.{ℕ, _/_, _^_, _≤_, _<_}
+use Prim.Native.Nat.{ℕ, _^_, _≤_, _<_}
 use lib.ListN.{length, getD}
-use Rattle.model.specs.Limits.{wordBits}
-use Rattle.model.specs.LiveWords.{wordsFor}
 
 -- every word is a number of 64 bits
 abbrev pub Small : List ℕ → Type 0
@@ -21,9 +18,3 @@ pub record Copied (n : ℕ) (words array : List ℕ) : Type 0 where
   pub long : length array ≡ 64
   pub same : (i : ℕ) → i < n → getD array i 0 ≡ getD words i 0
   pub none : (i : ℕ) → n ≤ i → i < 64 → getD array i 0 ≡ 0
-
--- The words of the ids from start on and below end are those of the one array, and all others as they were in the other.
-pub record CopiedBetween (start end : ℕ) (words before after : List ℕ) : Type 0 where
-  pub long : length after ≡ length before
-  pub same : (i : ℕ) → start / wordBits ≤ i → i < wordsFor end → getD after i 0 ≡ getD words i 0
-  pub rest : (i : ℕ) → (i < start / wordBits) ⊎ (wordsFor end ≤ i) → getD after i 0 ≡ getD before i 0

@@ -5,7 +5,7 @@ ghost use Prim.Native.Nat.{_-_, _*_, _/_, _%_, _≤_, _<_};
 ghost use lib.ListN.{length, take, drop};
 ghost use Rattle.model.specs.TupleSet.{count};
 ghost use Rattle.model.specs.LiveWords.{wordsFor, isLive, livingFrom, nextLive, cleared, raised};
-ghost use Rattle.live.specs.Words.{Copied, CopiedBetween};
+ghost use Rattle.live.specs.Words.{Copied};
 
 // The words of 4,096 ids.
 pub const WORDS: usize = 64;
@@ -114,19 +114,6 @@ pub fn put_back(copy: &Words, words: &mut [u64], n: usize)
     let mut i = 0;
     while i < n {
         words[i] = copy[i];
-        i += 1;
-    }
-}
-
-// The words that hold the ids from start on and below end are those of `from`, and all others stay.
-pub fn copy_between(from: &Words, to: &mut Words, start: u16, end: u16)
-    requires { ⌜ (length (now from) ≡ 64) × (length (now to) ≡ 64) × (end ≤ 4096) ⌝ }
-    ensures { λ _. ⌜ CopiedBetween start end (now (from .entry)) (now (to .entry)) (now (to .exit)) ⌝ }
-{
-    let stop = words_for(end);
-    let mut i = start as usize / 64;
-    while i < stop {
-        to[i] = from[i];
         i += 1;
     }
 }

@@ -3,3 +3,4 @@ pub mod Words
 pub mod Narrowing
 pub mod Sieves
 pub mod TupleRows
+pub mod Gathered

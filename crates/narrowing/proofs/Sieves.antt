@@ -24,7 +24,7 @@ use Rattle.layout.proofs.Places.{below-limit, scope-length, values-length, valu
 use Rattle.narrowing.specs.declared.sieve.Shared.{Shared}
 use Rattle.narrowing.specs.declared.sieve.Sieve.{Sieve}
 use Rattle.narrowing.specs.Sieve.{bitOf, bitAt, passesSieve, Sieves, Shares, Masks}
-use Rattle.narrowing.proofs.Narrowing.{values-fit}
+use Rattle.narrowing.proofs.TupleRows.{values-fit}
 
 -- ---- The bit of a value
 

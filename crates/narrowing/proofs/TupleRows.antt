@@ -1,38 +1,38 @@
 -- Laws of shared columns and of the rows of a tuple's values in them: whatever agrees with the tuple is in all of them.
 -- From the laws of the value index, of words narrowed by it, and of agreement by places.
 use mathlib.Core.Path.{_≡_, refl, sym, _∙_, ap, ap₂, subst}
-use mathlib.Core.Bool.{Bool, true, false, not, _&&_, and-true, and-false}
+use mathlib.Core.Bool.{Bool, true, false, _&&_, and-true, and-false}
 use mathlib.Core.List.{List}
 use mathlib.Core.Logic.{_⊎_, inl, inr, ⊎-elim}
-use Prim.Native.Nat.{ℕ, zero, suc, _+_, _-_, _*_, _/_, _%_, _^_, _≤_, _<_}
+use Prim.Native.Nat.{ℕ, zero, suc, _+_, _-_, _*_, _/_, _%_, _≤_, _<_}
 use native.Mathlib.Nat.{zero-add}
 use native.Mathlib.Omega.{arith}
 use native.Mathlib.Decide.{ℕ-discrete, decLt}
 use lib.Dec.{ltb, leb}
 use lib.ListN.{length, getD, set, take, drop, replicate, length-set, getD-replicate, List·getD-eq-default}
 use lib.Seq.{getD-set-same, getD-set-other}
-use lib.Bits.{bitAnd, bitOr, and-le-l, or-add-and}
+use lib.Bits.{bitAnd}
 use borrow.Author.Tests.{lt-leb, le-ltb}
 use Rattle.model.specs.Limits.{maxWidth, wordBits}
 use Rattle.model.specs.Lists.{from, all}
 use Rattle.model.specs.Network.{Network, width, size, firstId, valuesIn, before, scopeOf, valuesAt}
-use Rattle.model.specs.Agreement.{cells, agreeing, agree}
+use Rattle.model.specs.Agreement.{fit, cells, agreeing, agree}
 use Rattle.model.specs.LiveWords.{isSet, isLive}
 use Rattle.model.proofs.Bools.{and-intro, not-both}
 use Rattle.model.proofs.Lists.{all-at, all-intro, from-mem, mem-from, from-append, all-of-append}
 use Rattle.model.proofs.LiveWords.{isLive-at}
-use Rattle.model.proofs.Agreement.{fit-equal, agree-at}
-use Rattle.live.proofs.Bits.{isSet-high, isSet-not, isSet-and, le-or}
+use Rattle.model.proofs.Agreement.{cellAt, agreeing-clash, clash-unfit, fit-equal, agree-at}
+use Rattle.live.proofs.Bits.{isSet-and}
 use Rattle.layout.specs.Starts.{valueStart, recordsIn}
 use Rattle.layout.specs.Setting.{Lists, networkIn, SoundLists}
 use Rattle.layout.proofs.SoundStarts.{value-start}
-use Rattle.layout.proofs.Places.{below-limit, scope-length, tuple-fits, values-length}
+use Rattle.layout.proofs.Places.{below-limit, scope-length, scope-few, tuple-fits, values-length}
 use Rattle.value_index.specs.Plan.{indexWords, columnStart, rowWords, digitCount, hashAt, rowAt, ColumnRows, SoundPlan}
 use Rattle.value_index.specs.Index.{rowBit, isIndexed, Indexed}
 use Rattle.value_index.proofs.ValueRows.{hash-below, row-within, row-is, rows-begin}
-use Rattle.narrowing.specs.TupleRows.{Shares, HasRows, Adds, RowOf, RowsOf, InEvery, Within, both, inRows, BitsInRows, Apart, LiveBetween}
-use Rattle.narrowing.proofs.Words.{not-ltb, row-at}
-use Rattle.narrowing.proofs.Narrowing.{values-fit}
+use Rattle.narrowing.specs.Narrows.{isBetween, BitsBetween}
+use Rattle.narrowing.specs.TupleRows.{Shares, HasRows, ValueRow, Adds, FirstRows, RowOf, SharedRow, RowFor, InEvery, Within, both, inRows, BitsInRows, Apart, LiveBetween}
+use Rattle.narrowing.proofs.Words.{isSet-nought, row-at}
 
 -- what holds of the first i numbers of a list holds of one more, which is stored
 pub first-set : (P : ℕ → ℕ → Type 0) (xs : List ℕ) (i v : ℕ) → i < length xs → ((j : ℕ) → j < i → P j (getD xs j 0)) → P i v → (j : ℕ) → j < i + 1 → P j (getD (set xs i v) j 0)
@@ -49,27 +49,56 @@ shares-rows {columns = columns} {s} sound h few shares c l d =
     let f = shares .at c l d in
     rows-begin sound s (f .column) (getD columns c 0) h (omega (arith, f .inside)) (f .begins) d
 
-pub rows-within : {index columns tuple rows : List ℕ} {n : ℕ} → SoundPlan index → HasRows index columns (length tuple) → RowsOf index columns tuple n rows → Within index n rows
-rows-within {index} {columns} {tuple} sound has rows =
-    record {
-      few = rows .few;
-      inside = λ k h.
-          let f = rows .at k h in
-          let start = getD columns (f .column) 0 in
-          let v = getD tuple (f .column) 0 in
-          let d = f .row .digit in
-          let w = row-within sound (hashAt index v d) (hash-below index v d) d (f .row .few) (has (f .column) (f .inside) (f .row .some)) in
-          omega (arith, w, f .row .begins, row-is index start v d (hashAt index v d) refl);
-    }
+-- a row of a value
+pub value-within : {index : List ℕ} {start v first : ℕ} → SoundPlan index → ((start ≡ 0 → ⊥) → ColumnRows index start) → ValueRow index start v first → first + rowWords index ≤ indexWords
+value-within {index} {start} {v} sound has row =
+    let d = row .digit in
+    let w = row-within sound (hashAt index v d) (hash-below index v d) d (row .few) (has (row .some)) in
+    omega (arith, w, row .begins, row-is index start v d (hashAt index v d) refl)
 
--- rows behind rows
-pub rows-then : {index columns tuple rows after : List ℕ} {n k : ℕ} (c : ℕ) → c < length tuple → k ≤ 32 → RowsOf index columns tuple n rows → Adds index (getD columns c 0) (getD tuple c 0) n k rows after → RowsOf index columns tuple k after
-rows-then {index} {columns} {tuple} {rows} {after} {n} {k} c h few f a =
-    record { long = a .long; few = few; at = λ j l. go j l (decLt j n) }
-  where
-    go : (j : ℕ) → j < k → Dec (j < n) → RowOf index columns tuple (getD after j 0)
-    go j l (yes b) = subst (RowOf index columns tuple) (sym (a .same j b)) (f .at j b)
-    go j l (no b) = record { column = c; inside = h; row = a .at j (omega arith) l }
+pub rows-within : {index rows : List ℕ} {Such : ℕ → Type 0} {n : ℕ} → ((first : ℕ) → Such first → first + rowWords index ≤ indexWords) → FirstRows Such n rows → Within index n rows
+rows-within {rows = rows} within f = record { few = f .few; inside = λ k h. within (getD rows k 0) (f .at k h) }
+
+pub row-of-within : {index columns tuple : List ℕ} → SoundPlan index → HasRows index columns (length tuple) → (first : ℕ) → RowOf index columns tuple first → first + rowWords index ≤ indexWords
+row-of-within sound has first f = value-within sound (has (f .column) (f .inside)) (f .row)
+
+shared-within : {scopeA a scopeB index : List ℕ} {s : ℕ} → SoundPlan index → s < 64 → length scopeB ≤ maxWidth → (first : ℕ) → SharedRow scopeA a scopeB index s first → first + rowWords index ≤ indexWords
+shared-within {index = index} {s} sound h few first f =
+    value-within sound (rows-begin sound s (f .column) (columnStart index s (f .column)) h (omega (arith, few, f .inside)) refl) (f .row .row)
+
+-- .. of tuples in sound lists with their index
+pub rows-for-within : {L : Lists} → SoundLists L → {index : List ℕ} → Indexed (networkIn L) index → (r x s : ℕ) {n : ℕ} {rows : List ℕ} → s < 64 → FirstRows (RowFor (networkIn L) index r x s) n rows → Within index n rows
+rows-for-within laid indexed r x s h f = rows-within (shared-within (indexed .plan) h (scope-few laid s h)) f
+
+-- ---- Rows behind rows
+
+module _ {Such : ℕ → Type 0} where
+  -- no row is put
+  pub adds-none : (n : ℕ) {rows : List ℕ} → length rows ≡ 32 → Adds Such n n rows rows
+  adds-none n long =
+      record { long = long; rises = omega arith; few = omega arith; same = λ j h. refl; at = λ j a b. absurd (omega arith) }
+
+  -- one more
+  pub adds-more : (n k first : ℕ) (before rows : List ℕ) → k < 32 → k < n + 4 → Such first → Adds Such n k before rows → Adds Such n (k + 1) before (set rows k first)
+  adds-more n k first before rows h l row now =
+      record {
+        long = length-set rows k first ∙ now .long;
+        rises = omega (arith, now .rises);
+        few = omega (arith, l);
+        same = λ j m. getD-set-other rows k j first 0 (λ e. omega (arith, now .rises)) ∙ now .same j m;
+        at = λ j a b. first-set (λ (m w : ℕ). n ≤ m → Such w) rows k first (omega (arith, now .long)) (λ m c a. now .at m a c) (λ _. row) j b a;
+      }
+
+  module _ {Others : ℕ → Type 0} (are : (first : ℕ) → Such first → Others first) {n k : ℕ} {rows after : List ℕ} (a : Adds Such n k rows after) where
+    pub adds-as : Adds Others n k rows after
+    adds-as = record { long = a .long; rises = a .rises; few = a .few; same = a .same; at = λ j l h. are (getD after j 0) (a .at j l h) }
+
+    pub rows-then : k ≤ 32 → FirstRows Others n rows → FirstRows Others k after
+    rows-then few f = record { long = a .long; few = few; at = λ j l. go j l (decLt j n) }
+      where
+        go : (j : ℕ) → j < k → Dec (j < n) → Others (getD after j 0)
+        go j l (yes b) = subst Others (sym (a .same j b)) (f .at j b)
+        go j l (no b) = are (getD after j 0) (a .at j (omega arith) l)
 
 -- ---- Ids in rows
 
@@ -97,21 +126,29 @@ module _ (index rows : List ℕ) where
   pub rows-fewer : (m n g : ℕ) → m ≤ n → inRows index rows n g ≡ true → inRows index rows m g ≡ true
   rows-fewer m n g l e = rows-all m g (λ k h. rows-at n g k (omega arith) e)
 
-  -- in those that are a tuple's, where it is in every row of its values
-  pub rows-every : {columns tuple : List ℕ} (n g : ℕ) → RowsOf index columns tuple n rows → InEvery index columns tuple g → inRows index rows n g ≡ true
+  -- in those that are such ones, where it is in every such row
+  pub rows-every : {Such : ℕ → Type 0} (n g : ℕ) → FirstRows Such n rows → ((first : ℕ) → Such first → rowBit index first g ≡ true) → inRows index rows n g ≡ true
   rows-every n g f every = rows-all n g (λ k h. every (getD rows k 0) (f .at k h))
 
-  -- two of them
-  pub both-in : (n g j k : ℕ) → j < n → k < n → inRows index rows n g ≡ true → inRows index (both (getD rows j 0) (getD rows k 0)) 2 g ≡ true
+  -- one row, taken twice, and two rows
+  pub one-twice : (n a g : ℕ) → n ≡ 1 → a ≡ getD rows 0 0 → inRows index (both a a) 2 g ≡ inRows index rows n g
   unfolding inRows
-  both-in n g j k hj hk e = and-intro (rows-at n g j hj e) (and-intro (rows-at n g k hk e) refl)
-
-  pub both-within : (n j k : ℕ) → j < n → k < n → Within index n rows → Within index 2 (both (getD rows j 0) (getD rows k 0))
-  both-within n j k hj hk w = record { few = omega arith; inside = one }
+  one-twice n a g e d = ap (λ (k : ℕ). inRows index (both k k) 2 g) d ∙ go (rowBit index (getD rows 0 0) g) ∙ ap (λ (k : ℕ). inRows index rows k g) (sym e)
     where
-      one : (i : ℕ) → i < 2 → getD (both (getD rows j 0) (getD rows k 0)) i 0 + rowWords index ≤ indexWords
-      one zero h = w .inside j hj
-      one (suc zero) h = w .inside k hk
+      go : (x : Bool) → (x && (x && true)) ≡ (x && true)
+      go true = refl
+      go false = refl
+
+  pub two-both : (n a b g : ℕ) → n ≡ 2 → a ≡ getD rows 0 0 → b ≡ getD rows 1 0 → inRows index (both a b) 2 g ≡ inRows index rows n g
+  unfolding inRows
+  two-both n a b g e d f = ap₂ (λ (j k : ℕ). inRows index (both j k) 2 g) d f ∙ ap (λ (k : ℕ). inRows index rows k g) (sym e)
+
+  pub both-within : (n j k a b : ℕ) → j < n → k < n → a ≡ getD rows j 0 → b ≡ getD rows k 0 → Within index n rows → Within index 2 (both a b)
+  both-within n j k a b hj hk ea eb w = record { few = omega arith; inside = one }
+    where
+      one : (i : ℕ) → i < 2 → getD (both a b) i 0 + rowWords index ≤ indexWords
+      one zero h = omega (arith, ea, w .inside j hj)
+      one (suc zero) h = omega (arith, eb, w .inside k hk)
       one (suc (suc i)) h = absurd (omega arith)
 
   module _ (i : ℕ) where
@@ -144,7 +181,7 @@ module _ (index rows : List ℕ) where
     -- no bit
     pub bits-nought : (n : ℕ) → BitsInRows index n rows i 0 0
     bits-nought n j h =
-        let e = isSet-high 0 0 j (omega arith) (omega arith) in
+        let e = isSet-nought j in
         e ∙ sym (ap (λ (x : Bool). x && inRows index rows n (wordBits * i + j)) e)
 
     -- a word none of whose ids is in all of them
@@ -159,13 +196,11 @@ module _ (index rows : List ℕ) where
             let k : j < wordBits = omega arith in
             not-both
             (bits j k ∙ and-intro (sym (isLive-at words i j k) ∙ ap (isLive words) e ∙ live) (ap (inRows index rows n) e ∙ inside))
-            (isSet-high 0 0 j (omega arith) (omega arith))
+            (isSet-nought j)
 
--- no bit is set in the one word nor in the other
-pub or-none : (a b : ℕ) → bitOr a b ≡ 0 → (a ≡ 0) × (b ≡ 0)
-or-none a b e =
-    let z : a ≡ 0 = omega (arith, le-or a b) in
-    (z, omega (arith, or-add-and a b, and-le-l a b))
+-- of one word, in two rows
+pub bits-both : (index : List ℕ) (a b i w : ℕ) → BitsInRows index 2 (both a b) i w (bitAnd (bitAnd w (getD index (a + i) 0)) (getD index (b + i) 0))
+bits-both index a b i w = bits-more index (both a b) i 1 w _ (bits-more index (both a b) i 0 w _ (bits-none index (both a b) i w))
 
 -- ---- What agrees is in all rows
 
@@ -185,41 +220,63 @@ module _ {L : Lists} (laid : SoundLists L) (r x columns at end : ℕ) (h : x < s
   pub part-fits : end ≤ length (L .values)
   part-fits = omega (arith, begins, e, w, tuple-fits laid r x h)
 
+-- tuples that agree have fitting values under a variable that stands at place i of the one scope and at place j of the other
+module _ (scopeA a scopeB : List ℕ) (i j : ℕ) (widths : length scopeA ≡ length a) (hi : i < length scopeA) (hj : j < length scopeB) (same : getD scopeA i 0 ≡ getD scopeB j 0) where
+  pub values-fit : (b : List ℕ) → length scopeB ≡ length b → agreeing (cells scopeA a) (cells scopeB b) ≡ true → fit (getD a i 0) (getD b j 0) ≡ true
+  values-fit b l e = go (fit (getD a i 0) (getD b j 0)) refl
+    where
+      go : (x : Bool) → fit (getD a i 0) (getD b j 0) ≡ x → fit (getD a i 0) (getD b j 0) ≡ true
+      go true q = q
+      go false q = absurd (not-both e (agreeing-clash scopeA a scopeB b i j widths l hi hj (clash-unfit (cellAt scopeA a i) (cellAt scopeB b j) same q)))
+
+-- a row in the columns found for two scopes
+shared-row : {scopeA a scopeB index columns : List ℕ} {s first : ℕ} → length scopeA ≡ length a → Shares scopeA scopeB index s columns → RowOf index columns a first → SharedRow scopeA a scopeB index s first
+shared-row {scopeA} {a} {index = index} {s = s} {first} long shares f =
+    let inside : f .column < length scopeA = omega (arith, long, f .inside) in
+    let at = shares .at (f .column) inside (f .row .some) in
+    record {
+      column = at .column;
+      inside = at .inside;
+      row = record { own = f .column; inside = inside; same = sym (at .same); row = subst (λ (n : ℕ). ValueRow index n (getD a (f .column) 0) first) (at .begins) (f .row) };
+    }
+
 module _ {L : Lists} (laid : SoundLists L) {index : List ℕ} (indexed : Indexed (networkIn L) index) (r x s z : ℕ) where
   abbrev N : Network
   N = networkIn L
 
-  module _ (hx : x < size N r) (hz : z < size N s) (agrees : agree N (firstId N r + x) (firstId N s + z) ≡ true) {columns : List ℕ} (shares : Shares (scopeOf N r) (scopeOf N s) index s columns) where
-    pub agreeing-row : {first : ℕ} → RowOf index columns (valuesAt N r x) first → rowBit index first (firstId N s + z) ≡ true
+  module _ (hx : x < size N r) (hz : z < size N s) (agrees : agree N (firstId N r + x) (firstId N s + z) ≡ true) where
+    widths : length (scopeOf N r) ≡ length (valuesAt N r x)
+    widths = scope-length laid r (below-limit laid r x hx) ∙ sym (values-length laid r x hx)
+
+    agreeing-row : (first : ℕ) → RowFor N index r x s first → rowBit index first (firstId N s + z) ≡ true
     unfolding isIndexed
-    agreeing-row {first} f =
+    agreeing-row first f =
         let a = valuesAt N r x in
         let b = valuesAt N s z in
-        let i = f .column in
+        let i = f .row .own in
+        let j = f .column in
         let g = firstId N s + z in
-        let la : length (scopeOf N r) ≡ length a = scope-length laid r (below-limit laid r x hx) ∙ sym (values-length laid r x hx) in
+        let row = f .row .row in
         let lb : length (scopeOf N s) ≡ length b = scope-length laid s (below-limit laid s z hz) ∙ sym (values-length laid s z hz) in
-        let hi : i < length (scopeOf N r) = omega (arith, la, f .inside) in
-        let at = shares .at i hi (f .row .some) in
-        let j = at .column in
         let same : getD a i 0 ≡ getD b j 0 =
         fit-equal (getD a i 0) (getD b j 0)
-        (values-fit (scopeOf N r) a (scopeOf N s) i j la hi (at .inside) (sym (at .same)) b lb (sym (agree-at N r x s z hx hz) ∙ agrees)) in
-        let marked = indexed .at s z j hz (omega (arith, at .inside, scope-length laid s (below-limit laid s z hz))) (λ e. f .row .some (at .begins ∙ e)) in
-        let in-row = all-at (λ (k : ℕ). rowBit index (rowAt index (columnStart index s j) (getD b j 0) k) g) (from 0 (digitCount index)) marked (mem-from 0 (digitCount index) (f .row .digit) (omega arith) (omega (arith, f .row .few))) in
-        let begins : first ≡ rowAt index (columnStart index s j) (getD b j 0) (f .row .digit) =
-        f .row .begins ∙ ap₂ (λ (n v : ℕ). rowAt index n v (f .row .digit)) (at .begins) same in
-        ap (λ (n : ℕ). rowBit index n g) begins ∙ in-row
+        (values-fit (scopeOf N r) a (scopeOf N s) i j widths (f .row .inside) (f .inside) (f .row .same) b lb (sym (agree-at N r x s z hx hz) ∙ agrees)) in
+        let marked = indexed .at s z j hz (omega (arith, f .inside, scope-length laid s (below-limit laid s z hz))) (row .some) in
+        let in-row = all-at (λ (k : ℕ). rowBit index (rowAt index (columnStart index s j) (getD b j 0) k) g) (from 0 (digitCount index)) marked (mem-from 0 (digitCount index) (row .digit) (omega arith) (omega (arith, row .few))) in
+        ap (λ (n : ℕ). rowBit index n g) (row .begins ∙ ap (λ (v : ℕ). rowAt index (columnStart index s j) v (row .digit)) same) ∙ in-row
 
-    pub agreeing-every : InEvery index columns (valuesAt N r x) (firstId N s + z)
-    agreeing-every first f = agreeing-row f
+    pub agreeing-rows : {rows : List ℕ} {n : ℕ} → FirstRows (RowFor N index r x s) n rows → inRows index rows n (firstId N s + z) ≡ true
+    agreeing-rows {rows} {n} f = rows-every index rows n (firstId N s + z) f agreeing-row
+
+    pub agreeing-every : {columns : List ℕ} → Shares (scopeOf N r) (scopeOf N s) index s columns → InEvery index columns (valuesAt N r x) (firstId N s + z)
+    agreeing-every shares first f = agreeing-row first (shared-row widths shares f)
 
 -- ---- The live ids between two
 
 -- The words from `first` on and below i hold the live ids that are from start on and below end, and all others none.
 pub record Filled (first i start end : ℕ) (words alive : List ℕ) : Type 0 where
   pub long : length alive ≡ 64
-  pub done : (j k : ℕ) → first ≤ j → j < i → k < 64 → isSet (getD alive j 0) k ≡ (isSet (getD words j 0) k && (leb start (64 * j + k) && ltb (64 * j + k) end))
+  pub done : (j k : ℕ) → first ≤ j → j < i → k < 64 → isSet (getD alive j 0) k ≡ (isSet (getD words j 0) k && isBetween start end (64 * j + k))
   pub rest : (j : ℕ) → (j < first) ⊎ (i ≤ j) → getD alive j 0 ≡ 0
 
 module _ (first start end : ℕ) (words : List ℕ) where
@@ -233,8 +290,8 @@ module _ (first start end : ℕ) (words : List ℕ) where
       none j (yes h) = getD-replicate 64 j 0 0 h
       none j (no h) = List·getD-eq-default noughts 0 {n = j} (omega arith)
 
-  pub filled-more : (i low high : ℕ) (alive : List ℕ) → first ≤ i → i < 64 → low < 2 ^ 64 → ((j : ℕ) → j < 64 → isSet low j ≡ ltb (i * 64 + j) start) → ((j : ℕ) → j < 64 → isSet high j ≡ ltb (i * 64 + j) end) → Filled first i start end words alive → Filled first (i + 1) start end words (set alive i (bitAnd (getD words i 0) (bitAnd (2 ^ 64 - 1 - low) high)))
-  filled-more i low high alive f h fits lows highs now =
+  pub filled-more : (i mask : ℕ) (alive : List ℕ) → first ≤ i → i < 64 → BitsBetween i start end mask → Filled first i start end words alive → Filled first (i + 1) start end words (set alive i (bitAnd (getD words i 0) mask))
+  filled-more i mask alive f h bits now =
       record {
         long = length-set alive i new ∙ now .long;
         done = λ j k a b l. first-set P alive i new (omega (arith, now .long)) (λ m c a k l. now .done m k a c l) here j b a k l;
@@ -242,24 +299,17 @@ module _ (first start end : ℕ) (words : List ℕ) where
       }
     where
       new : ℕ
-      new = bitAnd (getD words i 0) (bitAnd (2 ^ 64 - 1 - low) high)
+      new = bitAnd (getD words i 0) mask
 
       P : ℕ → ℕ → Type 0
-      P j w = first ≤ j → (k : ℕ) → k < 64 → isSet w k ≡ (isSet (getD words j 0) k && (leb start (64 * j + k) && ltb (64 * j + k) end))
+      P j w = first ≤ j → (k : ℕ) → k < 64 → isSet w k ≡ (isSet (getD words j 0) k && isBetween start end (64 * j + k))
 
       apart : (j : ℕ) → (j < first) ⊎ (i + 1 ≤ j) → j ≡ i → ⊥
       apart j (inl b) e = omega arith
       apart j (inr b) e = omega arith
 
       here : P i new
-      here _ k l =
-          let c : i * 64 + k ≡ 64 * i + k = omega arith in
-          isSet-and (getD words i 0) (bitAnd (2 ^ 64 - 1 - low) high) k
-          ∙ ap (λ (x : Bool). isSet (getD words i 0) k && x)
-          (isSet-and (2 ^ 64 - 1 - low) high k
-          ∙ ap₂ (λ (x y : Bool). x && y)
-          (isSet-not 64 low k fits l ∙ ap not (lows k l ∙ ap (λ (g : ℕ). ltb g start) c) ∙ not-ltb (64 * i + k) start)
-          (highs k l ∙ ap (λ (g : ℕ). ltb g end) c))
+      here _ k l = isSet-and (getD words i 0) mask k ∙ ap (λ (x : Bool). isSet (getD words i 0) k && x) (bits .1 k l)
 
   pub filled-all : (i : ℕ) (alive : List ℕ) → 64 * first ≤ start → end ≤ 64 * i → Filled first i start end words alive → LiveBetween start end words alive
   unfolding isLive
@@ -272,15 +322,15 @@ module _ (first start end : ℕ) (words : List ℕ) where
       k = g % 64
 
       Goal : Type 0
-      Goal = isSet (getD alive j 0) k ≡ (isSet (getD words j 0) k && (leb start g && ltb g end))
+      Goal = isSet (getD alive j 0) k ≡ (isSet (getD words j 0) k && isBetween start end g)
 
-      none : getD alive j 0 ≡ 0 → (leb start g && ltb g end) ≡ false → Goal
+      none : getD alive j 0 ≡ 0 → isBetween start end g ≡ false → Goal
       none z f =
-          ap (λ (w : ℕ). isSet w k) z ∙ isSet-high 0 0 k (omega arith) (omega arith) ∙ sym (ap (λ (x : Bool). isSet (getD words j 0) k && x) f ∙ and-false (isSet (getD words j 0) k))
+          ap (λ (w : ℕ). isSet w k) z ∙ isSet-nought k ∙ sym (ap (λ (x : Bool). isSet (getD words j 0) k && x) f ∙ and-false (isSet (getD words j 0) k))
 
       go : Dec (j < first) → Dec (j < i) → Goal
       go (yes l) _ = none (now .rest j (inl l)) (ap (λ (x : Bool). x && ltb g end) (lt-leb start g (omega arith)))
       go (no _) (no l) = none (now .rest j (inr (omega arith))) (ap (λ (x : Bool). leb start g && x) (le-ltb g end (omega arith)) ∙ and-false (leb start g))
       go (no a) (yes l) =
           let q : 64 * j + k ≡ g = omega arith in
-          now .done j k (omega arith) l (omega arith) ∙ ap (λ (h : ℕ). isSet (getD words j 0) k && (leb start h && ltb h end)) q
+          now .done j k (omega arith) l (omega arith) ∙ ap (λ (h : ℕ). isSet (getD words j 0) k && isBetween start end h) q

@@ -1,5 +1,5 @@
 -- The definitions that the contracts cite.
 pub mod Narrows
-pub mod Columns
 pub mod Sieve
 pub mod TupleRows
+pub mod Gathers

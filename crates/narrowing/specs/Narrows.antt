@@ -3,19 +3,23 @@ use mathlib.Core.Path.{_≡_}
 use mathlib.Core.Bool.{Bool, true, false, _&&_, _||_}
 use mathlib.Core.List.{List}
 use mathlib.Core.Logic.{_⊎_}
-use Prim.Native.Nat.{ℕ, _+_, _*_, _≤_, _<_}
-use lib.Dec.{ltb, leb, eqb}
+use Prim.Native.Nat.{ℕ, _+_, _*_, _^_, _≤_, _<_, min, max}
+use lib.Dec.{ltb, leb}
 use lib.ListN.{length, getD}
 use Rattle.model.specs.Limits.{maxRelations, maxTuples, wordBits}
 use Rattle.model.specs.Network.{Network, size, firstId}
 use Rattle.model.specs.Agreement.{agree}
-use Rattle.model.specs.LiveWords.{isLive}
+use Rattle.model.specs.LiveWords.{isSet, isLive}
 use Rattle.model.specs.Edges.{maxWords}
 use Rattle.layout.specs.Setting.{Lists, networkIn, SoundLists}
-use Rattle.value_index.specs.Plan.{columnStart, rowWords, SoundPlan}
-use Rattle.value_index.specs.Index.{isIndexed, Indexed}
+use Rattle.value_index.specs.Plan.{rowWords}
+use Rattle.value_index.specs.Index.{Indexed}
 
 -- ---- Narrowing
+
+-- an array of 64 words
+abbrev pub Long : List ℕ → Type 0
+Long words = length words ≡ maxWords
 
 -- id g stays when the ids from start on and below end are narrowed to those that pass the test
 abbrev pub stays : (ℕ → Bool) → ℕ → ℕ → ℕ → Bool
@@ -29,15 +33,34 @@ KeptIds passes start end before after = (g : ℕ) → isLive after g ≡ (isLive
 abbrev pub Kept : (ℕ → Bool) → ℕ → ℕ → List ℕ → List ℕ → Type 0
 Kept passes i n before after = KeptIds passes (wordBits * i) (wordBits * n) before after
 
--- a tuple g of relation s may have value v in column c: it is indexed so, or the column has no rows
-unfoldable pub mayHave : List ℕ → ℕ → ℕ → ℕ → ℕ → Bool
-mayHave index s c v g = eqb (columnStart index s c) 0 || isIndexed index (columnStart index s c) v g
+-- of the ids from start on and below end, the first in word i, and the end of those in it
+abbrev pub firstIn : ℕ → ℕ → ℕ
+firstIn i start = max start (wordBits * i)
 
--- No id is raised, the ids outside stay, and so does one that may have accepted values in the columns of relation s.
-pub record Narrows (accepts : List ℕ → Bool) (columns : ℕ) (index : List ℕ) (s start end : ℕ) (before after : List ℕ) : Type 0 where
-  pub inside : (g : ℕ) → isLive after g ≡ true → isLive before g ≡ true
-  pub outside : (g : ℕ) → (g < start) ⊎ (end ≤ g) → isLive after g ≡ isLive before g
-  pub keeps : (g : ℕ) (b : List ℕ) → columns ≡ length b → ((c : ℕ) → c < columns → mayHave index s c (getD b c 0) g ≡ true) → accepts b ≡ true → isLive before g ≡ true → isLive after g ≡ true
+abbrev pub endIn : ℕ → ℕ → ℕ
+endIn i end = min end (wordBits * (i + 1))
+
+-- no id from start on and below end is live
+abbrev pub NoneLive : ℕ → ℕ → List ℕ → Type 0
+NoneLive start end words = (g : ℕ) → start ≤ g → g < end → isLive words g ≡ false
+
+-- The ids from start on and below end are narrowed to those that pass the test, and every other bit is as before. What is left of them, w,
+-- is 0 only where none of them is live any more.
+pub record Keeps (passes : ℕ → Bool) (start end : ℕ) (before after : List ℕ) (w : ℕ) : Type 0 where
+  pub long : Long after
+  pub kept : KeptIds passes start end before after
+  pub none : w ≡ 0 → NoneLive start end after
+
+-- id g is from start on and below end
+abbrev pub isBetween : ℕ → ℕ → ℕ → Bool
+isBetween start end g = leb start g && ltb g end
+
+-- the bits of word i whose ids are so
+abbrev pub BitsBetween : ℕ → ℕ → ℕ → ℕ → Type 0
+BitsBetween i start end w =
+    (w < 2 ^ wordBits) × ((j : ℕ) → j < wordBits → isSet w j ≡ isBetween start end (wordBits * i + j))
+
+-- ---- Narrowing a relation for a tuple
 
 -- No id is raised, the ids outside relation s stay, and so does a tuple of it that agrees with tuple x of relation r.
 pub record Agreeing (N : Network) (r x s : ℕ) (before after : List ℕ) : Type 0 where
@@ -76,19 +99,9 @@ pub record Bare (N : Network) (members : List ℕ) (place k : ℕ) (words : List
 
 -- ---- Contracts
 
--- an array of 64 words
-abbrev pub Long : List ℕ → Type 0
-Long words = length words ≡ maxWords
-
 -- the ids below end have their bits in the rows of the index
 abbrev pub HasBits : List ℕ → ℕ → Type 0
 HasBits index end = (end ≤ wordBits * rowWords index) × (end ≤ maxTuples)
-
--- The ids below end, of relation s, have their bits in the rows of the index.
-pub record Rowed (index : List ℕ) (s end : ℕ) : Type 0 where
-  pub plan : SoundPlan index
-  pub relation : s < maxRelations
-  pub within : HasBits index end
 
 -- Sound lists with their index.
 pub record Searchable (L : Lists) (index : List ℕ) : Type 0 where

@@ -3,14 +3,15 @@ use mathlib.Core.Path.{_≡_}
 use mathlib.Core.Bool.{Bool, true, _&&_}
 use mathlib.Core.List.{List, [], _∷_}
 use Prim.Native.Nat.{ℕ, _+_, _*_, _≤_, _<_}
-use lib.Dec.{ltb, leb}
 use lib.ListN.{length, getD}
 use Rattle.model.specs.Limits.{maxWidth, wordBits}
 use Rattle.model.specs.Lists.{from, all}
+use Rattle.model.specs.Network.{Network, scopeOf, valuesAt}
 use Rattle.model.specs.LiveWords.{isSet, isLive}
 use Rattle.model.specs.Edges.{maxWords}
 use Rattle.value_index.specs.Plan.{indexWords, maxDigits, columnStart, rowWords, digitCount, rowAt, ColumnRows}
 use Rattle.value_index.specs.Index.{rowBit}
+use Rattle.narrowing.specs.Narrows.{isBetween}
 
 -- ---- Shared columns
 
@@ -48,12 +49,18 @@ pub record ValueRow (index : List ℕ) (start v first : ℕ) : Type 0 where
   pub begins : first ≡ rowAt index start v digit
 
 -- Behind the first n rows there are such ones up to row k, and the first n stay.
-pub record Adds (index : List ℕ) (start v n k : ℕ) (before after : List ℕ) : Type 0 where
+pub record Adds (Such : ℕ → Type 0) (n k : ℕ) (before after : List ℕ) : Type 0 where
   pub long : length after ≡ tupleRows
   pub rises : n ≤ k
   pub few : k ≤ n + maxDigits
   pub same : (j : ℕ) → j < n → getD after j 0 ≡ getD before j 0
-  pub at : (j : ℕ) → n ≤ j → j < k → ValueRow index start v (getD after j 0)
+  pub at : (j : ℕ) → n ≤ j → j < k → Such (getD after j 0)
+
+-- The first n rows are such ones.
+pub record FirstRows (Such : ℕ → Type 0) (n : ℕ) (rows : List ℕ) : Type 0 where
+  pub long : length rows ≡ tupleRows
+  pub few : n ≤ tupleRows
+  pub at : (k : ℕ) → k < n → Such (getD rows k 0)
 
 -- Word `first` begins a row of the value in one of a tuple's columns.
 pub record RowOf (index columns tuple : List ℕ) (first : ℕ) : Type 0 where
@@ -61,11 +68,22 @@ pub record RowOf (index columns tuple : List ℕ) (first : ℕ) : Type 0 where
   pub inside : column < length tuple
   pub row : ValueRow index (getD columns column 0) (getD tuple column 0) first
 
--- The first n rows are such ones.
-pub record RowsOf (index columns tuple : List ℕ) (n : ℕ) (rows : List ℕ) : Type 0 where
-  pub long : length rows ≡ tupleRows
-  pub few : n ≤ tupleRows
-  pub at : (k : ℕ) → k < n → RowOf index columns tuple (getD rows k 0)
+-- Word `first` begins a row of the value that tuple a has under variable v, in relation s's column.
+pub record ColumnRow (scopeA a index : List ℕ) (s column v first : ℕ) : Type 0 where
+  pub own : ℕ
+  pub inside : own < length scopeA
+  pub same : getD scopeA own 0 ≡ v
+  pub row : ValueRow index (columnStart index s column) (getD a own 0) first
+
+-- .. under a variable that scope B, which is relation s's, has in a column
+pub record SharedRow (scopeA a scopeB index : List ℕ) (s first : ℕ) : Type 0 where
+  pub column : ℕ
+  pub inside : column < length scopeB
+  pub row : ColumnRow scopeA a index s column (getD scopeB column 0) first
+
+-- .. that tuple x of relation r has under a variable of relation s's
+abbrev pub RowFor : Network → List ℕ → ℕ → ℕ → ℕ → ℕ → Type 0
+RowFor N index r x s first = SharedRow (scopeOf N r) (valuesAt N r x) (scopeOf N s) index s first
 
 -- id g is in every row of the values in a tuple's columns
 abbrev pub InEvery : List ℕ → List ℕ → List ℕ → ℕ → Type 0
@@ -102,4 +120,4 @@ Apart index n rows from to words =
 
 -- those ids that live in the words, and are from start on and below end
 abbrev pub LiveBetween : ℕ → ℕ → List ℕ → List ℕ → Type 0
-LiveBetween start end words alive = (g : ℕ) → isLive alive g ≡ (isLive words g && (leb start g && ltb g end))
+LiveBetween start end words alive = (g : ℕ) → isLive alive g ≡ (isLive words g && isBetween start end g)

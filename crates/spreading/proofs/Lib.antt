@@ -1,5 +1,4 @@
 -- The laws that the proofs of the functions cite.
-pub mod Joined
 pub mod Relations
 pub mod Kept
 pub mod Numbers

@@ -1,9 +1,9 @@
 -- Laws of one relation narrowed through another: what is gathered of it, tuple by tuple, and what is then kept.
--- From the laws of words copied, of narrowing, and of ids.
+-- From what `gather` ensures, and the laws of narrowing and of ids.
 use mathlib.Core.Path.{_≡_, refl, sym, _∙_, ap, subst}
 use mathlib.Core.Bool.{Bool, true, _&&_, and-true}
 use mathlib.Core.List.{List}
-use mathlib.Core.Logic.{_⊎_, inl, inr, ⊎-elim}
+use mathlib.Core.Logic.{⊎-elim}
 use Prim.Native.Nat.{ℕ, _+_, _*_, _≤_, _<_}
 use native.Mathlib.Decide.{ℕ-discrete, decLt}
 use native.Mathlib.Omega.{arith}
@@ -12,22 +12,13 @@ use Rattle.model.specs.Network.{Network, size, firstId}
 use Rattle.model.specs.Agreement.{agree}
 use Rattle.model.specs.LiveWords.{isLive}
 use Rattle.model.proofs.Bools.{and-left, and-intro, or-right}
-use Rattle.live.specs.Words.{CopiedBetween}
-use Rattle.live.proofs.Copies.{between-live}
 use Rattle.value_index.specs.Index.{rowBit}
-use Rattle.narrowing.specs.Narrows.{stays, KeptIds, Agreeing}
+use Rattle.narrowing.specs.Narrows.{stays, KeptIds}
+use Rattle.narrowing.specs.Gathers.{Gathers}
 use Rattle.narrowing.proofs.Words.{stays-before, stays-behind}
-use Rattle.spreading.specs.Spread.{Joins, Gathers, Spread}
+use Rattle.spreading.specs.Spread.{Spread}
 
 module _ (N : Network) (r s : ℕ) where
-  -- what agrees with tuple x is copied, narrowed and joined
-  pub gathered : (x start end : ℕ) (words scratch₀ scratch₁ scratch₂ before after : List ℕ) → start ≡ firstId N s → end ≡ firstId N s + size N s → CopiedBetween start end words scratch₀ scratch₁ → Agreeing N r x s scratch₁ scratch₂ → Joins start end scratch₂ before after → Gathers N r x s words before after
-  gathered x start end words scratch₀ scratch₁ scratch₂ before after es ee copied narrowed joined =
-      record {
-        keeps = λ z h l. joined (firstId N s + z) (omega arith) (omega arith) (inl l);
-        adds = λ z h a l. joined (firstId N s + z) (omega arith) (omega arith) (inr (narrowed .keeps z h a (between-live copied (firstId N s + z) (omega arith) (omega arith) ∙ l)));
-      }
-
   -- what agrees with the live tuples of relation r below id g is gathered
   abbrev pub Gathered : List ℕ → List ℕ → ℕ → Type 0
   Gathered words sum g =

@@ -19,16 +19,6 @@ use Rattle.narrowing.specs.Narrows.{Long, Dead, Bare, Searchable}
 
 -- ---- Two relations
 
--- an id from start on and below end that is live in the words, or was, is live
-abbrev pub Joins : ℕ → ℕ → List ℕ → List ℕ → List ℕ → Type 0
-Joins start end words before after =
-    (g : ℕ) → start ≤ g → g < end → (isLive before g ≡ true) ⊎ (isLive words g ≡ true) → isLive after g ≡ true
-
--- Of relation s, the tuples that were live are, and so are those of the words that agree with tuple x of relation r.
-pub record Gathers (N : Network) (r x s : ℕ) (words before after : List ℕ) : Type 0 where
-  pub keeps : (z : ℕ) → z < size N s → isLive before (firstId N s + z) ≡ true → isLive after (firstId N s + z) ≡ true
-  pub adds : (z : ℕ) → z < size N s → agree N (firstId N r + x) (firstId N s + z) ≡ true → isLive words (firstId N s + z) ≡ true → isLive after (firstId N s + z) ≡ true
-
 -- r and s are numbers of relations
 abbrev pub Two : ℕ → ℕ → Type 0
 Two r s = (r < maxRelations) × (s < maxRelations)

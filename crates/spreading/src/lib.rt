@@ -1,62 +1,21 @@
 // Before a search: members that share no variable with the seeking tuple's relation are narrowed through the candidates of a member
 // between, where those are few. The search would try them one by one.
-ghost use Prim.Native.Nat.{_≤_, _<_};
-ghost use Rattle.model.specs.Limits.{maxRelations, maxTuples};
 ghost use Rattle.layout.specs.Loan.{entry, exit};
 ghost use Rattle.layout.specs.Setting.{lists, networkIn};
-ghost use Rattle.narrowing.specs.Narrows.{Long, Searchable, Seeks};
-ghost use Rattle.spreading.specs.Spread.{Joins, Gathers, Two, Spreads, Spreadable, SpreadsMembers};
+ghost use Rattle.narrowing.specs.Narrows.{Long, Searchable};
+ghost use Rattle.spreading.specs.Spread.{Two, Spreads, Spreadable, SpreadsMembers};
 use layout::Starts;
 use layout::tuple_start;
 use live::WORDS;
 use live::Words;
-use live::copy_between;
 use live::count;
 use live::next;
-use live::words_for;
 use model::Value;
+use narrowing::gather::gather;
 use narrowing::keep;
-use narrowing::narrow;
 use value_index::Index;
 
 pub mod steps; // which members are narrowed through which
-
-// Of the ids from start on and below end, those of the one array are live in the other too.
-fn join_between(from: &Words, to: &mut Words, start: u16, end: u16)
-    requires { ⌜ Long (now from) × (Long (now to) × (end ≤ maxTuples)) ⌝ }
-    ensures { λ _. ⌜ Long (exit to) × Joins start end (entry from) (entry to) (exit to) ⌝ }
-{
-    let stop = words_for(end);
-    let mut i = start as usize / 64;
-    while i < stop {
-        to[i] = to[i] | from[i];
-        i += 1;
-    }
-}
-
-// The live tuples of relation s that may agree with tuple x of relation r are live in `sum` too. What is in `scratch` does not matter.
-fn gather(
-    variables: &[u16],
-    values: &[Value],
-    starts: &Starts,
-    index: &Index,
-    words: &Words,
-    sum: &mut Words,
-    scratch: &mut Words,
-    r: u16,
-    x: u16,
-    s: u16,
-)
-    requires { ⌜ Long (now words) × (Long (now sum) × Long (now scratch)) ⌝ }
-    requires { ⌜ Seeks (lists now variables values starts) (now index) r x × (s < maxRelations) ⌝ }
-    ensures { λ _. ⌜ (Long (exit sum) × Long (exit scratch)) × Gathers (networkIn (lists entry variables values starts)) r x s (entry words) (entry sum) (exit sum) ⌝ }
-{
-    let start = tuple_start(starts, s);
-    let end = tuple_start(starts, s + 1);
-    copy_between(words, scratch, start, end);
-    narrow(variables, values, starts, index, scratch, r, x, s);
-    join_between(scratch, sum, start, end);
-}
 
 // Relation s's ids narrowed to those that may agree with a live tuple of relation r, if those are not more than the limit. False where none
 // of s's is live any more.
@@ -79,7 +38,6 @@ pub fn spread(
         return true;
     }
     let mut sum = [0u64; WORDS];
-    let mut scratch = [0u64; WORDS];
     let mut g = next(words, first, end);
     while g < end {
         gather(
@@ -89,7 +47,6 @@ pub fn spread(
             index,
             words,
             &mut sum,
-            &mut scratch,
             r,
             g - first,
             s,

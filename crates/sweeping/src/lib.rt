@@ -145,7 +145,7 @@ fn clear_tuples(
     let base = value_start(starts, r);
     let width = variable_start(starts, r + 1) - variable_start(starts, r);
     let sample = sample_of(end - first, few);
-    let mut rows = [0; TUPLE_ROWS];
+    let mut rows = [0u16; TUPLE_ROWS];
     let mut tested = 0;
     let mut fell = 0;
     let mut g = next(words, first, end);

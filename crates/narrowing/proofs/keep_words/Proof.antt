@@ -1,10 +1,13 @@
 -- `keep_words` narrows word by word. The loop's invariant: the words passed are narrowed.
 -- From the laws of one word narrowed, and of words narrowed one after the other.
-use mathlib.Core.Path.{_≡_, subst, _∙_}
-use Prim.Native.Nat.{ℕ, _+_, _-_, _≤_, _<_}
+use mathlib.Core.Path.{_≡_, ap, subst, _∙_}
+use mathlib.Core.Bool.{Bool, _&&_}
+use Prim.Native.Nat.{ℕ, _+_, _-_, _*_, _≤_, _<_}
 use native.Mathlib.Omega.{arith}
-use lib.ListN.{length, length-set}
+use lib.ListN.{length, getD, length-set}
 use borrow.Author.Needs.{needs}
+use Rattle.model.specs.LiveWords.{isSet}
+use Rattle.live.proofs.Bits.{isSet-and}
 use Rattle.value_index.specs.Index.{rowBit}
 use Rattle.narrowing.specs.Narrows.{Kept}
 use Rattle.narrowing.proofs.Words.{kept-none, kept-word, kept-on, row-at}
@@ -22,7 +25,7 @@ loop-holds : tie.Need-loop-holds Inv-loop μ-loop
 loop-holds c =
     let s = c in
     let a = s .args in
-    (omega arith, (s .pre .1 .1 .0, (s .pre .0, kept-none (rowBit (a .rows .now) (a .first)) (a .from) (a .words .now))))
+    (omega arith, (s .pre .1 .1 .0, (s .pre .0, kept-none (rowBit (a .rows .now) (a .first)) (64 * a .from) (64 * a .from) (a .words .now) (omega arith))))
 
 loop-again : tie.Need-loop-again Inv-loop μ-loop
 loop-again c =
@@ -32,14 +35,16 @@ loop-again c =
     let a = s .args in
     let inv = l .inv in
     let inside : l .i < length (l .words) = omega (arith, turn .loop-test .taken, s .pre .1 .1 .1, inv .1 .1 .0) in
-    let on : l .i ≤ l .i + 1 = omega arith in (
+    let on : 64 * a .from ≤ 64 * l .i = omega (arith, inv .0) in
+    let further : 64 * l .i ≤ 64 * (l .i + 1) = omega arith in (
       omega (arith, inv .0),
       (
         omega (arith, turn .loop-test .taken),
         (
           length-set (l .words) (l .i) _ ∙ inv .1 .1 .0,
-          kept-on (rowBit (a .rows .now) (a .first)) (a .from) (l .i) (l .i + 1) (a .words .now) (l .words) _ (inv .0) on (inv .1 .1 .1)
-              (kept-word (rowBit (a .rows .now) (a .first)) (l .i) _ (l .words) inside (row-at (a .rows .now) (a .first) (l .i))),
+          kept-on (rowBit (a .rows .now) (a .first)) (64 * a .from) (64 * l .i) (64 * (l .i + 1)) (a .words .now) (l .words) _ on further (inv .1 .1 .1)
+              (kept-word (rowBit (a .rows .now) (a .first)) (l .i) _ (l .words) inside
+              (λ j h. isSet-and (getD (l .words) (l .i) 0) _ j ∙ ap (λ (x : Bool). isSet (getD (l .words) (l .i) 0) j && x) (row-at (a .rows .now) (a .first) (l .i) j h))),
         ),
       ),
     )

@@ -20,13 +20,13 @@ use Rattle.spreading.proofs.spread.Statement.{statement}
 use Rattle.spreading.proofs.spread.Tie as tie
 
 abbrev Inv-loop : tie.InvT-loop
-Inv-loop variables values starts index words r s limit first end sum₀ scratch₀ g₀ sum scratch g =
+Inv-loop variables values starts index words r s limit first end sum₀ g₀ sum g =
     let N = networkIn (record { variables = variables; values = values; starts = starts }) in
-    ((length sum ≡ 64) × (length scratch ≡ 64))
+    (length sum ≡ 64)
     × (((firstId N r ≤ g) × (g ≤ end)) × ((g < end → isLive words g ≡ true) × Gathered N r s words sum g))
 
 abbrev μ-loop : tie.MeasureT-loop
-μ-loop variables values starts index words r s limit first end sum₀ scratch₀ g₀ sum scratch g = end - g
+μ-loop variables values starts index words r s limit first end sum₀ g₀ sum g = end - g
 
 module _ (c : tie.After-tuple-start2 Inv-loop μ-loop) where
   abbrev start : tie.Start Inv-loop μ-loop
@@ -63,7 +63,7 @@ loop-holds c =
     let read = ranged e in
     let f = next-is read (read .before .tuple-start .result) (omega (arith, first-is read, end-is read)) in
     let n = c .next .ensures in (
-      (refl, refl),
+      refl,
       (
         (omega (arith, first-is read, n, f .from-i), omega (arith, n, f .to-end)),
         (
@@ -75,7 +75,7 @@ loop-holds c =
 
 gather-requires : tie.Need-gather-requires Inv-loop μ-loop
 gather-requires c κs =
-    let turn = c .before .before .before in
+    let turn = c .before .before in
     let l = turn .before .loop in
     let read = reading (turn .before) in
     let s = start read in (
@@ -86,7 +86,7 @@ gather-requires c κs =
 loop-again : tie.Need-loop-again Inv-loop μ-loop
 loop-again c =
     let done = c .before .before .before in
-    let turn = done .before .before .before .before in
+    let turn = done .before .before .before in
     let l = turn .before .loop in
     let read = reading (turn .before) in
     let s = start read in
@@ -131,7 +131,7 @@ keep-requires : tie.Need-keep-requires Inv-loop μ-loop
 keep-requires c κs =
     let t = c .before .before in
     let l = walked t .before .loop in
-    (start (at-first t) .pre .0, (to-few t, omega (arith, to-few t, l .inv .0 .0)))
+    (start (at-first t) .pre .0, (to-few t, omega (arith, to-few t, l .inv .0)))
 
 returns-2 : tie.Need-returns-2 Inv-loop μ-loop
 returns-2 c =
@@ -146,7 +146,7 @@ returns-2 c =
             (omega (arith, end-is (at-first t), walked t .loop-test .left)) (l .inv .1 .1 .1) (k .keep .ensures .1),
         λ e.
             let past = ltb-false (c .next3 .result) (t .tuple-start4 .result) e in
-            dead-past (network (at-first t)) (s .args .s) (t .before .tuple-start3 .result) (t .tuple-start4 .result) after (from-is t) (to-is t) (omega (arith, past, c .next3 .ensures)),
+            dead-past (network (at-first t)) (s .args .s) (t .before .tuple-start3 .result) (t .tuple-start4 .result) (from-is t) (to-is t) after (omega (arith, past, c .next3 .ensures)),
       ),
     )
 
@@ -161,12 +161,12 @@ spread-spec =
     (λ c. let s = start (c .before .before .before .before) in (s .pre .0, (spread-none _ _ _ _, λ e. absurd (not-both refl e))))
     (λ c κs. let read = ranged (c .before .before) in walks read (read .before .tuple-start .result) (omega (arith, first-is read, end-is read)))
     loop-holds
-    (λ c. let l = c .before .before .before .before in omega (arith, first-is (reading l), l .loop .inv .1 .0 .0))
+    (λ c. let l = c .before .before .before in omega (arith, first-is (reading l), l .loop .inv .1 .0 .0))
     gather-requires
-    (λ c. let turn = c .before .before .before .before .before .before in omega (arith, turn .loop-test .taken, few (reading (turn .before))))
-    (λ c κs. let turn = c .before .before .before .before .before .before in walks (reading (turn .before)) (turn .before .loop .g + 1) (omega (arith, turn .loop-test .taken)))
+    (λ c. let turn = c .before .before .before .before .before in omega (arith, turn .loop-test .taken, few (reading (turn .before))))
+    (λ c κs. let turn = c .before .before .before .before .before in walks (reading (turn .before)) (turn .before .loop .g + 1) (omega (arith, turn .loop-test .taken)))
     (λ c.
-    let turn = c .before .before .before .before .before .before .before in
+    let turn = c .before .before .before .before .before .before in
     let read = reading (turn .before) in
     let f = next-is read (turn .before .loop .g + 1) (omega (arith, turn .loop-test .taken)) in
     omega (arith, c .next2 .ensures, f .from-i, f .to-end, turn .loop-test .taken))

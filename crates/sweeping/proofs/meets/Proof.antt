@@ -1,6 +1,6 @@
 -- `meets` finds the rows of the tuple's values, and asks whether an id is in all of them.
 -- From the contracts of the functions called, and the laws of rows.
-use Rattle.narrowing.proofs.TupleRows.{rows-within, rows-every}
+use Rattle.narrowing.proofs.TupleRows.{row-of-within, rows-within, rows-every}
 use Rattle.sweeping.proofs.meets.Statement.{statement}
 use Rattle.sweeping.proofs.meets.Tie as tie
 
@@ -21,5 +21,5 @@ meets-spec =
     tie.close
     (tie.spec
     (λ c κs. let p = c .before .before .pre in (p .0, (p .1 .plan, (p .1 .few, p .1 .has))))
-    (λ c κs. let p = start (c .before) .pre in (rows-within (p .1 .plan) (p .1 .has) (c .before .rows-of .ensures), p .1 .spans))
+    (λ c κs. let p = start (c .before) .pre in (rows-within (row-of-within (p .1 .plan) (p .1 .has)) (c .before .rows-of .ensures), p .1 .spans))
     returns)

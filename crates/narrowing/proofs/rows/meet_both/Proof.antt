@@ -1,15 +1,14 @@
 -- `meet_both` goes word by word. The loop's invariant: if no bit is found so far, none of the words passed has such an id.
 -- From the laws of a word's ids in rows, and of one word more.
 use mathlib.Core.Path.{_≡_, subst}
-use mathlib.Core.List.{List}
-use Prim.Native.Nat.{ℕ, _+_, _-_, _≤_, _<_}
+use Prim.Native.Nat.{_+_, _-_, _<_}
 use native.Mathlib.Omega.{arith}
 use lib.Dec.{eqb}
 use lib.ListN.{getD}
-use lib.Bits.{bitAnd}
 use borrow.Author.Tests.{eqb-true, not-false}
 use Rattle.narrowing.specs.TupleRows.{both, BitsInRows, Apart}
-use Rattle.narrowing.proofs.TupleRows.{bits-none, bits-more, apart-more, or-none}
+use Rattle.narrowing.proofs.TupleRows.{bits-both, apart-more}
+use Rattle.narrowing.proofs.Words.{or-none}
 use Rattle.narrowing.proofs.rows.meet_both.Statement.{statement}
 use Rattle.narrowing.proofs.rows.meet_both.Tie as tie
 
@@ -18,10 +17,6 @@ Inv-loop index a b words from to any₀ i₀ any i = any ≡ 0 → Apart index 2
 
 abbrev μ-loop : tie.MeasureT-loop
 μ-loop index a b words from to any₀ i₀ any i = to - i
-
--- the word's bits that are in both rows
-bits-both : (index : List ℕ) (a b i w : ℕ) → BitsInRows index 2 (both a b) i w (bitAnd (bitAnd w (getD index (a + i) 0)) (getD index (b + i) 0))
-bits-both index a b i w = bits-more index (both a b) i 1 w _ (bits-more index (both a b) i 0 w _ (bits-none index (both a b) i w))
 
 module _ (c : tie.In-loop Inv-loop μ-loop) where
   abbrev start : tie.Start Inv-loop μ-loop

@@ -1,17 +1,16 @@
 -- `rows_of` goes column by column. The loop's invariant: the rows so far are of the tuple's values, four at most for each column passed.
 -- From what `add_value` ensures, and the law of rows behind rows.
-use mathlib.Core.Path.{_≡_}
-use Prim.Native.Nat.{ℕ, _-_, _*_, _≤_, _<_}
+use Prim.Native.Nat.{_-_, _*_, _≤_, _<_}
 use native.Mathlib.Omega.{arith}
 use lib.ListN.{length}
 use borrow.Author.Needs.{needs}
-use Rattle.narrowing.specs.TupleRows.{RowsOf}
+use Rattle.narrowing.specs.TupleRows.{FirstRows, RowOf}
 use Rattle.narrowing.proofs.TupleRows.{rows-then}
 use Rattle.narrowing.proofs.rows.rows_of.Statement.{statement}
 use Rattle.narrowing.proofs.rows.rows_of.Tie as tie
 
 abbrev Inv-loop : tie.InvT-loop
-Inv-loop index columns tuple rows₀ n₀ c₀ rows n c = (n ≤ 4 * c) × RowsOf index columns tuple n rows
+Inv-loop index columns tuple rows₀ n₀ c₀ rows n c = (n ≤ 4 * c) × FirstRows (RowOf index columns tuple) n rows
 
 abbrev μ-loop : tie.MeasureT-loop
 μ-loop index columns tuple rows₀ n₀ c₀ rows n c = length tuple - c
@@ -39,7 +38,7 @@ loop-again c =
     let l = turn .before .loop in
     let added = c .add-value .ensures in
     let h : c .add-value .result ≤ 32 = omega (arith, few turn, l .inv .0, added .few) in
-    (omega (arith, l .inv .0, added .few), rows-then (l .c) (turn .loop-test .taken) h (l .inv .1) added)
+    (omega (arith, l .inv .0, added .few), rows-then (λ first row. record { column = l .c; inside = turn .loop-test .taken; row = row }) added h (l .inv .1))
 
 pub rows-of-spec : {M : Type 1} → statement M
 rows-of-spec =

@@ -1,0 +1,149 @@
+// Live ids gathered in other words: of a relation's, those that may agree with a tuple.
+ghost use Prim.Native.Nat.{_+_, _*_, _<_};
+ghost use Rattle.model.specs.Limits.{maxRelations, wordBits};
+ghost use Rattle.layout.specs.Loan.{entry, exit};
+ghost use Rattle.layout.specs.Setting.{lists, networkIn};
+ghost use Rattle.narrowing.specs.Narrows.{Long, HasBits, Seeks, firstIn, endIn};
+ghost use Rattle.narrowing.specs.TupleRows.{Within, Spans, both, inRows};
+ghost use Rattle.narrowing.specs.Gathers.{Joins, Gathers};
+use super::between;
+use super::rows::Rows;
+use super::rows::TUPLE_ROWS;
+use super::rows::in_rows;
+use super::rows::rows_for;
+use layout::Starts;
+use layout::tuple_start;
+use layout::wide;
+use live::Words;
+use model::Value;
+use value_index::Index;
+
+// Of the ids from start on and below end, those of word i of the one array that are in all of the first n rows are live in the other too.
+fn gather_edge(
+    index: &Index,
+    rows: &Rows,
+    n: usize,
+    from: &Words,
+    to: &mut Words,
+    i: usize,
+    start: u16,
+    end: u16,
+)
+    requires { ⌜ (Long (now from) × Long (now to)) × (Within (now index) n (now rows) × Spans (now index) (i + 1)) ⌝ }
+    ensures { λ _. ⌜ Joins (inRows (entry index) (entry rows) n) (firstIn i start) (endIn i end) (entry from) (entry to) (exit to) ⌝ }
+{
+    to[i] = to[i] | in_rows(index, rows, n, from[i] & between(i, start, end), i);
+}
+
+// All ids of the words from `first` on and below `last` that are in both rows.
+fn gather_both(
+    index: &Index,
+    a: usize,
+    b: usize,
+    from: &Words,
+    to: &mut Words,
+    first: usize,
+    last: usize,
+)
+    requires { ⌜ (Long (now from) × Long (now to)) × (Within (now index) 2 (both a b) × Spans (now index) last) ⌝ }
+    ensures { λ _. ⌜ Joins (inRows (entry index) (both a b) 2) (wordBits * first) (wordBits * last) (entry from) (entry to) (exit to) ⌝ }
+{
+    let mut i = first;
+    while i < last {
+        to[i] = to[i] | (from[i] & index[a + i] & index[b + i]);
+        i += 1;
+    }
+}
+
+// .. that are in all of the first n rows.
+fn gather_all(
+    index: &Index,
+    rows: &Rows,
+    n: usize,
+    from: &Words,
+    to: &mut Words,
+    first: usize,
+    last: usize,
+)
+    requires { ⌜ (Long (now from) × Long (now to)) × (Within (now index) n (now rows) × Spans (now index) last) ⌝ }
+    ensures { λ _. ⌜ Joins (inRows (entry index) (entry rows) n) (wordBits * first) (wordBits * last) (entry from) (entry to) (exit to) ⌝ }
+{
+    let mut i = first;
+    while i < last {
+        to[i] = to[i] | in_rows(index, rows, n, from[i], i);
+        i += 1;
+    }
+}
+
+// The same, by the one or the other.
+fn gather_middle(
+    index: &Index,
+    rows: &Rows,
+    n: usize,
+    from: &Words,
+    to: &mut Words,
+    first: usize,
+    last: usize,
+)
+    requires { ⌜ (Long (now from) × Long (now to)) × (Within (now index) n (now rows) × Spans (now index) last) ⌝ }
+    ensures { λ _. ⌜ Joins (inRows (entry index) (entry rows) n) (wordBits * first) (wordBits * last) (entry from) (entry to) (exit to) ⌝ }
+{
+    let a = wide(rows[0]);
+    if n == 1 {
+        gather_both(index, a, a, from, to, first, last);
+        return;
+    }
+    if n == 2 {
+        gather_both(index, a, wide(rows[1]), from, to, first, last);
+        return;
+    }
+    gather_all(index, rows, n, from, to, first, last);
+}
+
+// All ids from start on and below end that are in all of the first n rows.
+fn gather_rows(
+    index: &Index,
+    rows: &Rows,
+    n: usize,
+    from: &Words,
+    to: &mut Words,
+    start: u16,
+    end: u16,
+)
+    requires { ⌜ (Long (now from) × Long (now to)) × (Within (now index) n (now rows) × HasBits (now index) end) ⌝ }
+    ensures { λ _. ⌜ Joins (inRows (entry index) (entry rows) n) start end (entry from) (entry to) (exit to) ⌝ }
+{
+    if end <= start {
+        return;
+    }
+    let i = wide(start) / 64;
+    let last = wide(end - 1) / 64;
+    gather_edge(index, rows, n, from, to, i, start, end);
+    if i < last {
+        gather_middle(index, rows, n, from, to, i + 1, last);
+        gather_edge(index, rows, n, from, to, last, start, end);
+    }
+}
+
+// The live tuples of relation s that may agree with tuple x of relation r are live in `to` too.
+pub fn gather(
+    variables: &[u16],
+    values: &[Value],
+    starts: &Starts,
+    index: &Index,
+    from: &Words,
+    to: &mut Words,
+    r: u16,
+    x: u16,
+    s: u16,
+)
+    requires { ⌜ Long (now from) × Long (now to) ⌝ }
+    requires { ⌜ Seeks (lists now variables values starts) (now index) r x × (s < maxRelations) ⌝ }
+    ensures { λ _. ⌜ Long (exit to) × Gathers (networkIn (lists entry variables values starts)) r x s (entry from) (entry to) (exit to) ⌝ }
+{
+    let start = tuple_start(starts, s);
+    let end = tuple_start(starts, s + 1);
+    let mut rows = [0u16; TUPLE_ROWS];
+    let n = rows_for(variables, values, starts, index, r, x, s, &mut rows);
+    gather_rows(index, &rows, n, from, to, start, end);
+}
