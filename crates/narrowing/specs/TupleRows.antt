@@ -118,6 +118,13 @@ abbrev pub Apart : List ℕ → ℕ → List ℕ → ℕ → ℕ → List ℕ �
 Apart index n rows from to words =
     (g : ℕ) → wordBits * from ≤ g → g < wordBits * to → isLive words g ≡ true → inRows index rows n g ≡ true → ⊥
 
+-- Id g is live, or the end; no id before it, from start on, is live and in all of the first n rows.
+pub record NextInRows (index : List ℕ) (n : ℕ) (rows words : List ℕ) (start end g : ℕ) : Type 0 where
+  pub from-on : start ≤ g
+  pub to-end : g ≤ end
+  pub lives : g < end → isLive words g ≡ true
+  pub none-before : (h : ℕ) → start ≤ h → h < g → isLive words h ≡ true → inRows index rows n h ≡ true → ⊥
+
 -- those ids that live in the words, and are from start on and below end
 abbrev pub LiveBetween : ℕ → ℕ → List ℕ → List ℕ → Type 0
 LiveBetween start end words alive = (g : ℕ) → isLive alive g ≡ (isLive words g && isBetween start end g)

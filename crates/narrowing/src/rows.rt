@@ -7,8 +7,8 @@ ghost use Rattle.model.specs.Limits.{maxRelations, maxWidth, maxTuples};
 ghost use Rattle.layout.specs.Loan.{entry, exit};
 ghost use Rattle.layout.specs.Setting.{lists, networkIn};
 ghost use Rattle.value_index.specs.Plan.{maxDigits, rowWords, ColumnRows, SoundPlan};
-ghost use Rattle.narrowing.specs.Narrows.{Long, Seeks};
-ghost use Rattle.narrowing.specs.TupleRows.{tupleRows, HasRows, ValueRow, Adds, FirstRows, RowOf, ColumnRow, SharedRow, RowFor, Within, Spans, both, BitsInRows, Apart, LiveBetween};
+ghost use Rattle.narrowing.specs.Narrows.{Long, HasBits, Seeks};
+ghost use Rattle.narrowing.specs.TupleRows.{tupleRows, HasRows, ValueRow, Adds, FirstRows, RowOf, ColumnRow, SharedRow, RowFor, Within, Spans, both, BitsInRows, Apart, NextInRows, LiveBetween};
 use super::between;
 use super::columns::Columns;
 use layout::Starts;
@@ -226,6 +226,31 @@ pub fn meet(index: &Index, rows: &Rows, n: usize, words: &Words, from: usize, to
         return meet_both(index, a, wide(rows[1]), words, from, to);
     }
     meet_all(index, rows, n, words, from, to)
+}
+
+// The first id from start on and below end that is live and in all of the first n rows; end if there is none.
+pub fn next_in_rows(
+    index: &Index,
+    rows: &Rows,
+    n: usize,
+    words: &Words,
+    start: u16,
+    end: u16,
+) -> u16
+    requires { ⌜ (Long (now words) × Within (now index) n (now rows)) × (HasBits (now index) end × (start ≤ end)) ⌝ }
+    ensures { λ g. ⌜ NextInRows (entry index) n (entry rows) (entry words) start end g ⌝ }
+{
+    let mut at = start;
+    while at < end {
+        let i = wide(at / 64);
+        let w = in_rows(index, rows, n, words[i], i) >> (at % 64);
+        if w != 0 {
+            let g = at + u64::trailing_zeros(w) as u16;
+            return if g < end { g } else { end };
+        }
+        at = (at / 64 + 1) * 64;
+    }
+    end
 }
 
 // The live ids from start on and below end, and no others.

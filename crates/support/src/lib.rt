@@ -26,6 +26,9 @@ use model::MAX_WIDTH;
 use model::NO_SUPPORT;
 use model::Value;
 use narrowing::narrow_members;
+use narrowing::rows::TUPLE_ROWS;
+use narrowing::rows::next_in_rows;
+use narrowing::rows::rows_for;
 use narrowing::sieve::Sieve;
 use narrowing::sieve::passes;
 use narrowing::sieve::sieve_for;
@@ -192,7 +195,18 @@ fn first_fitting(
     let r = members[k];
     let first = tuple_start(starts, r);
     let end = tuple_start(starts, r + 1);
-    let mut g = next(words, from, end);
+    let mut rows = [0u16; TUPLE_ROWS];
+    let n = rows_for(
+        variables,
+        values,
+        starts,
+        index,
+        members[by],
+        x,
+        r,
+        &mut rows,
+    );
+    let mut g = next_in_rows(index, &rows, n, words, from, end);
     while g < end {
         if fits(
             variables,
@@ -207,7 +221,7 @@ fn first_fitting(
         ) {
             return g;
         }
-        g = next(words, g + 1, end);
+        g = next_in_rows(index, &rows, n, words, g + 1, end);
     }
     g
 }
