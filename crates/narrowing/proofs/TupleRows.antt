@@ -4,7 +4,7 @@ use mathlib.Core.Path.{_≡_, refl, sym, _∙_, ap, ap₂, subst}
 use mathlib.Core.Bool.{Bool, true, false, _&&_, and-true, and-false}
 use mathlib.Core.List.{List}
 use mathlib.Core.Logic.{_⊎_, inl, inr, ⊎-elim}
-use Prim.Native.Nat.{ℕ, zero, suc, _+_, _-_, _*_, _/_, _%_, _≤_, _<_}
+use Prim.Native.Nat.{ℕ, zero, suc, _+_, _-_, _*_, _/_, _%_, _≤_, _<_, min}
 use native.Mathlib.Nat.{zero-add}
 use native.Mathlib.Omega.{arith}
 use native.Mathlib.Decide.{ℕ-discrete, decLt}
@@ -18,7 +18,7 @@ use Rattle.model.specs.Lists.{from, all}
 use Rattle.model.specs.Network.{Network, width, size, firstId, valuesIn, before, scopeOf, valuesAt}
 use Rattle.model.specs.Agreement.{fit, cells, agreeing, agree}
 use Rattle.model.specs.LiveWords.{isSet, isLive}
-use Rattle.model.proofs.Bools.{and-intro, not-both}
+use Rattle.model.proofs.Bools.{and-intro, not-both, iff-eq}
 use Rattle.model.proofs.Lists.{all-at, all-intro, from-mem, mem-from, from-append, all-of-append}
 use Rattle.model.proofs.LiveWords.{isLive-at}
 use Rattle.model.proofs.Agreement.{cellAt, agreeing-clash, clash-unfit, fit-equal, agree-at}
@@ -31,7 +31,7 @@ use Rattle.value_index.specs.Plan.{indexWords, columnStart, rowWords, digitCoun
 use Rattle.value_index.specs.Index.{rowBit, isIndexed, Indexed}
 use Rattle.value_index.proofs.ValueRows.{hash-below, row-within, row-is, rows-begin}
 use Rattle.narrowing.specs.Narrows.{isBetween, BitsBetween}
-use Rattle.narrowing.specs.TupleRows.{Shares, HasRows, ValueRow, Adds, FirstRows, RowOf, SharedRow, RowFor, InEvery, Within, both, inRows, BitsInRows, Apart, LiveBetween}
+use Rattle.narrowing.specs.TupleRows.{Shares, HasRows, ValueRow, Adds, FirstRows, RowOf, SharedRow, RowFor, InEvery, rowOrLast, Within, both, four, inRows, BitsInRows, Apart, LiveBetween}
 use Rattle.narrowing.proofs.Words.{isSet-nought, row-at}
 
 -- what holds of the first i numbers of a list holds of one more, which is stored
@@ -201,6 +201,35 @@ module _ (index rows : List ℕ) where
 -- of one word, in two rows
 pub bits-both : (index : List ℕ) (a b i w : ℕ) → BitsInRows index 2 (both a b) i w (bitAnd (bitAnd w (getD index (a + i) 0)) (getD index (b + i) 0))
 bits-both index a b i w = bits-more index (both a b) i 1 w _ (bits-more index (both a b) i 0 w _ (bits-none index (both a b) i w))
+
+-- .. and in four
+pub bits-four : (index : List ℕ) (a b c d i w : ℕ) → BitsInRows index 4 (four a b c d) i w (bitAnd (bitAnd (bitAnd (bitAnd w (getD index (a + i) 0)) (getD index (b + i) 0)) (getD index (c + i) 0)) (getD index (d + i) 0))
+bits-four index a b c d i w =
+    let more = bits-more index (four a b c d) i in
+    more 3 w _ (more 2 w _ (more 1 w _ (more 0 w _ (bits-none index (four a b c d) i w))))
+
+-- one to four rows as four, where the last stands for those that are missing
+module _ (index rows : List ℕ) (n a b c d : ℕ) (some : 0 < n) (few : n ≤ 4) (ea : a ≡ rowOrLast rows n 0) (eb : b ≡ rowOrLast rows n 1) (ec : c ≡ rowOrLast rows n 2) (ed : d ≡ rowOrLast rows n 3) where
+  four-at : (k : ℕ) → k < 4 → getD (four a b c d) k 0 ≡ rowOrLast rows n k
+  four-at zero h = ea
+  four-at (suc zero) h = eb
+  four-at (suc (suc zero)) h = ec
+  four-at (suc (suc (suc zero))) h = ed
+  four-at (suc (suc (suc (suc k)))) h = absurd (omega arith)
+
+  pub four-within : Within index n rows → Within index 4 (four a b c d)
+  four-within w = record { few = omega arith; inside = λ k h. omega (arith, four-at k h, w .inside (min k (n - 1)) (omega arith)) }
+
+  pub four-rows : (g : ℕ) → inRows index (four a b c d) 4 g ≡ inRows index rows n g
+  four-rows g =
+      iff-eq (inRows index (four a b c d) 4 g) (inRows index rows n g)
+      (λ e. rows-all index rows n g (λ k h.
+      let own : k ≡ min k (n - 1) = omega arith in
+      ap bit (ap (λ (j : ℕ). getD rows j 0) own ∙ sym (four-at k (omega arith))) ∙ rows-at index (four a b c d) 4 g k (omega arith) e))
+      (λ e. rows-all index (four a b c d) 4 g (λ k h. ap bit (four-at k h) ∙ rows-at index rows n g (min k (n - 1)) (omega arith) e))
+    where
+      bit : ℕ → Bool
+      bit first = rowBit index first g
 
 -- ---- What agrees is in all rows
 

@@ -2,7 +2,7 @@
 use mathlib.Core.Path.{_≡_}
 use mathlib.Core.Bool.{Bool, true, _&&_}
 use mathlib.Core.List.{List, [], _∷_}
-use Prim.Native.Nat.{ℕ, _+_, _*_, _≤_, _<_}
+use Prim.Native.Nat.{ℕ, _+_, _-_, _*_, _≤_, _<_, min}
 use lib.ListN.{length, getD}
 use Rattle.model.specs.Limits.{maxWidth, wordBits}
 use Rattle.model.specs.Lists.{from, all}
@@ -89,6 +89,10 @@ RowFor N index r x s first = SharedRow (scopeOf N r) (valuesAt N r x) (scopeOf N
 abbrev pub InEvery : List ℕ → List ℕ → List ℕ → ℕ → Type 0
 InEvery index columns tuple g = (first : ℕ) → RowOf index columns tuple first → rowBit index first g ≡ true
 
+-- where row k begins, or the last of the first n rows where they are fewer
+abbrev pub rowOrLast : List ℕ → ℕ → ℕ → ℕ
+rowOrLast rows n k = getD rows (min k (n - 1)) 0
+
 -- ---- Ids in rows
 
 -- The first n rows lie within the index.
@@ -103,6 +107,10 @@ Spans index to = (to ≤ maxWords) × (to ≤ rowWords index)
 -- two rows
 abbrev pub both : ℕ → ℕ → List ℕ
 both a b = a ∷ b ∷ []
+
+-- .. and four
+abbrev pub four : ℕ → ℕ → ℕ → ℕ → List ℕ
+four a b c d = a ∷ b ∷ c ∷ d ∷ []
 
 -- id g is in all of the first n rows
 unfoldable pub inRows : List ℕ → List ℕ → ℕ → ℕ → Bool

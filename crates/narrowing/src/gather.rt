@@ -4,12 +4,13 @@ ghost use Rattle.model.specs.Limits.{maxRelations, wordBits};
 ghost use Rattle.layout.specs.Loan.{entry, exit};
 ghost use Rattle.layout.specs.Setting.{lists, networkIn};
 ghost use Rattle.narrowing.specs.Narrows.{Long, HasBits, Seeks, firstIn, endIn};
-ghost use Rattle.narrowing.specs.TupleRows.{Within, Spans, both, inRows};
+ghost use Rattle.narrowing.specs.TupleRows.{Within, Spans, four, inRows};
 ghost use Rattle.narrowing.specs.Gathers.{Joins, Gathers};
 use super::between;
 use super::rows::Rows;
 use super::rows::TUPLE_ROWS;
 use super::rows::in_rows;
+use super::rows::row_or_last;
 use super::rows::rows_for;
 use layout::Starts;
 use layout::tuple_start;
@@ -35,22 +36,24 @@ fn gather_edge(
     to[i] = to[i] | in_rows(index, rows, n, from[i] & between(i, start, end), i);
 }
 
-// All ids of the words from `first` on and below `last` that are in both rows.
-fn gather_both(
+// All ids of the words from `first` on and below `last` that are in all four rows.
+fn gather_four(
     index: &Index,
     a: usize,
     b: usize,
+    c: usize,
+    d: usize,
     from: &Words,
     to: &mut Words,
     first: usize,
     last: usize,
 )
-    requires { ⌜ (Long (now from) × Long (now to)) × (Within (now index) 2 (both a b) × Spans (now index) last) ⌝ }
-    ensures { λ _. ⌜ Joins (inRows (entry index) (both a b) 2) (wordBits * first) (wordBits * last) (entry from) (entry to) (exit to) ⌝ }
+    requires { ⌜ (Long (now from) × Long (now to)) × (Within (now index) 4 (four a b c d) × Spans (now index) last) ⌝ }
+    ensures { λ _. ⌜ Joins (inRows (entry index) (four a b c d) 4) (wordBits * first) (wordBits * last) (entry from) (entry to) (exit to) ⌝ }
 {
     let mut i = first;
     while i < last {
-        to[i] = to[i] | (from[i] & index[a + i] & index[b + i]);
+        to[i] = to[i] | (from[i] & index[a + i] & index[b + i] & index[c + i] & index[d + i]);
         i += 1;
     }
 }
@@ -75,7 +78,7 @@ fn gather_all(
     }
 }
 
-// The same, by the one or the other.
+// The same, by the one or the other: one to four rows as four, where the last stands for those that are missing.
 fn gather_middle(
     index: &Index,
     rows: &Rows,
@@ -88,16 +91,15 @@ fn gather_middle(
     requires { ⌜ (Long (now from) × Long (now to)) × (Within (now index) n (now rows) × Spans (now index) last) ⌝ }
     ensures { λ _. ⌜ Joins (inRows (entry index) (entry rows) n) (wordBits * first) (wordBits * last) (entry from) (entry to) (exit to) ⌝ }
 {
-    let a = wide(rows[0]);
-    if n == 1 {
-        gather_both(index, a, a, from, to, first, last);
+    if n == 0 || 4 < n {
+        gather_all(index, rows, n, from, to, first, last);
         return;
     }
-    if n == 2 {
-        gather_both(index, a, wide(rows[1]), from, to, first, last);
-        return;
-    }
-    gather_all(index, rows, n, from, to, first, last);
+    let a = row_or_last(rows, n, 0);
+    let b = row_or_last(rows, n, 1);
+    let c = row_or_last(rows, n, 2);
+    let d = row_or_last(rows, n, 3);
+    gather_four(index, a, b, c, d, from, to, first, last);
 }
 
 // All ids from start on and below end that are in all of the first n rows.

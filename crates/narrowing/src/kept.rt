@@ -4,10 +4,11 @@ ghost use Prim.Native.Nat.{_+_, _*_, _≤_, _<_};
 ghost use Rattle.model.specs.Limits.{wordBits};
 ghost use Rattle.layout.specs.Loan.{entry, exit};
 ghost use Rattle.narrowing.specs.Narrows.{Long, Keeps, HasBits, firstIn, endIn};
-ghost use Rattle.narrowing.specs.TupleRows.{Within, Spans, both, inRows};
+ghost use Rattle.narrowing.specs.TupleRows.{Within, Spans, four, inRows};
 use super::between;
 use super::rows::Rows;
 use super::rows::in_rows;
+use super::rows::row_or_last;
 use layout::wide;
 use live::Words;
 use value_index::Index;
@@ -31,15 +32,24 @@ fn keep_edge(
     w
 }
 
-// All ids of the words from `from` on and below `to` that are not in both rows are dead.
-fn keep_both(index: &Index, a: usize, b: usize, words: &mut Words, from: usize, to: usize) -> u64
-    requires { ⌜ Long (now words) × (Within (now index) 2 (both a b) × (Spans (now index) to × (from ≤ to))) ⌝ }
-    ensures { λ w. ⌜ Keeps (inRows (entry index) (both a b) 2) (wordBits * from) (wordBits * to) (entry words) (exit words) w ⌝ }
+// All ids of the words from `from` on and below `to` that are not in all four rows are dead.
+fn keep_four(
+    index: &Index,
+    a: usize,
+    b: usize,
+    c: usize,
+    d: usize,
+    words: &mut Words,
+    from: usize,
+    to: usize,
+) -> u64
+    requires { ⌜ Long (now words) × (Within (now index) 4 (four a b c d) × (Spans (now index) to × (from ≤ to))) ⌝ }
+    ensures { λ w. ⌜ Keeps (inRows (entry index) (four a b c d) 4) (wordBits * from) (wordBits * to) (entry words) (exit words) w ⌝ }
 {
     let mut any = 0;
     let mut i = from;
     while i < to {
-        let w = words[i] & index[a + i] & index[b + i];
+        let w = words[i] & index[a + i] & index[b + i] & index[c + i] & index[d + i];
         any = any | w;
         words[i] = w;
         i += 1;
@@ -63,7 +73,7 @@ fn keep_all(index: &Index, rows: &Rows, n: usize, words: &mut Words, from: usize
     any
 }
 
-// The same, by the one or the other.
+// The same, by the one or the other: one to four rows as four, where the last stands for those that are missing.
 fn keep_middle(
     index: &Index,
     rows: &Rows,
@@ -75,14 +85,14 @@ fn keep_middle(
     requires { ⌜ Long (now words) × (Within (now index) n (now rows) × (Spans (now index) to × (from ≤ to))) ⌝ }
     ensures { λ w. ⌜ Keeps (inRows (entry index) (entry rows) n) (wordBits * from) (wordBits * to) (entry words) (exit words) w ⌝ }
 {
-    let a = wide(rows[0]);
-    if n == 1 {
-        return keep_both(index, a, a, words, from, to);
+    if n == 0 || 4 < n {
+        return keep_all(index, rows, n, words, from, to);
     }
-    if n == 2 {
-        return keep_both(index, a, wide(rows[1]), words, from, to);
-    }
-    keep_all(index, rows, n, words, from, to)
+    let a = row_or_last(rows, n, 0);
+    let b = row_or_last(rows, n, 1);
+    let c = row_or_last(rows, n, 2);
+    let d = row_or_last(rows, n, 3);
+    keep_four(index, a, b, c, d, words, from, to)
 }
 
 // Of the ids from start on and below end, those that are not in all of the first n rows are dead, and every other bit stays.

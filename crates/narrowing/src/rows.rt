@@ -8,7 +8,7 @@ ghost use Rattle.layout.specs.Loan.{entry, exit};
 ghost use Rattle.layout.specs.Setting.{lists, networkIn};
 ghost use Rattle.value_index.specs.Plan.{maxDigits, rowWords, ColumnRows, SoundPlan};
 ghost use Rattle.narrowing.specs.Narrows.{Long, HasBits, Seeks};
-ghost use Rattle.narrowing.specs.TupleRows.{tupleRows, HasRows, ValueRow, Adds, FirstRows, RowOf, ColumnRow, SharedRow, RowFor, Within, Spans, both, BitsInRows, Apart, NextInRows, LiveBetween};
+ghost use Rattle.narrowing.specs.TupleRows.{tupleRows, HasRows, ValueRow, Adds, FirstRows, RowOf, ColumnRow, SharedRow, RowFor, rowOrLast, Within, Spans, both, BitsInRows, Apart, NextInRows, LiveBetween};
 use super::between;
 use super::columns::Columns;
 use layout::Starts;
@@ -152,6 +152,17 @@ pub fn rows_for(
         s,
         rows,
     )
+}
+
+// Where row k begins, or the last of the first n rows where they are fewer.
+pub fn row_or_last(rows: &Rows, n: usize, k: usize) -> usize
+    requires { ⌜ (0 < n) × (n ≤ tupleRows) ⌝ }
+    ensures { λ a. ⌜ a ≡ rowOrLast (entry rows) n k ⌝ }
+{
+    if k < n {
+        return wide(rows[k]);
+    }
+    wide(rows[n - 1])
 }
 
 // Of word i, the ids that are in all of the first n rows.

@@ -1,63 +1,61 @@
--- `keep_middle` is `keep_both` of one or two rows, and `keep_all` of others.
--- From the contracts of these, and the laws of two rows of a list.
-use Prim.Native.Nat.{_*_, _<_}
+-- `keep_middle` is `keep_four` of one to four rows, and `keep_all` of others.
+-- From the contracts of these and of `row_or_last`, and the laws of one to four rows as four.
+use Prim.Native.Nat.{_*_, _≤_, _<_}
 use native.Mathlib.Omega.{arith}
-use borrow.Author.Needs.{needs}
-use Rattle.narrowing.specs.TupleRows.{both, inRows}
+use borrow.Author.Tests.{ltb-false}
+use Rattle.narrowing.specs.TupleRows.{tupleRows, four, inRows}
 use Rattle.narrowing.proofs.Words.{keeps-as}
-use Rattle.narrowing.proofs.TupleRows.{one-twice, two-both, both-within}
+use Rattle.narrowing.proofs.TupleRows.{four-within, four-rows}
 use Rattle.narrowing.proofs.kept.keep_middle.Statement.{statement}
 use Rattle.narrowing.proofs.kept.keep_middle.Tie as tie
 
-abbrev start : tie.After-wide → tie.Start
-start c = c .before .before
+-- ---- One to four rows
 
-keep-both-requires : tie.Need-keep-both-requires
-keep-both-requires c κs =
-    let t = c .before in
-    let s = start (t .before) in
-    let one : 0 < s .args .n = omega (arith, t .if1 .taken) in
-    let e = t .before .wide .ensures .0 in
-    (s .pre .0, (both-within (s .args .index .now) (s .args .rows .now) (s .args .n) 0 0 _ _ one one e e (s .pre .1 .0), s .pre .1 .1))
+module _ (c : tie.Else2) where
+  abbrev start : tie.Start
+  start = c .before .before
 
-returns : tie.Need-returns
-returns c =
-    let t = c .before .before in
-    let w = t .before .wide in
-    let a = start (t .before) .args in
-    keeps-as (inRows (a .index .now) (both (w .result) (w .result)) 2) (inRows (a .index .now) (a .rows .now) (a .n)) (64 * a .from) (64 * a .to) (c .keep-both .result) (a .words .now) _
-    (λ g. one-twice (a .index .now) (a .rows .now) (a .n) (w .result) g (t .if1 .taken) (w .ensures .0))
-    (c .keep-both .ensures)
+  some : 0 < start .args .n
+  some = omega (arith, c .before .if1 .left)
 
-keep-both-requires-2 : tie.Need-keep-both-requires-2
-keep-both-requires-2 c κs =
-    let read = c .before in
-    let t = read .before .before in
-    let w = t .before .before in
-    let s = start w in
-    let one : 0 < s .args .n = omega (arith, t .if2 .taken) in
-    let two : 1 < s .args .n = omega (arith, t .if2 .taken) in
-    (s .pre .0, (both-within (s .args .index .now) (s .args .rows .now) (s .args .n) 0 1 _ _ one two (w .wide .ensures .0) (read .wide2 .ensures .0) (s .pre .1 .0), s .pre .1 .1))
+  few : start .args .n ≤ 4
+  few = ltb-false 4 (start .args .n) (c .if2 .left)
+
+  asked : (0 < start .args .n) × (start .args .n ≤ tupleRows)
+  asked = (some, start .pre .1 .0 .few)
+
+keep-four-requires : tie.Need-keep-four-requires
+keep-four-requires c κs =
+    let r4 = c .before in
+    let r3 = r4 .before in
+    let r2 = r3 .before in
+    let r1 = r2 .before in
+    let e = r1 .before in
+    let s = start e in
+    (s .pre .0, (four-within (s .args .index .now) (s .args .rows .now) (s .args .n) _ _ _ _ (some e) (few e) (r1 .row-or-last .ensures) (r2 .row-or-last2 .ensures) (r3 .row-or-last3 .ensures) (r4 .row-or-last4 .ensures) (s .pre .1 .0), s .pre .1 .1))
 
 returns-2 : tie.Need-returns-2
 returns-2 c =
-    let read = c .before .before in
-    let t = read .before .before in
-    let w = t .before .before in
-    let a = start w .args in
-    keeps-as (inRows (a .index .now) (both (w .wide .result) (read .wide2 .result)) 2) (inRows (a .index .now) (a .rows .now) (a .n)) (64 * a .from) (64 * a .to) (c .keep-both2 .result) (a .words .now) _
-    (λ g. two-both (a .index .now) (a .rows .now) (a .n) (w .wide .result) (read .wide2 .result) g (t .if2 .taken) (w .wide .ensures .0) (read .wide2 .ensures .0))
-    (c .keep-both2 .ensures)
+    let r4 = c .before .before in
+    let r3 = r4 .before in
+    let r2 = r3 .before in
+    let r1 = r2 .before in
+    let e = r1 .before in
+    let a = start e .args in
+    let test = inRows (a .index .now) (four (r1 .row-or-last .result) (r2 .row-or-last2 .result) (r3 .row-or-last3 .result) (r4 .row-or-last4 .result)) 4 in
+    keeps-as test (inRows (a .index .now) (a .rows .now) (a .n)) (64 * a .from) (64 * a .to) (c .keep-four .result) (a .words .now) _
+    (four-rows (a .index .now) (a .rows .now) (a .n) _ _ _ _ (some e) (few e) (r1 .row-or-last .ensures) (r2 .row-or-last2 .ensures) (r3 .row-or-last3 .ensures) (r4 .row-or-last4 .ensures))
+    (c .keep-four .ensures)
 
 pub keep-middle-spec : {M : Type 1} → statement M
 keep-middle-spec =
     tie.close
     (tie.spec
-    (λ c. search needs) (λ c κs. search needs)
-    keep-both-requires
-    returns
-    (λ c. search needs) (λ c κs. search needs)
-    keep-both-requires-2
-    returns-2
-    (λ c κs. start (c .before .before .before) .pre)
-    (λ c. c .keep-all .ensures))
+    (λ c κs. c .before .before .pre)
+    (λ c. c .keep-all .ensures)
+    (λ c κs. asked c)
+    (λ c κs. asked (c .before))
+    (λ c κs. asked (c .before .before))
+    (λ c κs. asked (c .before .before .before))
+    keep-four-requires
+    returns-2)
