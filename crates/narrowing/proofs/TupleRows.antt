@@ -208,6 +208,10 @@ bits-four index a b c d i w =
     let more = bits-more index (four a b c d) i in
     more 3 w _ (more 2 w _ (more 1 w _ (more 0 w _ (bits-none index (four a b c d) i w))))
 
+-- behind the last row stands the last one
+pub last-again : (rows : List ℕ) (n j k b : ℕ) → n ≤ j + 1 → n ≤ k + 1 → b ≡ rowOrLast rows n j → b ≡ rowOrLast rows n k
+last-again rows n j k b hj hk e = let same : min j (n - 1) ≡ min k (n - 1) = omega arith in e ∙ ap (λ (i : ℕ). getD rows i 0) same
+
 -- one to four rows as four, where the last stands for those that are missing
 module _ (index rows : List ℕ) (n a b c d : ℕ) (some : 0 < n) (few : n ≤ 4) (ea : a ≡ rowOrLast rows n 0) (eb : b ≡ rowOrLast rows n 1) (ec : c ≡ rowOrLast rows n 2) (ed : d ≡ rowOrLast rows n 3) where
   four-at : (k : ℕ) → k < 4 → getD (four a b c d) k 0 ≡ rowOrLast rows n k

@@ -97,6 +97,10 @@ fn gather_middle(
     }
     let a = row_or_last(rows, n, 0);
     let b = row_or_last(rows, n, 1);
+    if n <= 2 {
+        gather_four(index, a, b, b, b, from, to, first, last);
+        return;
+    }
     let c = row_or_last(rows, n, 2);
     let d = row_or_last(rows, n, 3);
     gather_four(index, a, b, c, d, from, to, first, last);

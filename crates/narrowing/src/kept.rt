@@ -90,6 +90,9 @@ fn keep_middle(
     }
     let a = row_or_last(rows, n, 0);
     let b = row_or_last(rows, n, 1);
+    if n <= 2 {
+        return keep_four(index, a, b, b, b, words, from, to);
+    }
     let c = row_or_last(rows, n, 2);
     let d = row_or_last(rows, n, 3);
     keep_four(index, a, b, c, d, words, from, to)
