@@ -40,7 +40,7 @@ pub fn set(words: &mut [u64], g: u16)
 }
 
 // How many ids below end are live in end's own word.
-fn count_below(words: &[u64], end: usize) -> usize
+fn count_below(words: &[u64], end: u16) -> u16
     requires { ⌜ end ≤ 64 * length (now words) ⌝ }
     ensures { λ r. ⌜ r ≡ count (livingFrom (64 * (end / 64)) (end % 64) (now (words .entry))) ⌝ }
 {
@@ -48,7 +48,7 @@ fn count_below(words: &[u64], end: usize) -> usize
     if k == 0 {
         return 0;
     }
-    u64::count_ones(words[end / 64] % (1u64 << k)) as usize
+    u64::count_ones(words[(end / 64) as usize] % (1u64 << k)) as u16
 }
 
 // How many ids from start on and below end are live.
@@ -56,15 +56,13 @@ pub fn count(words: &[u64], start: u16, end: u16) -> u16
     requires { ⌜ (start ≤ end) × (end ≤ 64 * length (now words)) × (end ≤ 4096) ⌝ }
     ensures { λ r. ⌜ r ≡ count (livingFrom start (end - start) (now (words .entry))) ⌝ }
 {
-    let start = start as usize;
-    let end = end as usize;
-    let mut n: usize = 0;
-    let mut i = start / 64;
-    while i < end / 64 {
-        n += u64::count_ones(words[i]) as usize;
+    let mut n: u16 = 0;
+    let mut i = (start / 64) as usize;
+    while i < (end / 64) as usize {
+        n += u64::count_ones(words[i]) as u16;
         i += 1;
     }
-    (n + count_below(words, end) - count_below(words, start)) as u16
+    n + count_below(words, end) - count_below(words, start)
 }
 
 // The first live id from start on and below end; end if there is none.
@@ -72,13 +70,12 @@ pub fn next(words: &[u64], start: u16, end: u16) -> u16
     requires { ⌜ (start ≤ end) × (end ≤ 64 * length (now words)) × (end ≤ 4096) ⌝ }
     ensures { λ r. ⌜ r ≡ nextLive (now (words .entry)) start end ⌝ }
 {
-    let stop = end as usize;
-    let mut at = start as usize;
-    while at < stop {
-        let w = words[at / 64] >> (at % 64);
+    let mut at = start;
+    while at < end {
+        let w = words[(at / 64) as usize] >> (at % 64);
         if w != 0 {
-            let g = at + u64::trailing_zeros(w) as usize;
-            return if g < stop { g as u16 } else { end };
+            let g = at + u64::trailing_zeros(w) as u16;
+            return if g < end { g } else { end };
         }
         at = (at / 64 + 1) * 64;
     }
@@ -89,7 +86,7 @@ pub fn next(words: &[u64], start: u16, end: u16) -> u16
 pub fn words_for(n: u16) -> usize
     ensures { λ r. ⌜ r ≡ wordsFor n ⌝ }
 {
-    (n as usize + 63) / 64
+    (n / 64) as usize + ((n % 64 + 63) / 64) as usize
 }
 
 // The first n words, and noughts behind them.

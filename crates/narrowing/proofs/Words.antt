@@ -52,15 +52,15 @@ not-ltb a b = go (ltb a b) refl
     go false e = sym (le-leb b a (ltb-false a b e))
 
 -- .. of word i, and from another one on
-pub between-bits : (i start end begin stop low high : ℕ) → begin ≡ start → stop ≡ end → low < 2 ^ 64 → ((j : ℕ) → j < 64 → isSet low j ≡ ltb (i * 64 + j) begin) → high < 2 ^ 64 → ((j : ℕ) → j < 64 → isSet high j ≡ ltb (i * 64 + j) stop) → BitsBetween i start end (bitAnd (2 ^ 64 - 1 - low) high)
-between-bits i start end begin stop low high es ee fits lows small highs = (
+pub between-bits : (i start end low high : ℕ) → low < 2 ^ 64 → ((j : ℕ) → j < 64 → isSet low j ≡ ltb (i * 64 + j) start) → high < 2 ^ 64 → ((j : ℕ) → j < 64 → isSet high j ≡ ltb (i * 64 + j) end) → BitsBetween i start end (bitAnd (2 ^ 64 - 1 - low) high)
+between-bits i start end low high fits lows small highs = (
   lt-of-le-of-lt (and-le-r (2 ^ 64 - 1 - low) high) small,
   λ j l.
       let c : i * 64 + j ≡ 64 * i + j = omega arith in
       isSet-and (2 ^ 64 - 1 - low) high j
       ∙ ap₂ (λ (x y : Bool). x && y)
-      (isSet-not 64 low j fits l ∙ ap not (lows j l ∙ ap₂ ltb c es) ∙ not-ltb (64 * i + j) start)
-      (highs j l ∙ ap₂ ltb c ee),
+      (isSet-not 64 low j fits l ∙ ap not (lows j l ∙ ap (λ (g : ℕ). ltb g start) c) ∙ not-ltb (64 * i + j) start)
+      (highs j l ∙ ap (λ (g : ℕ). ltb g end) c),
 )
 
 -- no bit is set in the one word nor in the other
@@ -322,13 +322,17 @@ module _ (index : List ℕ) (first : ℕ) where
       sym (ap (isLive index) e ∙ isLive-at index (first + i) j h)
 
   -- the bits of the word that word i is narrowed by
-  pub stays-at : (start end i low high j : ℕ) → ((k : ℕ) → k < 64 → isSet low k ≡ ltb (i * 64 + k) start) → high < 2 ^ 64 → ((k : ℕ) → k < 64 → isSet high k ≡ ltb (i * 64 + k) end) → j < 64 → isSet (bitOr low (bitOr (2 ^ 64 - 1 - high) (getD index (first + i) 0))) j ≡ stays (rowBit index first) start end (64 * i + j)
-  stays-at start end i low high j lows fits highs h =
-      let c : i * 64 + j ≡ 64 * i + j = omega arith in
-      let m = getD index (first + i) 0 in
-      isSet-or low (bitOr (2 ^ 64 - 1 - high) m) j
-      ∙ ap₂ (λ (x y : Bool). x || y) (lows j h ∙ ap (λ (g : ℕ). ltb g start) c)
-      (isSet-or (2 ^ 64 - 1 - high) m j
+  pub stays-at : (start end i m j : ℕ) → BitsBetween i start end m → j < 64 → isSet (bitOr (2 ^ 64 - 1 - m) (getD index (first + i) 0)) j ≡ stays (rowBit index first) start end (64 * i + j)
+  stays-at start end i m j mask h =
+      let g = 64 * i + j in
+      isSet-or (2 ^ 64 - 1 - m) (getD index (first + i) 0) j
       ∙ ap₂ (λ (x y : Bool). x || y)
-      (isSet-not 64 high j fits h ∙ ap not (highs j h ∙ ap (λ (g : ℕ). ltb g end) c) ∙ not-ltb (64 * i + j) end)
-      (row-at i j h))
+      (isSet-not 64 m j (mask .0) h ∙ ap not (mask .1 j h ∙ ap (λ (y : Bool). y && ltb g end) (sym (not-ltb g start))))
+      (row-at i j h)
+      ∙ go (ltb g start) (ltb g end) (rowBit index first g)
+      ∙ ap (λ (y : Bool). ltb g start || (y || rowBit index first g)) (not-ltb g end)
+    where
+      go : (a b p : Bool) → (not (not a && b) || p) ≡ (a || (not b || p))
+      go true b p = refl
+      go false true p = refl
+      go false false p = refl

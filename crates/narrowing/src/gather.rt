@@ -122,8 +122,8 @@ fn gather_rows(
     if end <= start {
         return;
     }
-    let i = wide(start) / 64;
-    let last = wide(end - 1) / 64;
+    let i = wide(start / 64);
+    let last = wide((end - 1) / 64);
     gather_edge(index, rows, n, from, to, i, start, end);
     if i < last {
         gather_middle(index, rows, n, from, to, i + 1, last);

@@ -113,8 +113,8 @@ pub fn keep_rows(
     if end <= start {
         return 0;
     }
-    let i = wide(start) / 64;
-    let last = wide(end - 1) / 64;
+    let i = wide(start / 64);
+    let last = wide((end - 1) / 64);
     let left = keep_edge(index, rows, n, words, i, start, end);
     if i == last {
         return left;

@@ -28,7 +28,7 @@ pub mod kept; // live words narrowed to the ids in all of them
 pub mod gather; // .. and such ids gathered in other words
 
 // The word whose bit j is 1 where base + j is below the bound.
-fn below(base: usize, bound: usize) -> u64
+fn below(base: u16, bound: u16) -> u64
     ensures { λ w. ⌜ (w < 2 ^ 64) × ((j : ℕ) → j < 64 → isSet w j ≡ ltb (base + j) bound) ⌝ }
 {
     if bound <= base {
@@ -46,18 +46,16 @@ fn between(i: usize, start: u16, end: u16) -> u64
     requires { ⌜ i < 64 ⌝ }
     ensures { λ w. ⌜ BitsBetween i start end w ⌝ }
 {
-    !below(i * 64, wide(start)) & below(i * 64, wide(end))
+    let base = (i * 64) as u16;
+    !below(base, start) & below(base, end)
 }
 
-// The ids of word i, of those from begin on and below stop, whose bit in the words from `first` on is 0, are dead,
-// and every other bit stays.
-fn keep_word(rows: &[u64], words: &mut Words, first: usize, i: usize, begin: usize, stop: usize)
+// The ids of word i, of those from start on and below end, whose bit in the words from `first` on is 0, are dead, and every other bit stays.
+fn keep_word(rows: &[u64], words: &mut Words, first: usize, i: usize, start: u16, end: u16)
     requires { ⌜ Long (now words) × ((first + i < length (now rows)) × (i < 64)) ⌝ }
-    ensures { λ _. ⌜ Long (exit words) × KeptIds (rowBit (entry rows) first) (firstIn i begin) (endIn i stop) (entry words) (exit words) ⌝ }
+    ensures { λ _. ⌜ Long (exit words) × KeptIds (rowBit (entry rows) first) (firstIn i start) (endIn i end) (entry words) (exit words) ⌝ }
 {
-    let low = below(i * 64, begin);
-    let high = below(i * 64, stop);
-    words[i] = words[i] & (low | (!high | rows[first + i]));
+    words[i] = words[i] & (!between(i, start, end) | rows[first + i]);
 }
 
 // The same for all ids of the words from `from` on and below `to`.
@@ -77,17 +75,15 @@ pub fn keep(rows: &[u64], words: &mut Words, first: usize, start: u16, end: u16)
     requires { ⌜ Long (now words) × ((end ≤ maxTuples) × (first + wordsFor end ≤ length (now rows))) ⌝ }
     ensures { λ _. ⌜ Long (exit words) × KeptIds (rowBit (entry rows) first) start end (entry words) (exit words) ⌝ }
 {
-    let begin = wide(start);
-    let stop = wide(end);
-    if stop <= begin {
+    if end <= start {
         return;
     }
-    let i = begin / 64;
-    let last = (stop - 1) / 64;
-    keep_word(rows, words, first, i, begin, stop);
+    let i = wide(start / 64);
+    let last = wide((end - 1) / 64);
+    keep_word(rows, words, first, i, start, end);
     if i < last {
         keep_words(rows, words, first, i + 1, last);
-        keep_word(rows, words, first, last, begin, stop);
+        keep_word(rows, words, first, last, start, end);
     }
 }
 

@@ -271,7 +271,7 @@ pub fn live_between(words: &Words, start: u16, end: u16) -> Words
 {
     let last = words_for(end);
     let mut alive = [0u64; WORDS];
-    let mut i = wide(start) / 64;
+    let mut i = wide(start / 64);
     while i < last {
         alive[i] = words[i] & between(i, start, end);
         i += 1;

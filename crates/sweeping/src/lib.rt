@@ -199,7 +199,7 @@ fn revise(
         words,
         r,
         s,
-        wide(start) / 64,
+        wide(start / 64),
         words_for(end),
         few,
     )

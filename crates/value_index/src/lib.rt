@@ -95,12 +95,13 @@ pub fn row_of(index: &Index, start: usize, hash: u64, i: u64) -> usize
     start + ((i * rows + hash * rows / HASHES) * index[ROW_WORDS]) as usize
 }
 
-// The bit at place p of the index is 1, and every other bit stays.
-fn enter(index: &mut Index, p: usize)
-    requires { ⌜ Full (now index) × ((wordBits * planWords ≤ p) × (p < wordBits * indexWords)) ⌝ }
-    ensures { λ _. ⌜ Full (exit index) × (SamePlan (entry index) (exit index) × Raises (entry index) (exit index) p) ⌝ }
+// The bit of id g in the row that begins at word `row` is 1, and every other bit stays.
+fn enter(index: &mut Index, row: usize, g: u16)
+    requires { ⌜ Full (now index) × ((planWords ≤ row) × (wordBits * row + g < wordBits * indexWords)) ⌝ }
+    ensures { λ _. ⌜ Full (exit index) × (SamePlan (entry index) (exit index) × Raises (entry index) (exit index) (wordBits * row + g)) ⌝ }
 {
-    index[p / 64] = index[p / 64] | (1u64 << (p % 64));
+    let i = row + wide(g / 64);
+    index[i] = index[i] | (1u64 << (g % 64));
 }
 
 // The tuple with id g is in every row of the value, among the rows that begin at `start`; no bit is lost.
@@ -111,7 +112,7 @@ fn enter_value(index: &mut Index, start: usize, value: Value, g: u16)
     let mut hash = hash_of(index, value);
     let mut i: u64 = 0;
     while i < digit_count(index) {
-        enter(index, row_of(index, start, hash, i) * 64 + wide(g));
+        enter(index, row_of(index, start, hash, i), g);
         hash = hash_behind(index, hash);
         i += 1;
     }

@@ -20,10 +20,10 @@ abbrev between : List ℕ → ℕ → ℕ → ℕ
 between ws a e = count (livingFrom a (e - a) ws)
 
 abbrev Inv-loop : tie.InvT-loop
-Inv-loop words start end start' end' n₀ i₀ n i = (i ≤ end / 64) × (n + between words (64 * i) end ≡ between words (64 * (start / 64)) end)
+Inv-loop words start end n₀ i₀ n i = (i ≤ end / 64) × (n + between words (64 * i) end ≡ between words (64 * (start / 64)) end)
 
 abbrev μ-loop : tie.MeasureT-loop
-μ-loop words start end start' end' n₀ i₀ n i = end / 64 - i
+μ-loop words start end n₀ i₀ n i = end / 64 - i
 
 -- the live ids from word i on are its ones, and those of the words after it
 one-word : (ws : List ℕ) (i e : ℕ) → 64 * (i + 1) ≤ e → getD ws i 0 < 2 ^ 64 → between ws (64 * i) e ≡ ones (getD ws i 0) + between ws (64 * (i + 1)) e
@@ -83,11 +83,6 @@ counted c =
 sub-result : tie.Need-sub-result Inv-loop μ-loop
 sub-result c = omega (arith, counted c)
 
-cast-result : tie.Need-cast-result Inv-loop μ-loop
-cast-result c =
-    let a = c .before .before .before .before .before .args in
-    omega (arith, counted c, count-from-le (isLive (a .words .now)) (a .start) (a .end - a .start))
-
 returns : tie.Need-returns Inv-loop μ-loop
 returns c = omega (arith, counted c)
 
@@ -97,7 +92,7 @@ count-spec =
     (tie.spec
     Inv-loop
     μ-loop
-    (λ c. search needs) (λ c. search needs) (λ c. search needs)
+    (λ c. search needs) (λ c. search needs) (λ c. search needs) (λ c. search needs) (λ c. search needs)
     cast-n
     add-n
     (λ c. search needs) (λ c. search needs)
@@ -106,5 +101,4 @@ count-spec =
     add-result
     (λ c κs. search needs)
     sub-result
-    cast-result
     returns)

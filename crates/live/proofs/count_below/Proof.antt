@@ -18,7 +18,7 @@ returns c = let z : c .before .args .end % 64 ≡ 0 = omega arith in rw z
 rem-result : tie.Need-rem-result
 rem-result c = let k = c .before .before .args .end % 64 in omega (arith, one-shl k (omega arith), pow-pos k)
 
-cast-result : tie.Need-cast-result
+cast-result : tie.Need-cast-result-3
 cast-result c =
     let ws = c .before .before .args .words .now in
     let end = c .before .before .args .end in
@@ -37,7 +37,7 @@ count-below-spec =
     tie.close
     (tie.spec
     returns
-    (λ c. search needs) (λ c. search needs) (λ c. search needs)
+    (λ c. search needs) (λ c. search needs) (λ c. search needs) (λ c. search needs) (λ c. search needs)
     rem-result
     cast-result
     returns-2)

@@ -17,10 +17,10 @@ use Rattle.live.proofs.next.Statement.{statement}
 use Rattle.live.proofs.next.Tie as tie
 
 abbrev Inv-loop : tie.InvT-loop
-Inv-loop words start end stop at₀ at = nextLive words at end ≡ nextLive words start end
+Inv-loop words start end at₀ at = nextLive words at end ≡ nextLive words start end
 
 abbrev μ-loop : tie.MeasureT-loop
-μ-loop words start end stop at₀ at = end - at
+μ-loop words start end at₀ at = end - at
 
 -- the word of id `at`, from its bit on
 abbrev rest : List ℕ → ℕ → ℕ
@@ -99,10 +99,9 @@ next-spec =
     Inv-loop
     μ-loop
     loop-holds
-    (λ c. search needs) (λ c. search needs) (λ c. search needs)
+    (λ c. search needs) (λ c. search needs) (λ c. search needs) (λ c. search needs) (λ c. search needs)
     cast-g
     add-g
-    (λ c. search needs)
     returns
     returns-2
     (λ c. search needs) (λ c. search needs) (λ c. search needs)

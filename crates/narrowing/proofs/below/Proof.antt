@@ -39,6 +39,6 @@ below-spec =
     returns
     (λ c. search needs)
     returns-2
-    (λ c. search needs)
+    (λ c. search needs) (λ c. search needs)
     sub-result
     returns-3)

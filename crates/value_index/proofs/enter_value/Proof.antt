@@ -53,26 +53,22 @@ loop-holds c =
     (omega arith, (s .pre, (c .hash-of .ensures, (grows-none (s .args .index .now), λ i h. absurd (omega arith)))))
 
 enter-requires : tie.Need-enter-requires Inv-loop μ-loop
-enter-requires c κs =
-    let r = c .before in
+enter-requires r κs =
     let t = r .before .before .before in
-    let l = loop t .loop in (
-      l .inv .1 .0 .0 .full,
-      (omega (arith, r .row-of .ensures, behind t), omega (arith, r .row-of .ensures, within t, c .wide .ensures .0, l .inv .1 .0 .0 .bits)),
-    )
+    let l = loop t .loop in
+    (l .inv .1 .0 .0 .full, (omega (arith, r .row-of .ensures, behind t), omega (arith, r .row-of .ensures, within t, l .inv .1 .0 .0 .bits)))
 
 hash-behind-requires : tie.Need-hash-behind-requires Inv-loop μ-loop
 hash-behind-requires c κs =
     let e = c .before in
-    let t = e .before .before .before .before .before in
+    let t = e .before .before .before .before in
     let l = loop t .loop in
     (laid-on (l .index) (e .enter .last .0) _ (grows-one (l .index) (e .enter .last .0) _ (e .enter .ensures .1 .0) (e .enter .ensures .1 .1)) (e .enter .ensures .0) (l .inv .1 .0 .0) .plan, below t)
 
 loop-again : tie.Need-loop-again Inv-loop μ-loop
 loop-again c =
     let e = c .before .before in
-    let w = e .before in
-    let r = w .before in
+    let r = e .before in
     let t = r .before .before .before in
     let l = loop t .loop in
     let a = start t .args in
@@ -87,7 +83,7 @@ loop-again c =
           c .hash-behind .ensures ∙ ap (hashBehind new) (l .inv .1 .1 .0 ∙ sym (hash-same (l .index) new same (a .value) (l .i))) ∙ sym (hash-next new (a .value) (l .i)),
           (
             grows-on (a .index .now) (l .index) new (l .inv .1 .1 .1 .0) one,
-            rows-more (l .index) new (a .start) (a .value) (l .i) (a .g) _ (omega (arith, r .row-of .ensures, place, w .wide .ensures .0)) same (e .enter .ensures .1 .1) (l .inv .1 .1 .1 .1),
+            rows-more (l .index) new (a .start) (a .value) (l .i) (a .g) _ (omega (arith, r .row-of .ensures, place)) same (e .enter .ensures .1 .1) (l .inv .1 .1 .1 .1),
           ),
         ),
       ),
@@ -111,15 +107,12 @@ enter-value-spec =
     loop-holds
     (λ c κs. search needs)
     (λ c κs. let t = c .before .before in let l = loop t .loop in (l .inv .1 .0 .0 .plan, (l .inv .1 .0 .1, (below t, reached t))))
-    (λ c. omega (arith, c .row-of .ensures, within (c .before .before .before)))
-    (λ c κs. search needs)
-    (λ c. omega (arith, c .before .row-of .ensures, within (c .before .before .before .before), c .wide .ensures .1))
     enter-requires
     hash-behind-requires
-    (λ c. omega (arith, reached (c .before .before .before .before .before .before .before), loop (c .before .before .before .before .before .before .before) .loop .inv .1 .0 .0 .plan .few))
+    (λ c. omega (arith, reached (c .before .before .before .before .before .before), loop (c .before .before .before .before .before .before) .loop .inv .1 .0 .0 .plan .few))
     (λ c.
     let e = c .before .before in
-    let t = e .before .before .before .before .before in
+    let t = e .before .before .before .before in
     omega (arith, reached t, digits-same (loop t .loop .index) (e .enter .last .0) (e .enter .ensures .1 .0)))
     loop-again
     returns)

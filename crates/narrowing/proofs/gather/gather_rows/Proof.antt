@@ -21,10 +21,10 @@ module _ (c : tie.After-wide2) where
 
   -- the words of the first id and of the last one
   abbrev i : ℕ
-  i = c .before .wide .result / 64
+  i = c .before .wide .result
 
   abbrev last : ℕ
-  last = c .wide2 .result / 64
+  last = c .wide2 .result
 
   edges : Edges (start .args .start) (start .args .end) i last
   edges = record { some = c .before .before .if1 .left; first = omega (arith, c .before .wide .ensures .0); final = omega (arith, c .wide2 .ensures .0) }

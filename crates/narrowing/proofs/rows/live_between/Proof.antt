@@ -25,7 +25,7 @@ module _ (c : tie.In-loop Inv-loop μ-loop) where
 loop-holds : tie.Need-loop-holds Inv-loop μ-loop
 loop-holds c =
     let a = c .before .before .args in
-    let e : c .wide .result / 64 ≡ a .start / 64 = omega (arith, c .wide .ensures .0) in (
+    let e : c .wide .result ≡ a .start / 64 = omega (arith, c .wide .ensures .0) in (
       omega (arith, e),
       subst (λ (i : ℕ). Filled (a .start / 64) i (a .start) (a .end) (a .words .now) (replicate 64 0)) (sym e) (filled-none (a .start / 64) (a .start) (a .end) (a .words .now)),
     )
