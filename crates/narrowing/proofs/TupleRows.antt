@@ -31,7 +31,8 @@ use Rattle.value_index.specs.Plan.{indexWords, columnStart, rowWords, digitCoun
 use Rattle.value_index.specs.Index.{rowBit, isIndexed, Indexed}
 use Rattle.value_index.proofs.ValueRows.{hash-below, row-within, row-is, rows-begin}
 use Rattle.narrowing.specs.Narrows.{isBetween, BitsBetween}
-use Rattle.narrowing.specs.TupleRows.{Shares, HasRows, ValueRow, Adds, FirstRows, RowOf, SharedRow, RowFor, InEvery, rowOrLast, Within, both, four, inRows, BitsInRows, Apart, LiveBetween}
+use Rattle.narrowing.specs.declared.rows.Four.{Four}
+use Rattle.narrowing.specs.TupleRows.{Shares, HasRows, ValueRow, Adds, FirstRows, RowOf, SharedRow, RowFor, InEvery, rowOrLast, FourOf, Within, both, four, inRows, BitsInRows, Apart, LiveBetween}
 use Rattle.narrowing.proofs.Words.{isSet-nought, row-at}
 
 -- what holds of the first i numbers of a list holds of one more, which is stored
@@ -208,29 +209,35 @@ bits-four index a b c d i w =
     let more = bits-more index (four a b c d) i in
     more 3 w _ (more 2 w _ (more 1 w _ (more 0 w _ (bits-none index (four a b c d) i w))))
 
--- behind the last row stands the last one
-pub last-again : (rows : List ℕ) (n j k b : ℕ) → n ≤ j + 1 → n ≤ k + 1 → b ≡ rowOrLast rows n j → b ≡ rowOrLast rows n k
-last-again rows n j k b hj hk e = let same : min j (n - 1) ≡ min k (n - 1) = omega arith in e ∙ ap (λ (i : ℕ). getD rows i 0) same
+-- of two rows at most, the second again
+pub two-of : {rows : List ℕ} {n : ℕ} {f : Four} → n ≤ 2 → FourOf rows n f → FourOf rows n (record { a = f .a; b = f .b; c = f .b; d = f .b })
+two-of {rows} {n} h f =
+    let third : min 1 (n - 1) ≡ min 2 (n - 1) = omega arith in
+    let fourth : min 1 (n - 1) ≡ min 3 (n - 1) = omega arith in
+    record { a = f .a; b = f .b; c = f .b ∙ ap (λ (i : ℕ). getD rows i 0) third; d = f .b ∙ ap (λ (i : ℕ). getD rows i 0) fourth }
 
--- one to four rows as four, where the last stands for those that are missing
-module _ (index rows : List ℕ) (n a b c d : ℕ) (some : 0 < n) (few : n ≤ 4) (ea : a ≡ rowOrLast rows n 0) (eb : b ≡ rowOrLast rows n 1) (ec : c ≡ rowOrLast rows n 2) (ed : d ≡ rowOrLast rows n 3) where
-  four-at : (k : ℕ) → k < 4 → getD (four a b c d) k 0 ≡ rowOrLast rows n k
-  four-at zero h = ea
-  four-at (suc zero) h = eb
-  four-at (suc (suc zero)) h = ec
-  four-at (suc (suc (suc zero))) h = ed
+-- one to four rows as four
+module _ (index : List ℕ) {rows : List ℕ} {n : ℕ} {f : Four} (of : FourOf rows n f) (some : 0 < n) (few : n ≤ 4) where
+  abbrev these : List ℕ
+  these = four (f .a) (f .b) (f .c) (f .d)
+
+  four-at : (k : ℕ) → k < 4 → getD these k 0 ≡ rowOrLast rows n k
+  four-at zero h = of .a
+  four-at (suc zero) h = of .b
+  four-at (suc (suc zero)) h = of .c
+  four-at (suc (suc (suc zero))) h = of .d
   four-at (suc (suc (suc (suc k)))) h = absurd (omega arith)
 
-  pub four-within : Within index n rows → Within index 4 (four a b c d)
+  pub four-within : Within index n rows → Within index 4 these
   four-within w = record { few = omega arith; inside = λ k h. omega (arith, four-at k h, w .inside (min k (n - 1)) (omega arith)) }
 
-  pub four-rows : (g : ℕ) → inRows index (four a b c d) 4 g ≡ inRows index rows n g
+  pub four-rows : (g : ℕ) → inRows index these 4 g ≡ inRows index rows n g
   four-rows g =
-      iff-eq (inRows index (four a b c d) 4 g) (inRows index rows n g)
+      iff-eq (inRows index these 4 g) (inRows index rows n g)
       (λ e. rows-all index rows n g (λ k h.
       let own : k ≡ min k (n - 1) = omega arith in
-      ap bit (ap (λ (j : ℕ). getD rows j 0) own ∙ sym (four-at k (omega arith))) ∙ rows-at index (four a b c d) 4 g k (omega arith) e))
-      (λ e. rows-all index (four a b c d) 4 g (λ k h. ap bit (four-at k h) ∙ rows-at index rows n g (min k (n - 1)) (omega arith) e))
+      ap bit (ap (λ (j : ℕ). getD rows j 0) own ∙ sym (four-at k (omega arith))) ∙ rows-at index these 4 g k (omega arith) e))
+      (λ e. rows-all index these 4 g (λ k h. ap bit (four-at k h) ∙ rows-at index rows n g (min k (n - 1)) (omega arith) e))
     where
       bit : ℕ → Bool
       bit first = rowBit index first g

@@ -11,6 +11,7 @@ use Rattle.model.specs.LiveWords.{isSet, isLive}
 use Rattle.model.specs.Edges.{maxWords}
 use Rattle.value_index.specs.Plan.{indexWords, maxDigits, columnStart, rowWords, digitCount, rowAt, ColumnRows}
 use Rattle.value_index.specs.Index.{rowBit}
+use Rattle.narrowing.specs.declared.rows.Four.{Four}
 use Rattle.narrowing.specs.Narrows.{isBetween}
 
 -- ---- Shared columns
@@ -92,6 +93,13 @@ InEvery index columns tuple g = (first : ℕ) → RowOf index columns tuple firs
 -- where row k begins, or the last of the first n rows where they are fewer
 abbrev pub rowOrLast : List ℕ → ℕ → ℕ → ℕ
 rowOrLast rows n k = getD rows (min k (n - 1)) 0
+
+-- These are the first four of one to four rows, where the last stands for those that are missing.
+pub record FourOf (rows : List ℕ) (n : ℕ) (f : Four) : Type 0 where
+  pub a : f .a ≡ rowOrLast rows n 0
+  pub b : f .b ≡ rowOrLast rows n 1
+  pub c : f .c ≡ rowOrLast rows n 2
+  pub d : f .d ≡ rowOrLast rows n 3
 
 -- ---- Ids in rows
 

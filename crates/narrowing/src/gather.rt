@@ -9,8 +9,8 @@ ghost use Rattle.narrowing.specs.Gathers.{Joins, Gathers};
 use super::between;
 use super::rows::Rows;
 use super::rows::TUPLE_ROWS;
+use super::rows::four_of;
 use super::rows::in_rows;
-use super::rows::row_or_last;
 use super::rows::rows_for;
 use layout::Starts;
 use layout::tuple_start;
@@ -95,15 +95,12 @@ fn gather_middle(
         gather_all(index, rows, n, from, to, first, last);
         return;
     }
-    let a = row_or_last(rows, n, 0);
-    let b = row_or_last(rows, n, 1);
+    let f = four_of(rows, n);
     if n <= 2 {
-        gather_four(index, a, b, b, b, from, to, first, last);
+        gather_four(index, f.a, f.b, f.b, f.b, from, to, first, last);
         return;
     }
-    let c = row_or_last(rows, n, 2);
-    let d = row_or_last(rows, n, 3);
-    gather_four(index, a, b, c, d, from, to, first, last);
+    gather_four(index, f.a, f.b, f.c, f.d, from, to, first, last);
 }
 
 // All ids from start on and below end that are in all of the first n rows.

@@ -7,8 +7,8 @@ ghost use Rattle.narrowing.specs.Narrows.{Long, Keeps, HasBits, firstIn,
 ghost use Rattle.narrowing.specs.TupleRows.{Within, Spans, four, inRows};
 use super::between;
 use super::rows::Rows;
+use super::rows::four_of;
 use super::rows::in_rows;
-use super::rows::row_or_last;
 use layout::wide;
 use live::Words;
 use value_index::Index;
@@ -88,14 +88,11 @@ fn keep_middle(
     if n == 0 || 4 < n {
         return keep_all(index, rows, n, words, from, to);
     }
-    let a = row_or_last(rows, n, 0);
-    let b = row_or_last(rows, n, 1);
+    let f = four_of(rows, n);
     if n <= 2 {
-        return keep_four(index, a, b, b, b, words, from, to);
+        return keep_four(index, f.a, f.b, f.b, f.b, words, from, to);
     }
-    let c = row_or_last(rows, n, 2);
-    let d = row_or_last(rows, n, 3);
-    keep_four(index, a, b, c, d, words, from, to)
+    keep_four(index, f.a, f.b, f.c, f.d, words, from, to)
 }
 
 // Of the ids from start on and below end, those that are not in all of the first n rows are dead, and every other bit stays.

@@ -8,7 +8,7 @@ ghost use Rattle.layout.specs.Loan.{entry, exit};
 ghost use Rattle.layout.specs.Setting.{lists, networkIn};
 ghost use Rattle.value_index.specs.Plan.{maxDigits, rowWords, ColumnRows, SoundPlan};
 ghost use Rattle.narrowing.specs.Narrows.{Long, HasBits, Seeks};
-ghost use Rattle.narrowing.specs.TupleRows.{tupleRows, HasRows, ValueRow, Adds, FirstRows, RowOf, ColumnRow, SharedRow, RowFor, rowOrLast, Within, Spans, both, BitsInRows, Apart, NextInRows, LiveBetween};
+ghost use Rattle.narrowing.specs.TupleRows.{tupleRows, HasRows, ValueRow, Adds, FirstRows, RowOf, ColumnRow, SharedRow, RowFor, rowOrLast, FourOf, Within, Spans, both, BitsInRows, Apart, NextInRows, LiveBetween};
 use super::between;
 use super::columns::Columns;
 use layout::Starts;
@@ -34,6 +34,14 @@ pub const TUPLE_ROWS: usize = MAX_WIDTH * MAX_DIGITS;
 
 // The words of the index at which rows begin.
 pub type Rows = [u16; TUPLE_ROWS];
+
+// Where four rows begin.
+pub struct Four {
+    pub a: usize,
+    pub b: usize,
+    pub c: usize,
+    pub d: usize,
+}
 
 // Behind the first n rows those of the value are put, among the rows that begin at `start`, which is 0 if there are none. How many there
 // are then.
@@ -155,7 +163,7 @@ pub fn rows_for(
 }
 
 // Where row k begins, or the last of the first n rows where they are fewer.
-pub fn row_or_last(rows: &Rows, n: usize, k: usize) -> usize
+fn row_or_last(rows: &Rows, n: usize, k: usize) -> usize
     requires { ⌜ (0 < n) × (n ≤ tupleRows) ⌝ }
     ensures { λ a. ⌜ a ≡ rowOrLast (entry rows) n k ⌝ }
 {
@@ -163,6 +171,18 @@ pub fn row_or_last(rows: &Rows, n: usize, k: usize) -> usize
         return wide(rows[k]);
     }
     wide(rows[n - 1])
+}
+
+// One to four rows as four.
+pub fn four_of(rows: &Rows, n: usize) -> Four
+    requires { ⌜ (0 < n) × (n ≤ tupleRows) ⌝ }
+    ensures { λ f. ⌜ FourOf (entry rows) n f ⌝ }
+{
+    let a = row_or_last(rows, n, 0);
+    let b = row_or_last(rows, n, 1);
+    let c = row_or_last(rows, n, 2);
+    let d = row_or_last(rows, n, 3);
+    Four { a, b, c, d }
 }
 
 // Of word i, the ids that are in all of the first n rows.

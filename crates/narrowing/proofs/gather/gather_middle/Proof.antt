@@ -1,76 +1,58 @@
 -- `gather_middle` is `gather_four` of one to four rows, and `gather_all` of others.
--- From the contracts of these and of `row_or_last`, and the laws of one to four rows as four.
+-- From the contracts of these and of `four_of`, and the laws of one to four rows as four.
 use Prim.Native.Nat.{_*_, _≤_, _<_}
 use native.Mathlib.Omega.{arith}
 use borrow.Author.Tests.{ltb-false}
-use Rattle.narrowing.specs.TupleRows.{tupleRows, four, inRows}
+use Rattle.narrowing.specs.TupleRows.{four, inRows}
 use Rattle.narrowing.proofs.Gathered.{joins-as}
-use Rattle.narrowing.proofs.TupleRows.{last-again, four-within, four-rows}
+use Rattle.narrowing.proofs.TupleRows.{two-of, four-within, four-rows}
 use Rattle.narrowing.proofs.gather.gather_middle.Statement.{statement}
 use Rattle.narrowing.proofs.gather.gather_middle.Tie as tie
 
 -- ---- One to four rows
 
-module _ (c : tie.Else2) where
+module _ (c : tie.After-four-of) where
   abbrev start : tie.Start
-  start = c .before .before
+  start = c .before .before .before
 
   some : 0 < start .args .n
-  some = omega (arith, c .before .if1 .left)
+  some = omega (arith, c .before .before .if1 .left)
 
   few : start .args .n ≤ 4
-  few = ltb-false 4 (start .args .n) (c .if2 .left)
-
-  asked : (0 < start .args .n) × (start .args .n ≤ tupleRows)
-  asked = (some, start .pre .1 .0 .few)
+  few = ltb-false 4 (start .args .n) (c .before .if2 .left)
 
 gather-four-requires : tie.Need-gather-four-requires
 gather-four-requires c κs =
     let t = c .before in
-    let r2 = t .before in
-    let r1 = r2 .before in
-    let e = r1 .before in
-    let s = start e in
-    let third = last-again (s .args .rows .now) (s .args .n) 1 2 _ (t .if3 .taken) (omega (arith, t .if3 .taken)) (r2 .row-or-last2 .ensures) in
-    let fourth = last-again (s .args .rows .now) (s .args .n) 1 3 _ (t .if3 .taken) (few e) (r2 .row-or-last2 .ensures) in
-    (s .pre .0, (four-within (s .args .index .now) (s .args .rows .now) (s .args .n) _ _ _ _ (some e) (few e) (r1 .row-or-last .ensures) (r2 .row-or-last2 .ensures) third fourth (s .pre .1 .0), s .pre .1 .1))
+    let f = t .before in
+    let s = start f in
+    (s .pre .0, (four-within (s .args .index .now) (two-of (t .if3 .taken) (f .four-of .ensures)) (some f) (few f) (s .pre .1 .0), s .pre .1 .1))
 
 returns-2 : tie.Need-returns-2
 returns-2 c =
     let t = c .before .before in
-    let r2 = t .before in
-    let r1 = r2 .before in
-    let e = r1 .before in
-    let a = start e .args in
-    let b = r2 .row-or-last2 .result in
-    let third = last-again (a .rows .now) (a .n) 1 2 _ (t .if3 .taken) (omega (arith, t .if3 .taken)) (r2 .row-or-last2 .ensures) in
-    let fourth = last-again (a .rows .now) (a .n) 1 3 _ (t .if3 .taken) (few e) (r2 .row-or-last2 .ensures) in
-    let test = inRows (a .index .now) (four (r1 .row-or-last .result) b b b) 4 in
+    let f = t .before in
+    let r = f .four-of .result in
+    let a = start f .args in
+    let test = inRows (a .index .now) (four (r .a) (r .b) (r .b) (r .b)) 4 in
     joins-as test (a .from .now) (inRows (a .index .now) (a .rows .now) (a .n)) (64 * a .first) (64 * a .last) (a .to .now) _
-    (four-rows (a .index .now) (a .rows .now) (a .n) _ _ _ _ (some e) (few e) (r1 .row-or-last .ensures) (r2 .row-or-last2 .ensures) third fourth)
+    (four-rows (a .index .now) (two-of (t .if3 .taken) (f .four-of .ensures)) (some f) (few f))
     (c .gather-four .ensures)
 
 gather-four-requires-2 : tie.Need-gather-four-requires-2
 gather-four-requires-2 c κs =
-    let r4 = c .before in
-    let r3 = r4 .before in
-    let r2 = r3 .before .before in
-    let r1 = r2 .before in
-    let e = r1 .before in
-    let s = start e in
-    (s .pre .0, (four-within (s .args .index .now) (s .args .rows .now) (s .args .n) _ _ _ _ (some e) (few e) (r1 .row-or-last .ensures) (r2 .row-or-last2 .ensures) (r3 .row-or-last3 .ensures) (r4 .row-or-last4 .ensures) (s .pre .1 .0), s .pre .1 .1))
+    let f = c .before .before in
+    let s = start f in
+    (s .pre .0, (four-within (s .args .index .now) (f .four-of .ensures) (some f) (few f) (s .pre .1 .0), s .pre .1 .1))
 
 returns-3 : tie.Need-returns-3
 returns-3 c =
-    let r4 = c .before .before in
-    let r3 = r4 .before in
-    let r2 = r3 .before .before in
-    let r1 = r2 .before in
-    let e = r1 .before in
-    let a = start e .args in
-    let test = inRows (a .index .now) (four (r1 .row-or-last .result) (r2 .row-or-last2 .result) (r3 .row-or-last3 .result) (r4 .row-or-last4 .result)) 4 in
+    let f = c .before .before .before in
+    let r = f .four-of .result in
+    let a = start f .args in
+    let test = inRows (a .index .now) (four (r .a) (r .b) (r .c) (r .d)) 4 in
     joins-as test (a .from .now) (inRows (a .index .now) (a .rows .now) (a .n)) (64 * a .first) (64 * a .last) (a .to .now) _
-    (four-rows (a .index .now) (a .rows .now) (a .n) _ _ _ _ (some e) (few e) (r1 .row-or-last .ensures) (r2 .row-or-last2 .ensures) (r3 .row-or-last3 .ensures) (r4 .row-or-last4 .ensures))
+    (four-rows (a .index .now) (f .four-of .ensures) (some f) (few f))
     (c .gather-four2 .ensures)
 
 pub gather-middle-spec : {M : Type 1} → statement M
@@ -79,11 +61,8 @@ gather-middle-spec =
     (tie.spec
     (λ c κs. c .before .before .pre)
     (λ c. c .gather-all .ensures)
-    (λ c κs. asked c)
-    (λ c κs. asked (c .before))
+    (λ c κs. (omega (arith, c .before .if1 .left), c .before .before .pre .1 .0 .few))
     gather-four-requires
     returns-2
-    (λ c κs. asked (c .before .before .before))
-    (λ c κs. asked (c .before .before .before .before))
     gather-four-requires-2
     returns-3)
