@@ -1,5 +1,5 @@
 // The first support of a tuple, sought member by member with forward checking: after each choice the members still to come are narrowed to
-// the tuples that may agree with it.
+// the tuples that may agree with it, but for the last one, whose tuples are tried at once.
 ghost use mathlib.Core.Path.{_≡_};
 ghost use mathlib.Core.Bool.{true};
 ghost use Prim.Native.Nat.{_+_, _<_};
