@@ -16,7 +16,7 @@ use Rattle.model.proofs.Network.{ids-apart}
 use Rattle.model.proofs.LiveWords.{nextLive-first}
 use Rattle.layout.specs.Starts.{tupleStart}
 use Rattle.layout.specs.Setting.{Lists, networkIn, SoundLists}
-use Rattle.layout.proofs.SoundStarts.{ids-few, ids-within}
+use Rattle.layout.proofs.SoundStarts.{tuple-start, tuple-end, ids-few, ids-within}
 use Rattle.value_index.specs.Index.{Indexed}
 use Rattle.narrowing.specs.Narrows.{stays, KeptIds, NoneLive, Agreeing, Dead, Narrowed, HasBits}
 use Rattle.narrowing.proofs.Words.{stays-before, stays-behind}
@@ -27,6 +27,20 @@ use Rattle.narrowing.proofs.Words.{stays-before, stays-behind}
 pub ids-have-bits : {L : Lists} → SoundLists L → {index : List ℕ} → Indexed (networkIn L) index → (s end : ℕ) → s < 64 → end ≡ tupleStart (L .starts) (s + 1) → HasBits index end
 ids-have-bits laid indexed s end h e =
     (omega (arith, e, ids-within (laid .framed) s h, indexed .bits), omega (arith, e, ids-few (laid .framed) s h))
+
+-- The ids of relation s begin at `from` and end at `to`, and have their bits there.
+pub record IdsOf (N : Network) (index : List ℕ) (s from to : ℕ) : Type 0 where
+  pub begin : from ≡ firstId N s
+  pub stop : to ≡ firstId N s + size N s
+  pub bits : HasBits index to
+
+pub ids-of : {L : Lists} → SoundLists L → {index : List ℕ} → Indexed (networkIn L) index → (s from to : ℕ) → s < 64 → from ≡ tupleStart (L .starts) s → to ≡ tupleStart (L .starts) (s + 1) → IdsOf (networkIn L) index s from to
+ids-of laid indexed s from to h ef et =
+    record {
+      begin = ef ∙ tuple-start (laid .framed) s (omega arith);
+      stop = et ∙ tuple-end (laid .framed) s h;
+      bits = ids-have-bits laid indexed s to h et;
+    }
 
 pub agreeing-none : (N : Network) (r x s : ℕ) (ws : List ℕ) → Agreeing N r x s ws ws
 agreeing-none N r x s ws = record { inside = λ g e. e; outside = λ g o. refl; keeps = λ z h a e. e }

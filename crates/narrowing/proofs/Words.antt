@@ -18,7 +18,8 @@ use Rattle.model.proofs.LiveWords.{isLive-at}
 use Rattle.live.proofs.Bits.{isSet-high, isSet-not, isSet-and, isSet-or, one-shl, le-or}
 use Rattle.live.proofs.Stores.{isLive-set-same, isLive-set-other}
 use Rattle.value_index.specs.Index.{rowBit}
-use Rattle.narrowing.specs.Narrows.{Long, stays, Kept, KeptIds, firstIn, endIn, Keeps, BitsBetween}
+use Rattle.narrowing.specs.Narrows.{Long, stays, Kept, KeptIds, firstIn, endIn, Keeps, BitsBetween, HasBits}
+use Rattle.narrowing.specs.TupleRows.{Spans}
 
 -- ---- The ids below a bound
 
@@ -76,6 +77,9 @@ pub record Edges (start end i last : ℕ) : Type 0 where
   pub some : start < end
   pub first : i ≡ start / 64
   pub final : last ≡ (end - 1) / 64
+
+pub edges-span : (index : List ℕ) {start end i last : ℕ} → Edges start end i last → HasBits index end → Spans index (last + 1)
+edges-span index e bits = (omega (arith, e, bits .1), omega (arith, e, bits .0))
 
 module _ {start end i last : ℕ} (e : Edges start end i last) where
   pub edges-rise : i ≤ last

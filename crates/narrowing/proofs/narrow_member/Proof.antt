@@ -9,12 +9,10 @@ use borrow.Author.Needs.{needs}
 use borrow.Author.Tests.{ltb-false, eqb-true, not-false}
 use Rattle.model.specs.Network.{size, firstId}
 use Rattle.layout.specs.Setting.{Lists, networkIn, SoundLists}
-use Rattle.layout.proofs.SoundStarts.{tuple-start, tuple-end}
 use Rattle.layout.proofs.Places.{below-limit}
-use Rattle.narrowing.specs.Narrows.{HasBits}
 use Rattle.narrowing.specs.TupleRows.{inRows}
 use Rattle.narrowing.proofs.TupleRows.{rows-for-within, agreeing-rows}
-use Rattle.narrowing.proofs.Narrowing.{ids-have-bits, agreeing-none, kept-agreeing, dead-none, dead-past}
+use Rattle.narrowing.proofs.Narrowing.{IdsOf, ids-of, agreeing-none, kept-agreeing, dead-none, dead-past}
 use Rattle.narrowing.proofs.narrow_member.Statement.{statement}
 use Rattle.narrowing.proofs.narrow_member.Tie as tie
 
@@ -37,21 +35,15 @@ module _ (c : tie.After-tuple-start2) where
   abbrev to-id : ℕ
   to-id = c .tuple-start2 .result
 
-  from-is : from-id ≡ firstId (networkIn L) s
-  from-is = c .before .tuple-start .ensures ∙ tuple-start (laid .framed) s (omega (arith, start .pre .1 .1))
-
-  to-is : to-id ≡ firstId (networkIn L) s + size (networkIn L) s
-  to-is = c .tuple-start2 .ensures ∙ tuple-end (laid .framed) s (start .pre .1 .1)
-
-  has-bits : HasBits (start .args .index .now) to-id
-  has-bits = ids-have-bits laid (start .pre .1 .0 .indexed) s _ (start .pre .1 .1) (c .tuple-start2 .ensures)
+  own-ids : IdsOf (networkIn L) (start .args .index .now) s from-id to-id
+  own-ids = ids-of laid (start .pre .1 .0 .indexed) s _ _ (start .pre .1 .1) (c .before .tuple-start .ensures) (c .tuple-start2 .ensures)
 
   -- the relation of the tuple
   own : start .args .r ≤ 63
   own = omega (arith, below-limit laid (start .args .r) (start .args .x) (start .pre .1 .0 .own))
 
   bounds : (from-id ≤ to-id) × (to-id ≤ 64 * length (start .args .words .now)) × (to-id ≤ 4096)
-  bounds = (omega (arith, from-is, to-is), omega (arith, has-bits .1, start .pre .0), has-bits .1)
+  bounds = (omega (arith, own-ids), omega (arith, own-ids .bits .1, start .pre .0), own-ids .bits .1)
 
 -- they share no variable
 returns : tie.Need-returns
@@ -64,7 +56,7 @@ returns c =
         agreeing-none N (a .r) (a .x) (a .s) (a .words .now),
         λ e.
             let l = ltb-false (c .next .result) (to-id w) e in
-            dead-past N (a .s) (from-id w) (to-id w) (from-is w) (to-is w) (a .words .now) (omega (arith, l, c .next .ensures)),
+            dead-past N (a .s) (from-id w) (to-id w) (own-ids w .begin) (own-ids w .stop) (a .words .now) (omega (arith, l, c .next .ensures)),
       ),
     )
 
@@ -76,7 +68,7 @@ keep-rows-requires c κs =
     let found = c .before .before in
     let w = ids found in
     let p = start w .pre in
-    (p .0, (rows-for-within (laid w) (p .1 .0 .indexed) (start w .args .r) (start w .args .x) (s w) (p .1 .1) (found .rows-for .ensures), has-bits w))
+    (p .0, (rows-for-within (laid w) (p .1 .0 .indexed) (start w .args .r) (start w .args .x) (s w) (p .1 .1) (found .rows-for .ensures), own-ids w .bits))
 
 returns-2 : tie.Need-returns-2
 returns-2 c =
@@ -90,10 +82,10 @@ returns-2 c =
     let kept = c .keep-rows .ensures in (
       kept .long,
       (
-        kept-agreeing N (a .s) (from-id w) (to-id w) (from-is w) (to-is w) (a .r) (a .x) (inRows (a .index .now) rows (found .rows-for .result)) (a .words .now) _
+        kept-agreeing N (a .s) (from-id w) (to-id w) (own-ids w .begin) (own-ids w .stop) (a .r) (a .x) (inRows (a .index .now) rows (found .rows-for .result)) (a .words .now) _
             (λ z h g. agreeing-rows (laid w) (p .1 .0 .indexed) (a .r) (a .x) (a .s) z (p .1 .0 .own) h g (found .rows-for .ensures))
             (kept .kept),
-        λ e. dead-none N (a .s) (from-id w) (to-id w) (from-is w) (to-is w) _ (kept .none (eqb-true left 0 (not-false (eqb left 0) e))),
+        λ e. dead-none N (a .s) (from-id w) (to-id w) (own-ids w .begin) (own-ids w .stop) _ (kept .none (eqb-true left 0 (not-false (eqb left 0) e))),
       ),
     )
 

@@ -1,16 +1,12 @@
 -- `gather` joins the relation's ids that are in all rows of the tuple's values.
 -- From what `rows_for` and `gather_rows` ensure, the laws of a relation's ids, and the law that whatever agrees is in all these rows.
-use mathlib.Core.Path.{_≡_, _∙_}
-use Prim.Native.Nat.{ℕ, _+_}
+use Prim.Native.Nat.{ℕ}
 use native.Mathlib.Omega.{arith}
 use borrow.Author.Needs.{needs}
-use Rattle.model.specs.Network.{size, firstId}
 use Rattle.layout.specs.Setting.{Lists, networkIn, SoundLists}
-use Rattle.layout.proofs.SoundStarts.{tuple-start, tuple-end}
-use Rattle.narrowing.specs.Narrows.{HasBits}
 use Rattle.narrowing.specs.TupleRows.{inRows}
 use Rattle.narrowing.proofs.TupleRows.{rows-for-within, agreeing-rows}
-use Rattle.narrowing.proofs.Narrowing.{ids-have-bits}
+use Rattle.narrowing.proofs.Narrowing.{IdsOf, ids-of}
 use Rattle.narrowing.proofs.Gathered.{joins-gathers}
 use Rattle.narrowing.proofs.gather.gather.Statement.{statement}
 use Rattle.narrowing.proofs.gather.gather.Tie as tie
@@ -28,14 +24,8 @@ module _ (c : tie.After-tuple-start2) where
   abbrev s : ℕ
   s = start .args .s
 
-  from-is : c .before .tuple-start .result ≡ firstId (networkIn L) s
-  from-is = c .before .tuple-start .ensures ∙ tuple-start (laid .framed) s (omega (arith, start .pre .1 .1))
-
-  to-is : c .tuple-start2 .result ≡ firstId (networkIn L) s + size (networkIn L) s
-  to-is = c .tuple-start2 .ensures ∙ tuple-end (laid .framed) s (start .pre .1 .1)
-
-  has-bits : HasBits (start .args .index .now) (c .tuple-start2 .result)
-  has-bits = ids-have-bits laid (start .pre .1 .0 .indexed) s _ (start .pre .1 .1) (c .tuple-start2 .ensures)
+  own-ids : IdsOf (networkIn L) (start .args .index .now) s (c .before .tuple-start .result) (c .tuple-start2 .result)
+  own-ids = ids-of laid (start .pre .1 .0 .indexed) s _ _ (start .pre .1 .1) (c .before .tuple-start .ensures) (c .tuple-start2 .ensures)
 
 abbrev ids : tie.After-rows-for → tie.After-tuple-start2
 ids c = c .before .before
@@ -45,7 +35,7 @@ gather-rows-requires c κs =
     let found = c .before .before in
     let w = ids found in
     let p = start w .pre in
-    (p .0, (rows-for-within (laid w) (p .1 .0 .indexed) (start w .args .r) (start w .args .x) (s w) (p .1 .1) (found .rows-for .ensures), has-bits w))
+    (p .0, (rows-for-within (laid w) (p .1 .0 .indexed) (start w .args .r) (start w .args .x) (s w) (p .1 .1) (found .rows-for .ensures), own-ids w .bits))
 
 returns : tie.Need-returns
 returns c =
@@ -55,7 +45,7 @@ returns c =
     let a = start w .args in
     let rows = found .rows-for .last .1 .1 .1 .1 .1 .1 .1 .0 in (
       c .gather-rows .ensures .long,
-      joins-gathers (networkIn (L w)) (a .r) (a .x) (a .s) (w .before .tuple-start .result) (w .tuple-start2 .result) (from-is w) (to-is w) (inRows (a .index .now) rows (found .rows-for .result)) (a .from .now) (a .to .now) _
+      joins-gathers (networkIn (L w)) (a .r) (a .x) (a .s) (w .before .tuple-start .result) (w .tuple-start2 .result) (own-ids w .begin) (own-ids w .stop) (inRows (a .index .now) rows (found .rows-for .result)) (a .from .now) (a .to .now) _
           (λ z h g. agreeing-rows (laid w) (p .1 .0 .indexed) (a .r) (a .x) (a .s) z (p .1 .0 .own) h g (found .rows-for .ensures))
           (c .gather-rows .ensures),
     )

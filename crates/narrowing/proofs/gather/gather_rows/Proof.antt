@@ -5,9 +5,8 @@ use mathlib.Core.Bool.{Bool}
 use Prim.Native.Nat.{ℕ, _+_, _/_, _≤_}
 use native.Mathlib.Omega.{arith}
 use borrow.Author.Needs.{needs}
-use Rattle.value_index.specs.Plan.{rowWords}
-use Rattle.narrowing.specs.TupleRows.{inRows}
-use Rattle.narrowing.proofs.Words.{Edges, edges-rise}
+use Rattle.narrowing.specs.TupleRows.{Spans, inRows}
+use Rattle.narrowing.proofs.Words.{Edges, edges-span, edges-rise}
 use Rattle.narrowing.proofs.Gathered.{joins-none, joins-only, joins-edges}
 use Rattle.narrowing.proofs.gather.gather_rows.Statement.{statement}
 use Rattle.narrowing.proofs.gather.gather_rows.Tie as tie
@@ -29,8 +28,8 @@ module _ (c : tie.After-wide2) where
   edges : Edges (start .args .start) (start .args .end) i last
   edges = record { some = c .before .before .if1 .left; first = omega (arith, c .before .wide .ensures .0); final = omega (arith, c .wide2 .ensures .0) }
 
-  spans : (last + 1 ≤ 64) × (last + 1 ≤ rowWords (start .args .index .now))
-  spans = (omega (arith, edges, start .pre .1 .1 .1), omega (arith, edges, start .pre .1 .1 .0))
+  spans : Spans (start .args .index .now) (last + 1)
+  spans = edges-span (start .args .index .now) edges (start .pre .1 .1)
 
 returns : tie.Need-returns
 returns c = let a = c .before .args in joins-none (inRows (a .index .now) (a .rows .now) (a .n)) (a .from .now) (a .start) (a .end) (a .to .now) (c .if1 .taken) (c .before .pre .0 .1)
