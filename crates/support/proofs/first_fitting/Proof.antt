@@ -15,10 +15,8 @@ use Rattle.model.specs.LiveWords.{isLive}
 use Rattle.model.proofs.Bools.{not-both}
 use Rattle.model.proofs.Lists.{here}
 use Rattle.layout.specs.Setting.{Lists, networkIn}
-use Rattle.layout.proofs.SoundStarts.{tuple-start, tuple-end}
-use Rattle.narrowing.specs.Narrows.{HasBits}
 use Rattle.narrowing.specs.TupleRows.{FirstRows, RowFor, Within, inRows, NextInRows}
-use Rattle.narrowing.proofs.Narrowing.{ids-have-bits}
+use Rattle.narrowing.proofs.Narrowing.{IdsOf, ids-of}
 use Rattle.narrowing.proofs.TupleRows.{rows-for-within, agreeing-rows}
 use Rattle.support.specs.Search.{idAt, chosenIds, fits, FittingAt, ComesFrom, FirstFitting}
 use Rattle.support.proofs.Chosen.{chosen-mem, fits-clash}
@@ -118,14 +116,8 @@ module _ (l : tie.After-tuple-start2 Inv-loop μ-loop) where
   abbrev r : ℕ
   r = getD (begun .args .members .now) (begun .args .k) 0
 
-  first-is : l .before .tuple-start .result ≡ firstId net r
-  first-is = l .before .tuple-start .ensures ∙ tuple-start (asked begun .trials .laid .framed) r (omega (arith, asked begun .trials .relation))
-
-  end-is : l .tuple-start2 .result ≡ firstId net r + size net r
-  end-is = l .tuple-start2 .ensures ∙ tuple-end (asked begun .trials .laid .framed) r (asked begun .trials .relation)
-
-  has-bits : HasBits (begun .args .index .now) (l .tuple-start2 .result)
-  has-bits = ids-have-bits (asked begun .trials .laid) (asked begun .indexed) r (l .tuple-start2 .result) (asked begun .trials .relation) (l .tuple-start2 .ensures)
+  own-ids : IdsOf net (begun .args .index .now) r (l .before .tuple-start .result) (l .tuple-start2 .result)
+  own-ids = ids-of (asked begun .trials .laid) (asked begun .indexed) r _ _ (asked begun .trials .relation) (l .before .tuple-start .ensures) (l .tuple-start2 .ensures)
 
 module _ (c : tie.After-rows-for Inv-loop μ-loop) where
   abbrev read : tie.After-tuple-start2 Inv-loop μ-loop
@@ -145,7 +137,7 @@ prepared l = l .before .before .before
 
 -- the index of the tuple that is tried
 tried : (l : tie.In-loop Inv-loop μ-loop) → let b = read (prepared (l .before)) in l .before .loop .g - b .before .tuple-start .result ≡ l .before .loop .g - firstId (net b) (r b)
-tried l = ap (λ (n : ℕ). l .before .loop .g - n) (first-is (read (prepared (l .before))))
+tried l = ap (λ (n : ℕ). l .before .loop .g - n) (own-ids (read (prepared (l .before))) .begin)
 
 passed : (l : tie.At-loop Inv-loop μ-loop) → Passed (asked (begun (read (prepared l)))) (begun (read (prepared l)) .args .words .now) (l .loop .g)
 passed l = l .loop .inv (asked (begun (read (prepared l))))
@@ -154,7 +146,7 @@ fits-requires : tie.Need-fits-requires Inv-loop μ-loop
 fits-requires l κs =
     let b = read (prepared (l .before)) in
     asked (begun b) .trials .each (l .before .loop .g - b .before .tuple-start .result)
-    (omega (arith, l .loop-test .taken, end-is b, first-is b, passed (l .before) .comes .from-first))
+    (omega (arith, l .loop-test .taken, own-ids b, passed (l .before) .comes .from-first))
 
 returns : tie.Need-returns Inv-loop μ-loop
 returns c =
@@ -178,20 +170,20 @@ next-in-rows-requires : tie.Need-next-in-rows-requires Inv-loop μ-loop
 next-in-rows-requires c κs =
     let w = c .before in
     let b = read w in
-    ((begun b .pre .0, within w), (has-bits b, omega (arith, asked (begun b) .to-end, end-is b)))
+    ((begun b .pre .0, within w), (own-ids b .bits, omega (arith, asked (begun b) .to-end, own-ids b .stop)))
 
 next-in-rows-requires-2 : tie.Need-next-in-rows-requires-2 Inv-loop μ-loop
 next-in-rows-requires-2 c κs =
     let l = c .before .before .before in
     let w = prepared (l .before) in
     let b = read w in
-    ((begun b .pre .0, within w), (has-bits b, omega (arith, l .loop-test .taken)))
+    ((begun b .pre .0, within w), (own-ids b .bits, omega (arith, l .loop-test .taken)))
 
 loop-holds : tie.Need-loop-holds Inv-loop μ-loop
 loop-holds c P =
     let w = c .before .before in
     let b = read w in
-    passed-first P (found w) (b .tuple-start2 .result) (end-is b) (c .next-in-rows .result) (c .next-in-rows .ensures)
+    passed-first P (found w) (b .tuple-start2 .result) (own-ids b .stop) (c .next-in-rows .result) (c .next-in-rows .ensures)
 
 module _ (c : tie.After-next-in-rows2 Inv-loop μ-loop) where
   abbrev inner : tie.In-loop Inv-loop μ-loop
@@ -207,7 +199,7 @@ loop-again c P =
     let l = inner c .before in
     let w = prepared l in
     let b = read w in
-    passed-next P (found w) (b .tuple-start2 .result) (end-is b) (l .loop .g) (c .next-in-rows2 .result) (l .loop .inv P) (clashes c) (c .next-in-rows2 .ensures)
+    passed-next P (found w) (b .tuple-start2 .result) (own-ids b .stop) (l .loop .g) (c .next-in-rows2 .result) (l .loop .inv P) (clashes c) (c .next-in-rows2 .ensures)
 
 loop-less : tie.Need-loop-less Inv-loop μ-loop
 loop-less c = let f = c .next-in-rows2 .ensures in omega (arith, f .from-on, f .to-end, inner c .loop-test .taken)
@@ -218,7 +210,7 @@ returns-2 c =
     record {
       comes = p .comes;
       from-on = p .from-on;
-      fitting = λ h. absurd (omega (arith, c .loop-test .left, end-is (read (prepared (c .before)))));
+      fitting = λ h. absurd (omega (arith, c .loop-test .left, own-ids (read (prepared (c .before))) .stop));
       none-before = p .none-before;
     }
 
@@ -236,10 +228,10 @@ first-fitting-spec =
     rows-for-requires
     next-in-rows-requires
     loop-holds
-    (λ l. omega (arith, first-is (read (prepared (l .before))), passed (l .before) .comes .from-first))
+    (λ l. omega (arith, own-ids (read (prepared (l .before))) .begin, passed (l .before) .comes .from-first))
     fits-requires
     returns
-    (λ c. let l = c .before .before .before in omega (arith, l .loop-test .taken, has-bits (read (prepared (l .before))) .1))
+    (λ c. let l = c .before .before .before in omega (arith, l .loop-test .taken, own-ids (read (prepared (l .before))) .bits .1))
     next-in-rows-requires-2
     loop-less
     loop-again
