@@ -564,8 +564,8 @@ fn comb(
     }
 }
 
-// The first support at or after `low` that has the tuples chosen for the members before k, which is not the last. Where it is hard to find, the members from k on are
-// narrowed through each other. An eager search takes it for hard.
+// The first support at or after `low` that has the tuples chosen for the members before k, which is not the last. Where it is hard to
+// find, the members from k on are narrowed through each other. An eager search takes it for hard.
 fn search(
     variables: &[u16],
     values: &[Value],
