@@ -78,7 +78,7 @@ fn gather_all(
     }
 }
 
-// The same, by the one or the other: one to four rows as four, where the last stands for those that are missing.
+// The same, by the one or the other: one to four rows as four, where the last stands for those that are missing. Of two no third is read.
 fn gather_middle(
     index: &Index,
     rows: &Rows,

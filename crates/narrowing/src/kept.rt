@@ -73,7 +73,7 @@ fn keep_all(index: &Index, rows: &Rows, n: usize, words: &mut Words, from: usize
     any
 }
 
-// The same, by the one or the other: one to four rows as four, where the last stands for those that are missing.
+// The same, by the one or the other: one to four rows as four, where the last stands for those that are missing. Of two no third is read.
 fn keep_middle(
     index: &Index,
     rows: &Rows,
