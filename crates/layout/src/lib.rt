@@ -3,12 +3,13 @@ ghost use mathlib.Core.Path.{_≡_};
 ghost use Prim.Native.Nat.{_<_};
 ghost use Rattle.model.specs.Limits.{maxRelations};
 ghost use Rattle.model.specs.Network.{total, relationOf};
-ghost use Rattle.model.specs.Agreement.{fit};
+ghost use Rattle.model.specs.Agreement.{isAny, fit};
 ghost use Rattle.layout.specs.Loan.{entry};
 ghost use Rattle.layout.specs.Shape.{relationsOf};
 ghost use Rattle.layout.specs.Starts.{table, entryBound, variableStart, tupleStart, valueStart, relationCount, startsOf, outline, Bounded, SoundStarts};
 ghost use Rattle.layout.specs.Places.{placeAt};
 ghost use Rattle.layout.specs.Columns.{columnOf};
+use model::ANY_VALUE;
 use model::MAX_RELATIONS;
 use model::Value;
 
@@ -42,11 +43,18 @@ pub fn wide(x: u16) -> usize
     x as usize
 }
 
+// Whether the value stands for every value.
+pub fn is_any(value: Value) -> bool
+    ensures { λ r. ⌜ r ≡ isAny value ⌝ }
+{
+    value == ANY_VALUE
+}
+
 // Whether two values fit.
 pub fn fit(a: Value, b: Value) -> bool
     ensures { λ r. ⌜ r ≡ fit a b ⌝ }
 {
-    a == b
+    (a == b) | (is_any(a) | is_any(b))
 }
 
 // Where relation r's variables begin; those of the one before it end there.

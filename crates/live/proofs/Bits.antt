@@ -40,6 +40,9 @@ pub isSet-high : (w n j : ℕ) → w < 2 ^ n → n ≤ j → isSet w j ≡ false
 unfolding isSet bit
 isSet-high w n j h l = rw (div-eq-of-lt (lt-of-lt-of-le h (pow-mono l)))
 
+pub isSet-nought : (j : ℕ) → isSet 0 j ≡ false
+isSet-nought j = isSet-high 0 0 j (omega arith) (omega arith)
+
 pub isSet-below : (w n j : ℕ) → w < 2 ^ n → isSet w j ≡ true → j < n
 isSet-below w n j h e = lt-of-not-le (λ (l : n ≤ j). not-both e (isSet-high w n j h l))
 
@@ -192,3 +195,9 @@ and-none a b j e f z =
 -- `a | b` is no less than `a`
 pub le-or : (a b : ℕ) → a ≤ bitOr a b
 le-or a b = omega (arith, or-add-and a b, and-le-r a b)
+
+-- no bit is set in the one word nor in the other
+pub or-none : (a b : ℕ) → bitOr a b ≡ 0 → (a ≡ 0) × (b ≡ 0)
+or-none a b e =
+    let z : a ≡ 0 = omega (arith, le-or a b) in
+    (z, omega (arith, or-add-and a b, and-le-l a b))

@@ -1,7 +1,7 @@
 -- Laws of agreement: where two tuples clash, and that they agree exactly if no cell of the one, at whatever place, clashes with a cell
 -- of the other. From the definitions alone; the laws of `fit` and `clash` are all that code needs to know of when values fit.
-use mathlib.Core.Path.{_≡_, refl, sym, _∙_, ap, ap₂}
-use mathlib.Core.Bool.{Bool, true, false, not, _&&_, _||_, or-false, false≢true}
+use mathlib.Core.Path.{_≡_, refl, sym, _∙_, ap, ap₂, subst}
+use mathlib.Core.Bool.{Bool, true, false, not, _&&_, _||_, or-false, or-comm, false≢true}
 use mathlib.Core.Option.{Option, none, some}
 use mathlib.Core.List.{List, [], _∷_, List·Memᴰ, List·Memᴰ·tail, List·Memᴰ·cases-cons, List·Memᴰ·not-nil, Memᴰ·cast, Memᴰ·map, Memᴰ·of-map}
 use mathlib.Core.Logic.{⊎-elim}
@@ -14,27 +14,37 @@ use borrow.Author.Tests.{ltb-true, eq-eqb, ne-eqb, eqb-true, not-true}
 use Rattle.model.specs.Limits.{variableCount, noVariable}
 use Rattle.model.specs.Lists.{from, all, any, pairwise, elem, select, keepIf, isNone}
 use Rattle.model.specs.Network.{Network, size, total, firstId, relationOf, scopeOf, valuesAt, tupleOf}
-use Rattle.model.specs.Agreement.{Cell, fit, cells, clash, clashes, firstClashing, agreeing, under, cellsOf, firstClash, agree, clashNumber}
+use Rattle.model.specs.Agreement.{Cell, isAny, fit, cells, clash, clashes, firstClashing, agreeing, under, cellsOf, firstClash, agree, clashNumber}
 use Rattle.model.specs.Fault.{different, properScope}
-use Rattle.model.proofs.Bools.{and-left, iff-eq, not-both, false-intro}
+use Rattle.model.proofs.Bools.{and-left, and-right, or-left, or-right, iff-eq, not-both, false-intro}
 use Rattle.model.proofs.Lists.{here, all-at, all-getD, any-at, any-intro, select-mem, mem-select, getD-mem, mem-elem, eqb-sym, mem-from, isNone-none, least-mem, least-none, none-least}
 use Rattle.model.proofs.Network.{ids-relationOf, relationOf-at, indexOf-at}
-use Rattle.model.proofs.Fault.{Faultless}
+use Rattle.model.proofs.Fault.{different-unique, Faultless}
 
 -- ---- When values fit
 
-pub fit-equal : (a b : ℕ) → fit a b ≡ true → a ≡ b
-unfolding fit
-fit-equal a b e = eqb-true a b e
-
 pub fit-sym : (a b : ℕ) → fit a b ≡ fit b a
 unfolding fit
-fit-sym a b = eqb-sym a b
+fit-sym a b = ap₂ (λ (x y : Bool). x || y) (eqb-sym a b) (or-comm (isAny a) (isAny b))
 
--- values that fit one value fit each other
-pub fit-common : (u v w : ℕ) → fit u w ≡ true → fit v w ≡ true → fit u v ≡ true
+-- any fits every value
+pub fit-any : (a b : ℕ) → isAny a ≡ true → fit a b ≡ true
 unfolding fit
-fit-common u v w e f = eq-eqb u v (eqb-true u w e ∙ sym (eqb-true v w f))
+fit-any a b e = or-right (eqb a b) (or-left (isAny b) e)
+
+-- other values fit only if equal
+pub fit-equal : (a b : ℕ) → isAny a ≡ false → isAny b ≡ false → fit a b ≡ true → a ≡ b
+unfolding fit
+fit-equal a b u v e = eqb-true a b (sym (or-false (eqb a b)) ∙ ap (λ (x : Bool). eqb a b || x) (sym (ap₂ (λ (x y : Bool). x || y) u v)) ∙ e)
+
+-- values that fit one value other than any fit each other
+pub fit-common : (u v w : ℕ) → isAny w ≡ false → fit u w ≡ true → fit v w ≡ true → fit u v ≡ true
+fit-common u v w d e f = go (isAny u) (isAny v) refl refl
+  where
+    go : (x y : Bool) → isAny u ≡ x → isAny v ≡ y → fit u v ≡ true
+    go true y p q = fit-any u v p
+    go false true p q = fit-sym u v ∙ fit-any v u q
+    go false false p q = subst (λ (z : ℕ). fit u z ≡ true) (sym (fit-equal v w q d f)) e
 
 -- ---- When cells clash
 
@@ -216,14 +226,49 @@ pub firstClash-at : (N : Network) (r x s y : ℕ) → x < size N r → y < size 
 unfolding firstClash
 firstClash-at N r x s y hx hy = ap₂ (λ (xs ys : List Cell). firstClashing xs ys) (cellsOf-at N r x hx) (cellsOf-at N s y hy)
 
--- tuples of a network without fault clash below 64
+-- ---- In a network without fault
+
+module _ (N : Network) (sound : Faultless N) (g : ℕ) (below : g < total N) where
+  scope-proper : properScope (scopeOf N (relationOf N g)) ≡ true
+  scope-proper =
+      let exists = ids-relationOf N g below .0 in
+      all-at (λ (r : ℕ). properScope (scopeOf N r)) (from 0 (length (N .relations))) (sound .scopes) (mem-from 0 (length (N .relations)) (relationOf N g) (omega arith) (omega (arith, exists)))
+
+  scope-low : all (λ (x : ℕ). ltb x variableCount) (scopeOf N (relationOf N g)) ≡ true
+  scope-low =
+      let scope = scopeOf N (relationOf N g) in
+      and-left (all (λ (x : ℕ). ltb x variableCount) scope) (pairwise different scope) scope-proper
+
+  -- a tuple's variables are below 64
+  pub cell-low : {x : Cell} → List·Memᴰ x (cellsOf N g) → x .0 < variableCount
+  unfolding cellsOf
+  cell-low m =
+      let scope = scopeOf N (relationOf N g) in
+      let k = cells-mem scope (tupleOf N g) m in
+      omega (arith, ap (λ (x : Cell). x .0) (k .2), ltb-true (getD scope (k .0) 0) variableCount (all-getD (λ (x : ℕ). ltb x variableCount) scope (k .0) 0 scope-low (k .1)))
+
+  scope-different : pairwise different (scopeOf N (relationOf N g)) ≡ true
+  scope-different =
+      let scope = scopeOf N (relationOf N g) in
+      and-right (all (λ (x : ℕ). ltb x variableCount) scope) (pairwise different scope) scope-proper
+
+  -- a variable has one value
+  pub cell-unique : {x y : Cell} → List·Memᴰ x (cellsOf N g) → List·Memᴰ y (cellsOf N g) → x .0 ≡ y .0 → x .1 ≡ y .1
+  unfolding cellsOf
+  cell-unique mx my e =
+      let scope = scopeOf N (relationOf N g) in
+      let vs = tupleOf N g in
+      let k = cells-mem scope vs mx in
+      let l = cells-mem scope vs my in
+      let same = different-unique scope (k .0) (l .0) scope-different (k .1) (l .1) (sym (ap (λ (z : Cell). z .0) (k .2)) ∙ e ∙ ap (λ (z : Cell). z .0) (l .2)) in
+      ap (λ (z : Cell). z .1) (k .2) ∙ ap (λ (j : ℕ). getD vs j 0) same ∙ sym (ap (λ (z : Cell). z .1) (l .2))
+
+-- .. so that tuples clash below 64
 pub firstClash-low : (N : Network) → Faultless N → (g h : ℕ) → g < total N → (v : ℕ) → firstClash N g h ≡ some v → v < variableCount
 unfolding firstClash cellsOf
-firstClash-low N sound g h below =
-    let scope = scopeOf N (relationOf N g) in
-    let exists = ids-relationOf N g below .0 in
-    let proper = all-at (λ (r : ℕ). properScope (scopeOf N r)) (from 0 (length (N .relations))) (sound .scopes) (mem-from 0 (length (N .relations)) (relationOf N g) (omega arith) (omega (arith, exists))) in
-    firstClashing-below scope (tupleOf N g) (cellsOf N h) (and-left (all (λ (x : ℕ). ltb x variableCount) scope) (pairwise different scope) proper)
+firstClash-low N sound g h below = firstClashing-below (scopeOf N (relationOf N g)) (tupleOf N g) (cellsOf N h) (scope-low N sound g below)
+
+-- ---- By relation and index
 
 pub agree-at : (N : Network) (r x s y : ℕ) → x < size N r → y < size N s → agree N (firstId N r + x) (firstId N s + y) ≡ agreeing (cells (scopeOf N r) (valuesAt N r x)) (cells (scopeOf N s) (valuesAt N s y))
 agree-at N r x s y hx hy = agree-cells N (firstId N r + x) (firstId N s + y) ∙ ap₂ agreeing (cellsOf-at N r x hx) (cellsOf-at N s y hy)

@@ -7,10 +7,11 @@ use mathlib.Core.List.{List, [], _∷_, _++_, map, List·Memᴰ, List·Memᴰ·t
 use mathlib.Core.Logic.{⊎-elim}
 use Prim.Native.Nat.{ℕ, _*_, _≤_, _<_}
 use native.Mathlib.Omega.{arith}
+use native.Mathlib.Decide.{decLt}
 use native.Mathlib.Nat.{mul-le-mul-right}
 use lib.Dec.{leb, ltb, eqb}
-use lib.ListN.{length}
-use borrow.Author.Tests.{ltb-true, ltb-false, leb-true, eqb-true, not-false}
+use lib.ListN.{length, getD}
+use borrow.Author.Tests.{ltb-true, ltb-false, leb-true, eqb-true, eqb-false, not-true, not-false}
 use Rattle.model.specs.Limits.{maxRelations, maxWidth, maxTuples, maxSupportNumbers, wordBits}
 use Rattle.model.specs.Lists.{from, sum, all, pairwise}
 use Rattle.model.specs.declared.Relation.{Relation}
@@ -18,9 +19,9 @@ use Rattle.model.specs.Network.{Network, total, variablesIn, tuplesIn, v
 use Rattle.model.specs.Combination.{Combination}
 use Rattle.model.specs.Consistency.{needed}
 use Rattle.model.specs.Request.{Change, filter, withdraw, choose, Instance, combinationsOf, Request}
-use Rattle.model.specs.Fault.{Fault, firstFault, refusal, within, properWidth, properScope, properLengths, networkFaults, combinationFaults, wordsFault, supportsFault, changeFaults, properMembers, faultsOn, faults, accepts}
+use Rattle.model.specs.Fault.{Fault, firstFault, refusal, within, properWidth, different, properScope, properLengths, networkFaults, combinationFaults, wordsFault, supportsFault, changeFaults, properMembers, faultsOn, faults, accepts}
 use Rattle.model.proofs.Bools.{and-left, and-right, or-false-left, or-false-right}
-use Rattle.model.proofs.Lists.{here, all-at, isNone-none}
+use Rattle.model.proofs.Lists.{here, all-at, pairwise-getD, isNone-none}
 
 -- ---- Reading a table in order
 
@@ -197,6 +198,20 @@ few-values (R ∷ Rs) h =
     let w = mul-le-mul-right (R .tuples) (proper-narrow R Rs h) in
     let k = few-values Rs (and-right (properWidth R) (all properWidth Rs) h) in
     omega arith
+
+-- ---- A scope
+
+-- variables that are different stand at one place each
+pub different-unique : (xs : List ℕ) (k l : ℕ) → pairwise different xs ≡ true → k < length xs → l < length xs → getD xs k 0 ≡ getD xs l 0 → k ≡ l
+different-unique xs k l once hk hl e = go (decLt k l) (decLt l k)
+  where
+    apart : (i j : ℕ) → i < j → j < length xs → getD xs i 0 ≡ getD xs j 0 → ⊥
+    apart i j h m = eqb-false (getD xs i 0) (getD xs j 0) (not-true _ (pairwise-getD different xs i j 0 once h m))
+
+    go : Dec (k < l) → Dec (l < k) → k ≡ l
+    go (yes h) d = absurd (apart k l h hl e)
+    go (no h) (yes m) = absurd (apart l k m hk (sym e))
+    go (no h) (no m) = omega arith
 
 -- ---- A network without network faults
 

@@ -14,21 +14,21 @@ use borrow.Author.Tests.{lt-ltb, ltb-true, leb-true, not-true, not-false}
 use Rattle.model.specs.declared.Counts.{Counts}
 use Rattle.model.specs.Limits.{variableCount, noVariable}
 use Rattle.model.specs.Lists.{from, any}
-use Rattle.model.specs.TupleSet.{TupleSet, has, count, without, Largest, Consistent}
+use Rattle.model.specs.TupleSet.{TupleSet, has, count, restrict, without, Largest, Consistent}
 use Rattle.model.specs.Network.{Network, total, idsOf, relationOf}
 use Rattle.model.specs.Agreement.{clashes, cellsOf, firstClash}
 use Rattle.model.specs.Combination.{Combination, Chain}
 use Rattle.model.specs.Consistency.{supported, isConsistent, filtered, supportList, needed}
 use Rattle.model.specs.Solution.{Assignment, isSolution}
 use Rattle.model.specs.LiveWords.{isLive, living, written}
-use Rattle.model.specs.Request.{filter, withdraw, choose, Instance, combinationsOf, Request, removes}
+use Rattle.model.specs.Request.{Change, filter, withdraw, choose, Instance, combinationsOf, Request, removes}
 use Rattle.model.specs.Fault.{Fault, firstFault, networkFaults, idsFault, faultsOn, faults, testFaults, compareFaults, accepts}
 use Rattle.model.specs.Reply.{Reply, lowestEmpty, answerFor, answerNumbers, remainder, countsFor, leaving, accepted, replyTo, reply, verdictNumbers, comparisonNumbers, verdictFor, comparisonFor, testReply, compareReply}
 use Rattle.model.specs.Calls.{Call, Proper, Made, callsOf, State, start, AllKeep, makeAll, anyAccepted, removedBy, starting, remaining}
-use Rattle.model.specs.Promises.{Tells, Marked, Supports, NoFault, FirstFault, Answered, givenTuples, leftTuples, Filtered, StrikeRule, Apart, Local, Claim, TestAnswered, ClashUnder, FirstClash, NoClash, CompareAnswered}
+use Rattle.model.specs.Promises.{Tells, Marked, Supports, NoFault, FirstFault, Answered, givenTuples, leftTuples, Spares, Filtered, StrikeRule, Apart, Local, Claim, TestAnswered, ClashUnder, FirstClash, NoClash, CompareAnswered}
 use Rattle.model.proofs.Bools.{and-left, false-intro}
 use Rattle.model.proofs.Lists.{here, least-mem, least-none, least-below, least-is, none-least}
-use Rattle.model.proofs.TupleSet.{without-length}
+use Rattle.model.proofs.TupleSet.{has-below, without-length, without-cong, without-none, without-stays, without-count}
 use Rattle.model.proofs.Network.{relationOf-ids, ids-below}
 use Rattle.model.proofs.Agreement.{clash-unfit, clash-is, mem-clashes, clashes-mem, firstClash-low}
 use Rattle.model.proofs.Support.{firstSupport-dead, firstSupport-least}
@@ -36,8 +36,9 @@ use Rattle.model.proofs.Consistency.{supported-at, isConsistent-iff, fi
 use Rattle.model.proofs.Solution.{isSolution-filtered, isSolution-empty}
 use Rattle.model.proofs.Locality.{filtered-far}
 use Rattle.model.proofs.LiveWords.{written-isLive, written-length, living-written, living-length, living-has}
-use Rattle.model.proofs.Fault.{no-fault-at, none-firstFault, firstFault-front, firstFault-back, firstFault-some, firstFault-number, faultless, accepts-words, accepts-exist}
-use Rattle.model.proofs.Reply.{reply-accepted, lowestEmpty-first, answerFor-tells, answerFor-kind, emptied-low, remainder-length, leaving-sum}
+use Rattle.model.proofs.Request.{choose-any, choose-spares}
+use Rattle.model.proofs.Fault.{no-fault-at, none-firstFault, firstFault-front, firstFault-back, firstFault-some, firstFault-number, faultless, accepts-network, accepts-words, accepts-exist}
+use Rattle.model.proofs.Reply.{reply-accepted, lowestEmpty-first, answerFor-tells, answerFor-kind, emptied-low, remainder-length, leaving-sum, leaving-withdrawn}
 use Rattle.model.proofs.Calls.{afterAll-makeAll, makeAll-accepted, makeAll-none, lists-kept}
 
 -- ---- The calls' faults, in checking order
@@ -141,7 +142,7 @@ module _ (q : Request) where
 
     solution-left : (a : Assignment) → isSolution N (givenTuples q) a ≡ true → isSolution N left a ≡ true
     unfolding remainder
-    solution-left a s = isSolution-filtered N a cs (accepts-exist q e) (givenTuples q) given-length s
+    solution-left a s = isSolution-filtered N a (faultless N (accepts-network q e)) cs (accepts-exist q e) (givenTuples q) given-length s
 
     kind-is : ((reply q) .answer) .kind ≡ (answerNumbers (answerFor N left counts)) .kind
     unfolding accepted leaving
@@ -151,6 +152,28 @@ module _ (q : Request) where
     no-solution h a s =
         let low = emptied-low N left counts (decLt (lowestEmpty N left) (length (N .relations))) (sym kind-is ∙ h) in
         isSolution-empty N a left (lowestEmpty N left) low (not-true (any (has left) (idsOf N (lowestEmpty N left))) (lowestEmpty-first N left .passes low)) (solution-left a s)
+
+    -- a choice spares any
+    spares : (x v : ℕ) → q .change ≡ choose x v → Spares q (reply q) x v
+    unfolding accepted countsFor
+    spares x v c =
+        record {
+          under = λ g a is-any m.
+              without-stays (removes N (q .change)) entry g
+              (λ lives. removed g ∙ choose-spares N (faultless N (accepts-network q e)) x v g a (subst (λ (n : ℕ). g < n) (living-length (total N) (q .words)) (has-below entry g lives)) is-any m);
+          chosen = λ is-any.
+              let same = without-cong (removes N (q .change)) (λ _. false) entry (λ g _. removed g ∙ choose-any N x v g is-any) ∙ without-none entry in
+              (same, none-withdrawn same);
+        }
+      where
+        removed : (g : ℕ) → removes N (q .change) g ≡ removes N (choose x v) g
+        removed g = ap (λ (k : Change). removes N k g) c
+
+        none-withdrawn : givenTuples q ≡ entry → ((reply q) .answer) .withdrawn ≡ 0
+        none-withdrawn same =
+            let w : ((reply q) .answer) .withdrawn ≡ count (restrict (removes N (q .change)) entry) =
+            ap (λ (p : Reply). (p .answer) .withdrawn) (reply-accepted q e) ∙ leaving-withdrawn I left counts (q .words) (q .supports) in
+            omega (arith, w, without-count (removes N (q .change)) entry, ap count same)
 
     -- an accepted request leaves the largest consistent set and loses no solution
     pub filtering : Filtered q (reply q)
@@ -166,6 +189,7 @@ module _ (q : Request) where
           marked = subst (λ (p : Reply). Marked N (leftTuples q (reply q)) (q .words) (p .words)) (sym (reply-accepted q e)) (subst (λ (X : TupleSet). Marked N X (q .words) (written (total N) left (q .words))) (sym leftTuples-is) (marked-written N left (q .words)));
           supports = subst (λ (p : Reply). Supports I (leftTuples q (reply q)) (q .supports) (p .supports)) (sym (reply-accepted q e)) (subst (λ (X : TupleSet). Supports I X (q .supports) ((accepted q) .supports)) (sym leftTuples-is) (supports-consistent I left (q .supports) (largest-left .consistent)));
           sum = subst (λ (p : Reply). (p .answer) .left + (p .answer) .withdrawn + (p .answer) .deleted ≡ count entry) (sym (reply-accepted q e)) (leaving-sum I (q .change) entry left (q .words) (q .supports));
+          choice = spares;
         }
 
 -- ---- Point 3

@@ -173,6 +173,10 @@ module _ (I : Instance) where
   unfolding leaving
   leaving-left L k words supports = answerFor-counts (I .network) L k .left
 
+  pub leaving-withdrawn : (L : TupleSet) (k : Counts) (words supports : List ℕ) → ((leaving I L k words supports) .answer) .withdrawn ≡ k .withdrawn
+  unfolding leaving
+  leaving-withdrawn L k words supports = answerFor-counts (I .network) L k .withdrawn
+
   -- words that were written before do not show in what is left
   pub leaving-written : (L R : TupleSet) (k : Counts) (words supports : List ℕ) → leaving I L k (written (total (I .network)) R words) supports ≡ leaving I L k words supports
   unfolding leaving

@@ -77,6 +77,14 @@ without-none S =
     (λ g _. restrict-has (λ g. true) S g ∙ and-true (has S g))
 
 -- removing u and then t is removing both
+-- a tuple that does not pass the test stays
+pub without-stays : (t : ℕ → Bool) (S : TupleSet) (g : ℕ) → (has S g ≡ true → t g ≡ false) → has (without t S) g ≡ has S g
+without-stays t S g f = restrict-has (λ h. not (t h)) S g ∙ go (has S g) refl
+  where
+    go : (b : Bool) → has S g ≡ b → (b && not (t g)) ≡ b
+    go true e = ap not (f e)
+    go false e = refl
+
 pub without-without : (t u : ℕ → Bool) (S : TupleSet) → without t (without u S) ≡ without (λ (g : ℕ). u g || t g) S
 without-without t u S =
     ext-getD false (without t (without u S)) (without both S)

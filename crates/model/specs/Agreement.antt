@@ -1,16 +1,20 @@
 -- Where two tuples clash, when they agree, and when two relations share a variable.
-use mathlib.Core.Bool.{Bool, not, _&&_}
+use mathlib.Core.Bool.{Bool, not, _&&_, _||_}
 use mathlib.Core.Option.{Option, none, some}
 use mathlib.Core.List.{List, [], _∷_, map}
 use Prim.Native.Nat.{ℕ}
 use lib.Dec.{eqb}
-use Rattle.model.specs.Limits.{noVariable}
+use Rattle.model.specs.Limits.{anyValue, noVariable}
 use Rattle.model.specs.Lists.{any, elem, select, isNone, least}
 use Rattle.model.specs.Network.{Network, relationOf, scopeOf, tupleOf}
 
--- Two values fit (document 01: two codes fit only if equal).
+-- The value stands for every value (card 4: makers write "any").
+unfoldable pub isAny : ℕ → Bool
+isAny v = eqb v anyValue
+
+-- Two values fit: they are equal, or one of them is any (card 4).
 unfoldable pub fit : ℕ → ℕ → Bool
-fit a b = eqb a b
+fit a b = eqb a b || (isAny a || isAny b)
 
 -- A variable with the value under it.
 abbrev pub Cell : Type 0

@@ -1,4 +1,4 @@
--- Document 01's examples P1 to P9, as one statement over their table.
+-- Document 01's examples P1 to P9 and those of card 4, as one statement over their table.
 use mathlib.Core.Path.{_≡_, refl}
 use mathlib.Core.Bool.{Bool, true, false}
 use mathlib.Core.Option.{Option, none, some}
@@ -6,6 +6,7 @@ use mathlib.Core.List.{List, [], _∷_, _++_, map}
 use Prim.Native.Nat.{ℕ}
 use lib.ListN.{length, replicate, take, drop, set}
 use Rattle.model.specs.declared.Relation.{Relation}
+use Rattle.model.specs.Limits.{anyValue}
 use Rattle.model.specs.Lists.{from, all, each}
 use Rattle.model.specs.TupleSet
 use Rattle.model.specs.Network
@@ -51,6 +52,20 @@ triangle =
 -- the book of P8
 unfoldable pub lone : Network
 lone = record { relations = relation 1 1 ∷ relation 1 0 ∷ []; variables = 0 ∷ 0 ∷ []; values = 4 ∷ [] }
+
+-- the book of A1 and A2: its second tuple agrees with the first and with the third, and those two do not agree
+unfoldable pub chain : Network
+chain =
+    record { relations = relation 1 1 ∷ relation 1 1 ∷ relation 1 1 ∷ []; variables = 0 ∷ 0 ∷ 0 ∷ []; values = 1 ∷ anyValue ∷ 2 ∷ [] }
+
+-- the book of A3 and A4: any under variable 0, and under variable 2
+unfoldable pub vague : Network
+vague =
+    record {
+      relations = relation 2 2 ∷ relation 2 2 ∷ [];
+      variables = 0 ∷ 1 ∷ 1 ∷ 2 ∷ [];
+      values = anyValue ∷ 1 ∷ 3 ∷ 2 ∷ 1 ∷ 5 ∷ 2 ∷ anyValue ∷ [];
+    }
 
 unfoldable pub pairs : List ℕ
 pairs = 0 ∷ 1 ∷ 0 ∷ 2 ∷ 1 ∷ 2 ∷ []
@@ -108,6 +123,14 @@ table =
     ∷ record { request = asked lone 2 [] (5 ∷ 7 ∷ []) filter; answer = numbers 1 1 1 0 0; words = 5 ∷ 7 ∷ []; place = 0; supports = 7 ∷ [] }
     -- P9
     ∷ record { request = asked networkA 2 pairs (127 ∷ []) (choose 2 6); answer = numbers 0 64 3 2 2; words = 82 ∷ []; place = 0; supports = [] }
+    -- A1 (card 4): in pairs of neighbours any agrees with both
+    ∷ record { request = asked chain 2 (0 ∷ 1 ∷ 1 ∷ 2 ∷ []) (7 ∷ []) filter; answer = numbers 0 64 3 0 0; words = 7 ∷ []; place = 0; supports = 0 ∷ 0 ∷ 0 ∷ 0 ∷ [] }
+    -- A2: a chain of pairs through an any is not a support
+    ∷ record { request = asked chain 3 (0 ∷ 1 ∷ 2 ∷ []) (7 ∷ []) filter; answer = numbers 1 0 0 0 3; words = 0 ∷ []; place = 0; supports = 65535 ∷ [] }
+    -- A3: a choice does not remove the tuple with any under its variable
+    ∷ record { request = asked vague 2 (0 ∷ 1 ∷ []) (15 ∷ []) (choose 0 4); answer = numbers 0 64 2 1 1; words = 5 ∷ []; place = 0; supports = 0 ∷ 0 ∷ 65535 ∷ [] }
+    -- A4: choosing any removes nothing
+    ∷ record { request = asked vague 2 (0 ∷ 1 ∷ []) (15 ∷ []) (choose 0 anyValue); answer = numbers 0 64 4 0 0; words = 15 ∷ []; place = 0; supports = 0 ∷ 0 ∷ 1 ∷ 1 ∷ [] }
     ∷ []
 
 abbrev pub Seen : Type 0
@@ -121,9 +144,9 @@ given e = ((reply (e .request)) .answer, (reply (e .request)) .words, take (leng
 unfoldable pub said : Example → Seen
 said e = (e .answer, e .words, e .supports)
 
--- P1 to P9
+-- P1 to P9, A1 to A4
 pub examples : map given table ≡ map said table
-unfolding table given said relation networkA triangle lone pairs asked next numbers p1 p3 p6 p7 TupleSet.closure Network.relationOf Network.indexOf Network.scopeOf Network.valuesAt Network.tupleOf Agreement.fit Agreement.clash Agreement.clashes Agreement.cellsOf Agreement.firstClash Agreement.agree Agreement.share Combination.combinations Combination.connected Support.candidates Support.isSupport Support.supports Support.firstSupport Consistency.supported Consistency.filtered Consistency.supportList Consistency.needed LiveWords.bit LiveWords.isSet LiveWords.isLive LiveWords.living LiveWords.word LiveWords.written Request.removes Fault.faultsOn Fault.faults Reply.lowestEmpty Reply.answerFor Reply.remainder Reply.countsFor Reply.leaving Reply.accepted Reply.reply
+unfolding table given said relation networkA triangle lone chain vague pairs asked next numbers p1 p3 p6 p7 TupleSet.closure Network.relationOf Network.indexOf Network.scopeOf Network.valuesAt Network.tupleOf Agreement.isAny Agreement.fit Agreement.clash Agreement.clashes Agreement.cellsOf Agreement.firstClash Agreement.agree Agreement.share Combination.combinations Combination.connected Support.candidates Support.isSupport Support.supports Support.firstSupport Consistency.supported Consistency.filtered Consistency.supportList Consistency.needed LiveWords.bit LiveWords.isSet LiveWords.isLive LiveWords.living LiveWords.word LiveWords.written Request.removes Fault.faultsOn Fault.faults Reply.lowestEmpty Reply.answerFor Reply.remainder Reply.countsFor Reply.leaving Reply.accepted Reply.reply
 examples = refl
 
 -- ---- The first fault wins
@@ -161,7 +184,7 @@ damaged =
 
 -- each is refused with the number of its first fault
 first-fault-wins : map (λ (q : Request). (reply q) .answer) damaged ≡ map (λ (n : ℕ). numbers 2 n 0 0 0) (from 2 13)
-unfolding damaged twins sized bare relation asked numbers TupleSet.closure Network.relationOf Network.indexOf Network.scopeOf Network.valuesAt Network.tupleOf Agreement.fit Agreement.clash Agreement.clashes Agreement.cellsOf Agreement.firstClash Agreement.agree Agreement.share Combination.combinations Combination.connected Support.candidates Support.isSupport Support.supports Support.firstSupport Consistency.supported Consistency.filtered Consistency.supportList Consistency.needed LiveWords.bit LiveWords.isSet LiveWords.isLive LiveWords.living LiveWords.word LiveWords.written Request.removes Fault.faultsOn Fault.faults Reply.lowestEmpty Reply.answerFor Reply.remainder Reply.countsFor Reply.leaving Reply.accepted Reply.reply
+unfolding damaged twins sized bare relation asked numbers TupleSet.closure Network.relationOf Network.indexOf Network.scopeOf Network.valuesAt Network.tupleOf Agreement.isAny Agreement.fit Agreement.clash Agreement.clashes Agreement.cellsOf Agreement.firstClash Agreement.agree Agreement.share Combination.combinations Combination.connected Support.candidates Support.isSupport Support.supports Support.firstSupport Consistency.supported Consistency.filtered Consistency.supportList Consistency.needed LiveWords.bit LiveWords.isSet LiveWords.isLive LiveWords.living LiveWords.word LiveWords.written Request.removes Fault.faultsOn Fault.faults Reply.lowestEmpty Reply.answerFor Reply.remainder Reply.countsFor Reply.leaving Reply.accepted Reply.reply
 first-fault-wins = refl
 
 -- ---- Where two tuples clash
@@ -177,8 +200,18 @@ crossed =
 
 -- the lowest clash is named, whichever is met first and whichever tuple is named first
 first-clashes : map (λ (p : ℕ × ℕ). compareReply crossed (p .0) (p .1)) ((0, 2) ∷ (0, 3) ∷ (3, 0) ∷ (0, 4) ∷ (0, 1) ∷ (0, 5) ∷ []) ≡ (1, 64) ∷ (0, 4) ∷ (0, 4) ∷ (0, 9) ∷ (0, 1) ∷ (2, 13) ∷ []
-unfolding crossed relation Network.relationOf Network.indexOf Network.scopeOf Network.valuesAt Network.tupleOf Agreement.fit Agreement.clash Agreement.clashes Agreement.cellsOf Agreement.firstClash Fault.compareFaults Reply.compareReply
+unfolding crossed relation Network.relationOf Network.indexOf Network.scopeOf Network.valuesAt Network.tupleOf Agreement.isAny Agreement.fit Agreement.clash Agreement.clashes Agreement.cellsOf Agreement.firstClash Fault.compareFaults Reply.compareReply
 first-clashes = refl
+
+-- any agrees with every value
+any-agrees : map (λ (p : ℕ × ℕ). compareReply chain (p .0) (p .1)) ((0, 1) ∷ (1, 2) ∷ (0, 2) ∷ []) ≡ (1, 64) ∷ (1, 64) ∷ (0, 0) ∷ []
+unfolding chain relation Network.relationOf Network.indexOf Network.scopeOf Network.valuesAt Network.tupleOf Agreement.isAny Agreement.fit Agreement.clash Agreement.clashes Agreement.cellsOf Agreement.firstClash Fault.compareFaults Reply.compareReply
+any-agrees = refl
+
+-- .. and yet the three tuples are no support of the first: every two must agree
+chain-no-support : (Agreement.agree chain 0 1 ≡ true) × (Agreement.agree chain 1 2 ≡ true) × (Support.isSupport chain (true ∷ true ∷ true ∷ []) 0 (0 ∷ 1 ∷ 2 ∷ []) ≡ false)
+unfolding chain relation Network.relationOf Network.indexOf Network.scopeOf Network.valuesAt Network.tupleOf Agreement.isAny Agreement.fit Agreement.clash Agreement.clashes Agreement.cellsOf Agreement.firstClash Agreement.agree Support.isSupport
+chain-no-support = (refl, refl, refl)
 
 -- ---- The desk's text
 
@@ -217,7 +250,7 @@ listedA =
     ∷ []
 
 input-A : listing (textOf linesA) ≡ textOf listedA
-unfolding linesA listedA Text.decimal Text.textOf Reading.readField Reading.readInstance Reading.read Listing.allLive Listing.fresh Listing.tupleLines Listing.replyLines Listing.listing relation asked numbers TupleSet.closure Network.relationOf Network.indexOf Network.scopeOf Network.valuesAt Network.tupleOf Agreement.fit Agreement.clash Agreement.clashes Agreement.cellsOf Agreement.firstClash Agreement.agree Agreement.share Combination.combinations Combination.connected Support.candidates Support.isSupport Support.supports Support.firstSupport Consistency.supported Consistency.filtered Consistency.supportList Consistency.needed LiveWords.bit LiveWords.isSet LiveWords.isLive LiveWords.living LiveWords.word LiveWords.written Request.removes Fault.faultsOn Fault.faults Reply.lowestEmpty Reply.answerFor Reply.remainder Reply.countsFor Reply.leaving Reply.accepted Reply.reply
+unfolding linesA listedA Text.decimal Text.textOf Reading.readField Reading.readInstance Reading.read Listing.allLive Listing.fresh Listing.tupleLines Listing.replyLines Listing.listing relation asked numbers TupleSet.closure Network.relationOf Network.indexOf Network.scopeOf Network.valuesAt Network.tupleOf Agreement.isAny Agreement.fit Agreement.clash Agreement.clashes Agreement.cellsOf Agreement.firstClash Agreement.agree Agreement.share Combination.combinations Combination.connected Support.candidates Support.isSupport Support.supports Support.firstSupport Consistency.supported Consistency.filtered Consistency.supportList Consistency.needed LiveWords.bit LiveWords.isSet LiveWords.isLive LiveWords.living LiveWords.word LiveWords.written Request.removes Fault.faultsOn Fault.faults Reply.lowestEmpty Reply.answerFor Reply.remainder Reply.countsFor Reply.leaving Reply.accepted Reply.reply
 input-A = refl
 
 -- the text of n relations of w variables and h tuples, whose values are all v, and of k combinations of m

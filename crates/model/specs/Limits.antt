@@ -17,6 +17,10 @@ maxTuples = 4096
 abbrev pub variableCount : ℕ
 variableCount = 64
 
+-- "code 65,535 for 'any code'" (card 4)
+abbrev pub anyValue : ℕ
+anyValue = 65535
+
 -- named in place of a variable where two tuples agree (card 3)
 abbrev pub noVariable : ℕ
 noVariable = 64

@@ -12,13 +12,13 @@ use Rattle.model.specs.Limits.{maxRelations, noVariable, noSupport, word
 use Rattle.model.specs.Lists.{earlier}
 use Rattle.model.specs.TupleSet.{TupleSet, has, count, without, Largest, Consistent}
 use Rattle.model.specs.Network.{Network, total, idsOf, relationOf, indexOf}
-use Rattle.model.specs.Agreement.{fit, cellsOf}
+use Rattle.model.specs.Agreement.{isAny, fit, cellsOf}
 use Rattle.model.specs.Combination.{Combination, Chain}
 use Rattle.model.specs.Support.{candidates, isSupport, firstSupport}
 use Rattle.model.specs.Consistency.{supported, supportList, needed}
 use Rattle.model.specs.Solution.{Assignment, isSolution}
 use Rattle.model.specs.LiveWords.{isLive, living}
-use Rattle.model.specs.Request.{Instance, combinationsOf, Request, removes}
+use Rattle.model.specs.Request.{choose, Instance, combinationsOf, Request, removes}
 use Rattle.model.specs.Fault.{Fault, faults, testFaults, compareFaults}
 use Rattle.model.specs.Reply.{Numbers, Reply, isEmptied, refused}
 use Rattle.model.specs.Calls.{Call, lentWords, Made, callsOf, State, start, afterAll, anyAccepted, removedBy, starting, remaining}
@@ -67,16 +67,26 @@ pub record Answered (q : Request) (p : Reply) : Type 0 where
 
 -- ---- Mission point 2
 
--- the tuples that a request gives to the filter: the live ones without those that its change removes
+-- the tuples that live at a request's entry
+abbrev pub entryTuples : Request → TupleSet
+entryTuples q = living (total (q .given .network)) (q .words)
+
+-- those that it gives to the filter: all but what its change removes
 abbrev pub givenTuples : Request → TupleSet
-givenTuples q = without (removes (q .given .network) (q .change)) (living (total (q .given .network)) (q .words))
+givenTuples q = without (removes (q .given .network) (q .change)) (entryTuples q)
 
 -- the tuples that live after it, where p is its reply
 abbrev pub leftTuples : Request → Reply → TupleSet
 leftTuples q p = living (total (q .given .network)) (p .words)
 
+-- What choosing value v under variable x never removes (card 4): a tuple with any under x; and where v is any, nothing at all.
+pub record Spares (q : Request) (p : Reply) (x v : ℕ) : Type 0 where
+  pub under : (g a : ℕ) → isAny a ≡ true → List·Memᴰ (x, a) (cellsOf (q .given .network) g) → has (givenTuples q) g ≡ has (entryTuples q) g
+  pub chosen : isAny v ≡ true → (givenTuples q ≡ entryTuples q) × ((p .answer) .withdrawn ≡ 0)
+
 -- The tuples left are the largest consistent set inside those given, the only such set; a relation in no combination keeps
--- its tuples; no solution is lost, and Emptied means that none exists; the counts add up to the live tuples at entry.
+-- its tuples; no solution is lost, and Emptied means that none exists; the counts add up to the live tuples at entry; and a
+-- choice spares any.
 pub record Filtered (q : Request) (p : Reply) : Type 0 where
   pub largest : Largest (supported (q .given .network) (combinationsOf (q .given))) (givenTuples q) (leftTuples q p)
   pub only : (T : TupleSet) → length T ≡ total (q .given .network) → Largest (supported (q .given .network) (combinationsOf (q .given))) (givenTuples q) T → T ≡ leftTuples q p
@@ -86,7 +96,8 @@ pub record Filtered (q : Request) (p : Reply) : Type 0 where
   pub tells : Tells (q .given .network) (leftTuples q p) (p .answer)
   pub marked : Marked (q .given .network) (leftTuples q p) (q .words) (p .words)
   pub supports : Supports (q .given) (leftTuples q p) (q .supports) (p .supports)
-  pub sum : (p .answer) .left + (p .answer) .withdrawn + (p .answer) .deleted ≡ count (living (total (q .given .network)) (q .words))
+  pub sum : (p .answer) .left + (p .answer) .withdrawn + (p .answer) .deleted ≡ count (entryTuples q)
+  pub choice : (x v : ℕ) → q .change ≡ choose x v → Spares q p x v
 
 -- ---- Mission point 3
 

@@ -11,6 +11,9 @@ pub const MAX_TUPLES: usize = 4096;
 
 pub const VARIABLES: usize = 64;
 
+// stands for every value (card 4)
+pub const ANY_VALUE: Value = 65535;
+
 // in place of a variable where two tuples agree (card 3)
 pub const NO_VARIABLE: u16 = 64;
 

@@ -21,8 +21,8 @@ use Rattle.model.specs.LiveWords.{isSet, isLive}
 use Rattle.model.proofs.Bools.{and-intro, not-both, iff-eq}
 use Rattle.model.proofs.Lists.{all-at, all-intro, from-mem, mem-from, from-append, all-of-append}
 use Rattle.model.proofs.LiveWords.{isLive-at}
-use Rattle.model.proofs.Agreement.{cellAt, agreeing-clash, clash-unfit, fit-equal, agree-at}
-use Rattle.live.proofs.Bits.{isSet-and}
+use Rattle.model.proofs.Agreement.{cellAt, agreeing-clash, clash-unfit, agree-at}
+use Rattle.live.proofs.Bits.{isSet-nought, isSet-and}
 use Rattle.layout.specs.Starts.{valueStart, recordsIn}
 use Rattle.layout.specs.Setting.{Lists, networkIn, SoundLists}
 use Rattle.layout.proofs.SoundStarts.{value-start}
@@ -33,7 +33,7 @@ use Rattle.value_index.proofs.ValueRows.{hash-below, row-within, row-is, rows-b
 use Rattle.narrowing.specs.Narrows.{isBetween, BitsBetween}
 use Rattle.narrowing.specs.declared.rows.Four.{Four}
 use Rattle.narrowing.specs.TupleRows.{Shares, HasRows, ValueRow, Adds, FirstRows, RowOf, SharedRow, RowFor, InEvery, rowOrLast, FourOf, Within, both, four, inRows, BitsInRows, Apart, LiveBetween}
-use Rattle.narrowing.proofs.Words.{isSet-nought, row-at}
+use Rattle.narrowing.proofs.Words.{row-at}
 
 -- what holds of the first i numbers of a list holds of one more, which is stored
 pub first-set : (P : ℕ → ℕ → Type 0) (xs : List ℕ) (i v : ℕ) → i < length xs → ((j : ℕ) → j < i → P j (getD xs j 0)) → P i v → (j : ℕ) → j < i + 1 → P j (getD (set xs i v) j 0)
@@ -298,12 +298,10 @@ module _ {L : Lists} (laid : SoundLists L) {index : List ℕ} (indexed : Indexed
         let g = firstId N s + z in
         let row = f .row .row in
         let lb : length (scopeOf N s) ≡ length b = scope-length laid s (below-limit laid s z hz) ∙ sym (values-length laid s z hz) in
-        let same : getD a i 0 ≡ getD b j 0 =
-        fit-equal (getD a i 0) (getD b j 0)
-        (values-fit (scopeOf N r) a (scopeOf N s) i j widths (f .row .inside) (f .inside) (f .row .same) b lb (sym (agree-at N r x s z hx hz) ∙ agrees)) in
-        let marked = indexed .at s z j hz (omega (arith, f .inside, scope-length laid s (below-limit laid s z hz))) (row .some) in
-        let in-row = all-at (λ (k : ℕ). rowBit index (rowAt index (columnStart index s j) (getD b j 0) k) g) (from 0 (digitCount index)) marked (mem-from 0 (digitCount index) (row .digit) (omega arith) (omega (arith, row .few))) in
-        ap (λ (n : ℕ). rowBit index n g) (row .begins ∙ ap (λ (v : ℕ). rowAt index (columnStart index s j) v (row .digit)) same) ∙ in-row
+        let fits = values-fit (scopeOf N r) a (scopeOf N s) i j widths (f .row .inside) (f .inside) (f .row .same) b lb (sym (agree-at N r x s z hx hz) ∙ agrees) in
+        let marked = indexed .at s z j hz (omega (arith, f .inside, scope-length laid s (below-limit laid s z hz))) (row .some) (getD a i 0) (row .definite) fits in
+        let in-row = all-at (λ (k : ℕ). rowBit index (rowAt index (columnStart index s j) (getD a i 0) k) g) (from 0 (digitCount index)) marked (mem-from 0 (digitCount index) (row .digit) (omega arith) (omega (arith, row .few))) in
+        ap (λ (n : ℕ). rowBit index n g) (row .begins) ∙ in-row
 
     pub agreeing-rows : {rows : List ℕ} {n : ℕ} → FirstRows (RowFor N index r x s) n rows → inRows index rows n (firstId N s + z) ≡ true
     agreeing-rows {rows} {n} f = rows-every index rows n (firstId N s + z) f agreeing-row

@@ -15,16 +15,13 @@ use borrow.Author.Tests.{lt-ltb, le-ltb, ltb-true, ltb-false, le-leb, lt-leb, le
 use Rattle.model.specs.LiveWords.{isSet, isLive}
 use Rattle.model.proofs.Bools.{iff-eq}
 use Rattle.model.proofs.LiveWords.{isLive-at}
-use Rattle.live.proofs.Bits.{isSet-high, isSet-not, isSet-and, isSet-or, one-shl, le-or}
+use Rattle.live.proofs.Bits.{isSet-nought, isSet-high, isSet-not, isSet-and, isSet-or, one-shl, or-none}
 use Rattle.live.proofs.Stores.{isLive-set-same, isLive-set-other}
 use Rattle.value_index.specs.Index.{rowBit}
 use Rattle.narrowing.specs.Narrows.{Long, stays, Kept, KeptIds, firstIn, endIn, Keeps, BitsBetween, HasBits}
 use Rattle.narrowing.specs.TupleRows.{Spans}
 
 -- ---- The ids below a bound
-
-pub isSet-nought : (j : ℕ) → isSet 0 j ≡ false
-isSet-nought j = isSet-high 0 0 j (omega arith) (omega arith)
 
 module _ (base bound j : ℕ) where
   pub below-none : bound ≤ base → isSet 0 j ≡ ltb (base + j) bound
@@ -63,12 +60,6 @@ between-bits i start end low high fits lows small highs = (
       (isSet-not 64 low j fits l ∙ ap not (lows j l ∙ ap (λ (g : ℕ). ltb g start) c) ∙ not-ltb (64 * i + j) start)
       (highs j l ∙ ap (λ (g : ℕ). ltb g end) c),
 )
-
--- no bit is set in the one word nor in the other
-pub or-none : (a b : ℕ) → bitOr a b ≡ 0 → (a ≡ 0) × (b ≡ 0)
-or-none a b e =
-    let z : a ≡ 0 = omega (arith, le-or a b) in
-    (z, omega (arith, or-add-and a b, and-le-l a b))
 
 -- ---- The words of the ids from start on and below end
 

@@ -1,12 +1,13 @@
 -- The columns that two relations share, the rows of a tuple's values in them, and the ids that are in all of these rows.
 use mathlib.Core.Path.{_≡_}
-use mathlib.Core.Bool.{Bool, true, _&&_}
+use mathlib.Core.Bool.{Bool, true, false, _&&_}
 use mathlib.Core.List.{List, [], _∷_}
 use Prim.Native.Nat.{ℕ, _+_, _-_, _*_, _≤_, _<_, min}
 use lib.ListN.{length, getD}
 use Rattle.model.specs.Limits.{maxWidth, wordBits}
 use Rattle.model.specs.Lists.{from, all}
 use Rattle.model.specs.Network.{Network, scopeOf, valuesAt}
+use Rattle.model.specs.Agreement.{isAny}
 use Rattle.model.specs.LiveWords.{isSet, isLive}
 use Rattle.model.specs.Edges.{maxWords}
 use Rattle.value_index.specs.Plan.{indexWords, maxDigits, columnStart, rowWords, digitCount, rowAt, ColumnRows}
@@ -42,8 +43,9 @@ HasRows index columns n = (c : ℕ) → c < n → (getD columns c 0 ≡ 0 → �
 abbrev pub tupleRows : ℕ
 tupleRows = 32
 
--- Word `first` begins a row of value v, among the rows that begin at `start`, which are some.
+-- Word `first` begins a row of value v, which is not any, among the rows that begin at `start`, which are some.
 pub record ValueRow (index : List ℕ) (start v first : ℕ) : Type 0 where
+  pub definite : isAny v ≡ false
   pub some : start ≡ 0 → ⊥
   pub digit : ℕ
   pub few : digit < digitCount index

@@ -13,6 +13,7 @@ use super::between;
 use super::columns::Columns;
 use layout::Starts;
 use layout::column_of;
+use layout::is_any;
 use layout::place_of;
 use layout::wide;
 use live::WORDS;
@@ -43,13 +44,16 @@ pub struct Four {
     pub d: usize,
 }
 
-// Behind the first n rows those of the value are put, among the rows that begin at `start`, which is 0 if there are none. How many there
-// are then.
+// Behind the first n rows those of the value are put, among the rows that begin at `start`, which is 0 if there are none. Any has none: it
+// narrows nothing. How many there are then.
 fn add_value(index: &Index, rows: &mut Rows, n: usize, start: usize, value: Value) -> usize
     requires { ⌜ (length (now rows) ≡ tupleRows) × (SoundPlan (now index) × ((n + maxDigits ≤ tupleRows) × ((start ≡ 0 → ⊥) → ColumnRows (now index) start))) ⌝ }
     ensures { λ k. ⌜ Adds (ValueRow (entry index) start value) n k (entry rows) (exit rows) ⌝ }
 {
     if start == 0 {
+        return n;
+    }
+    if is_any(value) {
         return n;
     }
     let mut hash = hash_of(index, value);

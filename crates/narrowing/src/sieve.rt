@@ -1,5 +1,5 @@
-// A sieve, made once for a walk of relation r's tuples: for one variable that relation s has too, a bit for the value of each live tuple of s.
-// A tuple of r whose value's bit is 0 agrees with no live tuple of s, and is passed over.
+// A sieve, made once for a walk of relation r's tuples: for one variable that relation s has too, the bits of the values of s's live tuples.
+// A value has one bit, and any has all. A tuple of r of whose value's bits none is there agrees with no live tuple of s, and is passed over.
 ghost use mathlib.Core.Path.{_≡_};
 ghost use Prim.Native.Nat.{_≤_, _<_};
 ghost use lib.ListN.{length};
@@ -8,9 +8,10 @@ ghost use Rattle.model.specs.Network.{width};
 ghost use Rattle.layout.specs.Loan.{entry};
 ghost use Rattle.layout.specs.Setting.{lists, networkIn, SoundLists};
 ghost use Rattle.narrowing.specs.Narrows.{Long};
-ghost use Rattle.narrowing.specs.Sieve.{bitOf, bitAt, passesSieve, Sieves, Shares, Masks, TupleIn, ColumnIn};
+ghost use Rattle.narrowing.specs.Sieve.{bitsOf, bitsAt, passesSieve, Sieves, Shares, Masks, TupleIn, ColumnIn};
 use layout::Starts;
 use layout::column_of;
+use layout::is_any;
 use layout::place_of;
 use layout::tuple_start;
 use layout::variable_start;
@@ -19,7 +20,7 @@ use live::Words;
 use live::next;
 use model::Value;
 
-// A column of the relation that is sieved, and a bit for each value there. Past the relation's columns nothing is sieved.
+// A column of the relation that is sieved, and the bits of the values there. Past the relation's columns nothing is sieved.
 pub struct Sieve {
     pub column: u16,
     pub bits: u64,
@@ -31,20 +32,23 @@ struct Shared {
     other: u16,
 }
 
-// The bit of a value.
-fn bit_of(value: Value) -> u64
-    ensures { λ k. ⌜ (k ≡ bitOf value) × (k < 64) ⌝ }
+// The bits of a value.
+fn bits_of(value: Value) -> u64
+    ensures { λ w. ⌜ w ≡ bitsOf value ⌝ }
 {
-    value as u64 * 40503 % 65536 / 1024
+    if is_any(value) {
+        return !0u64;
+    }
+    1u64 << (value as u64 * 40503 % 65536 / 1024)
 }
 
-// The bit of the value that tuple x of relation r has in the column.
-fn bit_at(variables: &[u16], values: &[Value], starts: &Starts, r: u16, x: u16, column: u16) -> u64
+// The bits of the value that tuple x of relation r has in the column.
+fn bits_at(variables: &[u16], values: &[Value], starts: &Starts, r: u16, x: u16, column: u16) -> u64
     requires { ⌜ TupleIn (lists now variables values starts) r x × (column < width (networkIn (lists now variables values starts)) r) ⌝ }
-    ensures { λ k. ⌜ (k ≡ bitAt (networkIn (lists entry variables values starts)) r x column) × (k < 64) ⌝ }
+    ensures { λ w. ⌜ w ≡ bitsAt (networkIn (lists entry variables values starts)) r x column ⌝ }
 {
     let p = place_of(starts, r, x);
-    bit_of(values[p.tuple + wide(column)])
+    bits_of(values[p.tuple + wide(column)])
 }
 
 // A column of scope a and one of scope b that have the same variable; a's is its length where they share none.
@@ -83,7 +87,7 @@ fn mask_of(
     let mut bits: u64 = 0;
     let mut g = next(words, first, end);
     while g < end {
-        bits = bits | (1u64 << bit_at(variables, values, starts, s, g - first, column));
+        bits = bits | bits_at(variables, values, starts, s, g - first, column);
         g = next(words, g + 1, end);
     }
     bits
@@ -131,5 +135,5 @@ pub fn passes(
     if a_end - a <= wide(sieve.column) {
         return true;
     }
-    (sieve.bits >> bit_at(variables, values, starts, r, x, sieve.column)) % 2 == 1
+    sieve.bits & bits_at(variables, values, starts, r, x, sieve.column) != 0
 }

@@ -6,18 +6,18 @@ use mathlib.Core.Option.{some, Option·some-injective}
 use mathlib.Core.Logic.{_⊎_, inl, inr, ⊎-elim}
 use mathlib.Core.List.{List, List·Memᴰ, Memᴰ·cast}
 use Prim.Native.Nat.{ℕ, _+_, _≤_, _<_}
-use native.Mathlib.Decide.{decLt}
 use native.Mathlib.Omega.{arith}
 use borrow.Author.Count.{below-more}
-use borrow.Author.Tests.{ltb-true, not-true, eqb-false}
+use borrow.Author.Tests.{ltb-true}
 use lib.ListN.{length, getD}
-use lib.Dec.{ltb, eqb}
+use lib.Dec.{ltb}
 use Rattle.model.specs.Limits.{variableCount, noVariable}
 use Rattle.model.specs.Lists.{all, pairwise, lesser}
 use Rattle.model.specs.Agreement.{Cell, fit, cells, clash, clashes, firstClashing, clashNumber}
 use Rattle.model.specs.Fault.{different, properScope}
 use Rattle.model.proofs.Bools.{and-left, and-right, not-both}
-use Rattle.model.proofs.Lists.{all-getD, pairwise-getD, lesser-cases, lesser-below, least-is, none-least}
+use Rattle.model.proofs.Lists.{all-getD, lesser-cases, lesser-below, least-is, none-least}
+use Rattle.model.proofs.Fault.{different-unique}
 use Rattle.model.proofs.Agreement.{cellAt, mem-cells, cells-mem, mem-clashes, clashes-mem, clash-is, clash-unfit}
 use Rattle.network.specs.Tuples.{Columns}
 
@@ -28,18 +28,9 @@ scope-low xs e = and-left (all (λ (x : ℕ). ltb x variableCount) xs) (pairwise
 
 module _ {xs vs : List ℕ} (c : Columns xs vs) where
   -- two places have different variables
-  apart : (k l : ℕ) → k < l → l < length xs → getD xs k 0 ≡ getD xs l 0 → ⊥
-  apart k l h m =
-      let d = pairwise-getD different xs k l 0 (and-right (all (λ (x : ℕ). ltb x variableCount) xs) (pairwise different xs) (c .proper)) h m in
-      eqb-false (getD xs k 0) (getD xs l 0) (not-true (eqb (getD xs k 0) (getD xs l 0)) d)
-
   pub place-unique : (k l : ℕ) → k < length xs → l < length xs → getD xs k 0 ≡ getD xs l 0 → k ≡ l
-  place-unique k l hk hl e = go (decLt k l) (decLt l k)
-    where
-      go : Dec (k < l) → Dec (l < k) → k ≡ l
-      go (yes h) d = absurd (apart k l h hl e)
-      go (no h) (yes m) = absurd (apart l k m hk (sym e))
-      go (no h) (no m) = omega arith
+  place-unique k l hk hl e =
+      different-unique xs k l (and-right (all (λ (x : ℕ). ltb x variableCount) xs) (pairwise different xs) (c .proper)) hk hl e
 
 -- ---- The lowest clash of the first columns
 

@@ -87,7 +87,7 @@ pairsOf N = record { network = N; m = 2; members = pairs }
 
 -- what the definitions give
 right : ((reply p1) .words ≡ 123 ∷ []) × (((reply p7) .answer) .kind ≡ 1) × ((reply p3) .words ≡ 82 ∷ []) × (((reply twice) .answer) .withdrawn ≡ 1) × ((reply p9) .words ≡ 82 ∷ []) × (((reply p9) .answer) .left ≡ 3) × (testReply (pairsOf networkA) (127 ∷ []) ≡ (0, 0)) × (testReply (p7 .given) (63 ∷ []) ≡ (0, 0)) × (compareReply networkA 0 3 ≡ (1, 64)) × (compareReply networkA 2 3 ≡ (0, 1)) × (compareReply networkA 0 2 ≡ (0, 0)) × (compareReply crossed 0 3 ≡ (0, 4))
-unfolding p9 twice pairsOf relation networkA triangle crossed pairs asked next p1 p3 p7 TupleSet.closure Network.relationOf Network.indexOf Network.scopeOf Network.valuesAt Network.tupleOf Agreement.fit Agreement.clash Agreement.clashes Agreement.cellsOf Agreement.firstClash Agreement.agree Agreement.share Combination.combinations Combination.connected Support.candidates Support.isSupport Support.supports Support.firstSupport Consistency.supported Consistency.isConsistent Consistency.filtered Consistency.supportList Consistency.needed LiveWords.bit LiveWords.isSet LiveWords.isLive LiveWords.living LiveWords.word LiveWords.written Request.removes Fault.faultsOn Fault.faults Fault.testFaults Fault.compareFaults Reply.lowestEmpty Reply.answerFor Reply.remainder Reply.countsFor Reply.leaving Reply.accepted Reply.reply Reply.testReply Reply.compareReply
+unfolding p9 twice pairsOf relation networkA triangle crossed pairs asked next p1 p3 p7 TupleSet.closure Network.relationOf Network.indexOf Network.scopeOf Network.valuesAt Network.tupleOf Agreement.isAny Agreement.fit Agreement.clash Agreement.clashes Agreement.cellsOf Agreement.firstClash Agreement.agree Agreement.share Combination.combinations Combination.connected Support.candidates Support.isSupport Support.supports Support.firstSupport Consistency.supported Consistency.isConsistent Consistency.filtered Consistency.supportList Consistency.needed LiveWords.bit LiveWords.isSet LiveWords.isLive LiveWords.living LiveWords.word LiveWords.written Request.removes Fault.faultsOn Fault.faults Fault.testFaults Fault.compareFaults Reply.lowestEmpty Reply.answerFor Reply.remainder Reply.countsFor Reply.leaving Reply.accepted Reply.reply Reply.testReply Reply.compareReply
 right = (refl, refl, refl, refl, refl, refl, refl, refl, refl, refl, refl, refl)
 
 -- a filter that touches nothing

@@ -14,7 +14,7 @@ use lib.Dec.{eqb}
 use lib.ListN.{length, getD, set}
 use Rattle.model.specs.Lists.{from, all}
 use Rattle.model.specs.Network.{Network, width, size, total, firstId, valuesAt}
-use Rattle.model.specs.LiveWords.{isLive}
+use Rattle.model.specs.LiveWords.{isSet, isLive}
 use Rattle.model.proofs.Bools.{or-left, or-right}
 use Rattle.model.proofs.Lists.{all-at, all-intro, from-mem, mem-from}
 use Rattle.model.proofs.LiveWords.{isLive-at}
@@ -24,10 +24,28 @@ use Rattle.layout.specs.Starts.{valueStart}
 use Rattle.layout.specs.Setting.{Lists, networkIn, SoundLists}
 use Rattle.layout.proofs.Places.{exists, value-at, below-limit}
 use Rattle.layout.proofs.SoundStarts.{columns-few}
-use Rattle.value_index.specs.Plan.{columnStart, rowWords, digitCount, rowAt, SoundPlan, ColumnRows, SamePlan}
-use Rattle.value_index.specs.Index.{rowBit, isIndexed, IndexedAt, Indexed, Raises, Grows, Laid, IndexesTuple, IndexesTuples}
+use Rattle.value_index.specs.Plan.{columnStart, digitCount, rowAt, anyRow, SamePlan}
+use Rattle.value_index.specs.Index.{rowBit, isIndexed, IndexedBy, IndexedAt, Indexed, Raises, Grows, Laid, Entered, EnteredAt, EntersColumn, EntersColumns, IndexesTuples}
 use Rattle.value_index.proofs.Products.{piece-within}
-use Rattle.value_index.proofs.ValueRows.{columns-same, digits-same, row-same, sound-same}
+use Rattle.value_index.proofs.ValueRows.{columns-same, digits-same, row-same, any-same, sound-same}
+
+-- ---- One word
+
+-- a word is or-ed into word i
+module _ (ws : List ℕ) (i w h : ℕ) (inside : i < length ws) where
+  pub joined-same : h / 64 ≡ i → isLive (set ws i (bitOr (getD ws i 0) w)) h ≡ (isLive ws h || isSet w (h % 64))
+  joined-same e =
+      let q : 64 * i + h % 64 ≡ h = omega arith in
+      isLive-set-same ws i (bitOr (getD ws i 0) w) h inside e
+      ∙ isSet-or (getD ws i 0) w (h % 64)
+      ∙ ap (λ (x : Bool). x || isSet w (h % 64)) (sym (isLive-at ws i (h % 64) (omega arith)) ∙ ap (isLive ws) q)
+
+  pub joined-keeps : isLive ws h ≡ true → isLive (set ws i (bitOr (getD ws i 0) w)) h ≡ true
+  joined-keeps e = go (ℕ-discrete (h / 64) i)
+    where
+      go : Dec (h / 64 ≡ i) → isLive (set ws i (bitOr (getD ws i 0) w)) h ≡ true
+      go (yes q) = joined-same q ∙ or-left (isSet w (h % 64)) e
+      go (no d) = isLive-set-other ws i (bitOr (getD ws i 0) w) h d ∙ e
 
 -- ---- One bit
 
@@ -41,10 +59,8 @@ entered-one ws p h inside = rw (one-shl (p % 64) (omega arith)) (go (ℕ-discret
 
     go : Dec (h / 64 ≡ p / 64) → isLive (set ws (p / 64) (bitOr (getD ws (p / 64) 0) (2 ^ (p % 64)))) h ≡ (isLive ws h || eqb p h)
     go (yes e) =
-        let q : h ≡ 64 * (p / 64) + h % 64 = omega arith in
-        isLive-set-same ws (p / 64) (bitOr (getD ws (p / 64) 0) (2 ^ (p % 64))) h inside e
-        ∙ isSet-or (getD ws (p / 64) 0) (2 ^ (p % 64)) (h % 64)
-        ∙ ap₂ (λ (x y : Bool). x || y) (sym (isLive-at ws (p / 64) (h % 64) (omega arith)) ∙ ap (isLive ws) (sym q)) (isSet-pow (p % 64) (h % 64) ∙ same (eqb p h) refl e)
+        joined-same ws (p / 64) (2 ^ (p % 64)) h inside e
+        ∙ ap (λ (y : Bool). isLive ws h || y) (isSet-pow (p % 64) (h % 64) ∙ same (eqb p h) refl e)
     go (no d) =
         isLive-set-other ws (p / 64) (bitOr (getD ws (p / 64) 0) (2 ^ (p % 64))) h d
         ∙ sym (ap (λ (x : Bool). isLive ws h || x) (ne-eqb p h (λ e. d (ap (λ (n : ℕ). n / 64) (sym e)))) ∙ or-false (isLive ws h))
@@ -61,7 +77,7 @@ pub grows-on : (a b c : List ℕ) → Grows a b → Grows b c → Grows a c
 grows-on a b c f g = record { keeps = λ p e. g .keeps p (f .keeps p e); same = λ k h. g .same k h ∙ f .same k h }
 
 -- the index stays laid out
-pub laid-on : (a b : List ℕ) (n : ℕ) → Grows a b → length b ≡ 9284 → Laid a n → Laid b n
+pub laid-on : (a b : List ℕ) (n : ℕ) → Grows a b → length b ≡ 9796 → Laid a n → Laid b n
 laid-on a b n f l d =
     record { full = l; plan = sound-same a b (f .same) (d .plan); bits = let e = f .same 512 (omega arith) in omega (arith, e, d .bits) }
 
@@ -79,10 +95,19 @@ module _ (a b : List ℕ) (f : Grows a b) where
       (f .keeps (64 * rowAt a start v i + g)
       (all-at (λ (j : ℕ). rowBit a (rowAt a start v j) g) (from 0 (digitCount a)) e (subst (λ (n : ℕ). List·Memᴰ i (from 0 n)) (digits-same a b (f .same)) m))))
 
+  -- what holds of a column's rows in the one index, and is kept
+  pub at-on : (P : List ℕ → ℕ → Type 0) → ((start : ℕ) → P a start → P b start) → (r c : ℕ) → r < 64 → c < 8 → ((columnStart a r c ≡ 0 → ⊥) → P a (columnStart a r c)) → (columnStart b r c ≡ 0 → ⊥) → P b (columnStart b r c)
+  at-on P on r c h k e d = let s = columns-same a b (f .same) r c h k in subst (P b) (sym s) (on (columnStart a r c) (e (λ z. d (s ∙ z))))
+
+  pub entered-on : (v g start : ℕ) → Entered a start v g → Entered b start v g
+  entered-on v g start e =
+      (λ q. subst (λ (r : ℕ). rowBit b r g ≡ true) (sym (any-same a b (f .same) start)) (f .keeps (64 * anyRow a start + g) (e .0 q)), λ q. value-on start v g (e .1 q))
+
+  pub enteredAt-on : (r c v g : ℕ) → r < 64 → c < 8 → EnteredAt a r c v g → EnteredAt b r c v g
+  enteredAt-on r c v g h k = at-on (λ index start. Entered index start v g) (entered-on v g) r c h k
+
   pub column-on : (r c v g : ℕ) → r < 64 → c < 8 → IndexedAt a r c v g → IndexedAt b r c v g
-  column-on r c v g h k e d =
-      let s = columns-same a b (f .same) r c h k in
-      subst (λ (n : ℕ). isIndexed b n v g ≡ true) (sym s) (value-on (columnStart a r c) v g (e (λ z. d (s ∙ z))))
+  column-on r c v g h k = at-on (λ index start. IndexedBy index start v g) (λ start m w d e. value-on start w g (m w d e)) r c h k
 
 -- ---- One row more
 
@@ -101,26 +126,30 @@ unfolding isIndexed
 rows-all index start v g m =
     all-intro (λ (i : ℕ). rowBit index (rowAt index start v i) g) (from 0 (digitCount index)) (λ i k. m i (omega (arith, from-mem 0 (digitCount index) i k)))
 
--- ---- One column more
-
-pub tuple-more : (values : List ℕ) (at r n g : ℕ) (a b : List ℕ) → r < 64 → n < 8 → Grows a b → IndexedAt b r n (getD values (at + n) 0) g → IndexesTuple values at r n g a → IndexesTuple values at r (n + 1) g b
-tuple-more values at r n g a b h k f one m =
-    below-more _ n (λ c l. column-on a b f r c (getD values (at + c) 0) g h (omega arith) (m c l)) one
-
 -- ---- One tuple more
 
 -- tuples of w values each stand one after the other
 pub row-next : (i w : ℕ) → suc i * w ≡ i * w + w
 row-next i w = mul-comm (suc i) w ∙ mul-suc w i ∙ ap (λ (x : ℕ). x + w) (mul-comm w i)
 
-pub tuples-more : (values : List ℕ) (at r columns start n p : ℕ) (a b : List ℕ) → r < 64 → columns ≤ 8 → start ≤ n → p ≡ at + (n - start) * columns → Grows a b → IndexesTuple values p r columns n b → IndexesTuples values at r columns start n a → IndexesTuples values at r columns start (n + 1) b
-tuples-more values at r columns start n p a b q w h e f one m g l k c d = go (decLt g n)
+pub column-more : (values : List ℕ) (at columns c start first n p : ℕ) (a b : List ℕ) → first ≤ n → p ≡ at + (n - first) * columns + c → Grows a b → Entered b start (getD values p 0) n → EntersColumn values at columns c start first n a → EntersColumn values at columns c start first (n + 1) b
+column-more values at columns c start first n p a b h e f one m g l k = go (decLt g n)
   where
-    go : Dec (g < n) → IndexedAt b r c (getD values (at + (g - start) * columns + c) 0) g
-    go (yes t) = column-on a b f r c (getD values (at + (g - start) * columns + c) 0) g q (omega arith) (m g l t c d)
+    go : Dec (g < n) → Entered b start (getD values (at + (g - first) * columns + c) 0) g
+    go (yes t) = entered-on a b f (getD values (at + (g - first) * columns + c) 0) g start (m g l t)
     go (no t) =
         let s : g ≡ n = omega arith in
-        rw s (subst (λ (x : ℕ). IndexedAt b r c (getD values (x + c) 0) n) e (one c d))
+        rw s (subst (λ (x : ℕ). Entered b start (getD values x 0) n) e one)
+
+-- ---- One column more
+
+pub columns-entered : (values : List ℕ) (at r columns n first end : ℕ) (a b : List ℕ) → r < 64 → n < 8 → Grows a b → ((columnStart a r n ≡ 0 → ⊥) → EntersColumn values at columns n (columnStart a r n) first end b) → EntersColumns values at r columns n first end a → EntersColumns values at r columns (n + 1) first end b
+columns-entered values at r columns n first end a b h k f one m =
+    below-more _ n
+    (λ c l g u v. enteredAt-on a b f r c (getD values (at + (g - first) * columns + c) 0) g h (omega arith) (m c l g u v))
+    (λ g u v d.
+    let s = columns-same a b (f .same) r n h k in
+    subst (λ (t : ℕ). Entered b t (getD values (at + (g - first) * columns + n) 0) g) (sym s) (one (λ z. d (s ∙ z)) g u v))
 
 -- ---- One relation more
 

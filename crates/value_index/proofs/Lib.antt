@@ -3,3 +3,4 @@ pub mod Products
 pub mod Planning
 pub mod ValueRows
 pub mod Entries
+pub mod Spread

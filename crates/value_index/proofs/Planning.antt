@@ -63,7 +63,7 @@ module _ (size : ℕ) where
 
 -- ---- The whole plan
 
-module _ (index : List ℕ) (full : length index ≡ 9284) (words : ℕ) (d : Digits) where
+module _ (index : List ℕ) (full : length index ≡ 9796) (words : ℕ) (d : Digits) where
   -- the index once its numbers are written
   abbrev pub numbered : List ℕ
   numbered = set (set (set (set index 512 words) 513 (d .count)) 514 (d .rows)) 515 (d .factor)
@@ -77,19 +77,19 @@ module _ (index : List ℕ) (full : length index ≡ 9284) (words : ℕ) (d : Di
   abbrev three : List ℕ
   three = set two 514 (d .rows)
 
-  one-full : length one ≡ 9284
+  one-full : length one ≡ 9796
   one-full = length-set index 512 words ∙ full
 
-  two-full : length two ≡ 9284
+  two-full : length two ≡ 9796
   two-full = length-set one 513 (d .count) ∙ one-full
 
-  three-full : length three ≡ 9284
+  three-full : length three ≡ 9796
   three-full = length-set two 514 (d .rows) ∙ two-full
 
-  pub numbered-full : length numbered ≡ 9284
+  pub numbered-full : length numbered ≡ 9796
   numbered-full = length-set three 515 (d .factor) ∙ three-full
 
-  module _ (final : List ℕ) (laid : LaysRelations (d .count * d .rows * words) 64 numbered final) where
+  module _ (final : List ℕ) (laid : LaysRelations ((d .count * d .rows + 1) * words) 64 numbered final) where
     words-are : rowWords final ≡ words
     words-are =
         laid .others 512 (omega arith)
@@ -114,14 +114,14 @@ module _ (index : List ℕ) (full : length index ≡ 9284) (words : ℕ) (d : Di
     factor-is : factor final ≡ d .factor
     factor-is = laid .others 515 (omega arith) ∙ getD-set-same three 515 (d .factor) 0 (omega (arith, three-full))
 
-    size-is : columnWords final ≡ d .count * d .rows * words
+    size-is : columnWords final ≡ (d .count * d .rows + 1) * words
     size-is = rw (digits-are, rows-are, words-are) refl
 
-    column-rows : (n : ℕ) → Fits (d .count * d .rows * words) n → (n ≡ 0) ⊎ ColumnRows final n
+    column-rows : (n : ℕ) → Fits ((d .count * d .rows + 1) * words) n → (n ≡ 0) ⊎ ColumnRows final n
     column-rows n (inl e) = inl e
     column-rows n (inr f) = inr (record { behind = f .0; within = omega (arith, f .1, size-is) })
 
-    pub laid-out : (n : ℕ) → length final ≡ 9284 → Digital d → words ≤ 64 → n ≤ 64 * words → Laid final n
+    pub laid-out : (n : ℕ) → length final ≡ 9796 → Digital d → words ≤ 64 → n ≤ 64 * words → Laid final n
     laid-out n long sound short enough =
         record {
           full = long;

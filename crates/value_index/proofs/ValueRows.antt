@@ -7,7 +7,7 @@ use Prim.Native.Nat.{ℕ, zero, suc, _+_, _*_, _/_, _%_, _≤_, _<_}
 use native.Mathlib.Nat.{mul-le-mul, mul-le-mul-right}
 use native.Mathlib.Omega.{arith}
 use lib.ListN.{length, getD}
-use Rattle.value_index.specs.Plan.{planWords, indexWords, columnStart, rowWords, digitCount, digitRows, factor, columnWords, hashBehind, hashAt, rowOf, rowAt, ColumnRows, SoundPlan, SamePlan}
+use Rattle.value_index.specs.Plan.{planWords, indexWords, columnStart, rowWords, digitCount, digitRows, factor, columnWords, anyRow, hashBehind, hashAt, rowOf, rowAt, ColumnRows, SoundPlan, SamePlan}
 use Rattle.value_index.proofs.Products.{piece-within}
 
 module _ (index : List ℕ) (v : ℕ) where
@@ -24,7 +24,16 @@ module _ (index : List ℕ) (v : ℕ) where
   unfolding hashAt
   hash-next i = let e : i + 1 ≡ suc i = omega arith in ap (hashAt index v) e
 
--- of any hash
+-- the rows of a column, of which the last is that of any, lie within the index
+pub nth-within : {index : List ℕ} {start : ℕ} → ColumnRows index start → (k : ℕ) → k ≤ digitCount index * digitRows index → start + k * rowWords index + rowWords index ≤ indexWords
+nth-within {index} rows k h =
+    let l : k < digitCount index * digitRows index + 1 = omega (arith, h) in
+    omega (arith, piece-within k (digitCount index * digitRows index + 1) (rowWords index) l, rows .within)
+
+pub rows-many : {index : List ℕ} → SoundPlan index → digitCount index * digitRows index ≤ 36864
+rows-many sound = mul-le-mul (sound .few) (sound .short)
+
+-- of a hash
 module _ {index : List ℕ} (sound : SoundPlan index) (hash : ℕ) (below : hash < 65536) where
   digit-below : hash * digitRows index / 65536 < digitRows index
   digit-below =
@@ -32,24 +41,22 @@ module _ {index : List ℕ} (sound : SoundPlan index) (hash : ℕ) (below : hash
       let p = mul-le-mul-right (digitRows index) h in
       omega (arith, p, sound .some)
 
-  pub hash-fits : hash * digitRows index ≤ 570425344
+  pub hash-fits : hash * digitRows index ≤ 603979776
   hash-fits =
       let h : hash ≤ 65536 = omega (arith, below) in
       mul-le-mul h (sound .short)
 
   module _ (i : ℕ) (h : i < digitCount index) where
     -- the rows before it, of this digit and those before it
-    rows-before : i * digitRows index + hash * digitRows index / 65536 < digitCount index * digitRows index
+    pub rows-before : i * digitRows index + hash * digitRows index / 65536 < digitCount index * digitRows index
     rows-before = omega (arith, digit-below, piece-within i (digitCount index) (digitRows index) h)
 
-    pub rows-few : i * digitRows index + hash * digitRows index / 65536 < 34817
-    rows-few = let p = mul-le-mul (sound .few) (sound .short) in omega (arith, p, rows-before)
+    pub rows-few : i * digitRows index + hash * digitRows index / 65536 < 36865
+    rows-few = omega (arith, rows-many sound, rows-before)
 
     module _ {start : ℕ} (rows : ColumnRows index start) where
       pub row-within : rowOf index start hash i + rowWords index ≤ indexWords
-      row-within =
-          let p = piece-within (i * digitRows index + hash * digitRows index / 65536) (digitCount index * digitRows index) (rowWords index) rows-before in
-          omega (arith, p, rows .within)
+      row-within = nth-within rows (i * digitRows index + hash * digitRows index / 65536) (omega (arith, rows-before))
 
       pub row-behind : planWords ≤ rowOf index start hash i
       row-behind = omega (arith, rows .behind)
@@ -81,6 +88,9 @@ module _ (before after : List ℕ) (same : SamePlan before after) where
   pub row-same : (start v i : ℕ) → rowAt after start v i ≡ rowAt before start v i
   unfolding rowAt
   row-same start v i = rw (hash-same v i, same 514 (omega arith), same 512 (omega arith)) refl
+
+  pub any-same : (start : ℕ) → anyRow after start ≡ anyRow before start
+  any-same start = rw (same 513 (omega arith), same 514 (omega arith), same 512 (omega arith)) refl
 
   pub columns-same : (r c : ℕ) → r < 64 → c < 8 → columnStart after r c ≡ columnStart before r c
   columns-same r c h k = same (r * 8 + c) (omega arith)

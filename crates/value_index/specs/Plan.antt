@@ -9,14 +9,14 @@ use Rattle.model.specs.Limits.{maxRelations, maxWidth}
 
 -- the words of all rows
 abbrev pub rowsWords : ℕ
-rowsWords = 8704
+rowsWords = 9216
 
 -- the words of the plan, and of plan and rows
 abbrev pub planWords : ℕ
 planWords = 580
 
 abbrev pub indexWords : ℕ
-indexWords = 9284
+indexWords = 9796
 
 -- the most digits of a value
 abbrev pub maxDigits : ℕ
@@ -49,9 +49,13 @@ digitRows index = getD index 514 0
 abbrev pub factor : List ℕ → ℕ
 factor index = getD index 515 0
 
--- the words of one column's rows
+-- the words of one column's rows: those of the digits, and behind them the row of any
 abbrev pub columnWords : List ℕ → ℕ
-columnWords index = digitCount index * digitRows index * rowWords index
+columnWords index = (digitCount index * digitRows index + 1) * rowWords index
+
+-- the word at which the row of any begins, among the rows that begin at `start`
+abbrev pub anyRow : List ℕ → ℕ → ℕ
+anyRow index start = start + digitCount index * digitRows index * rowWords index
 
 -- what is left of a hash behind a digit that is made of it
 abbrev pub hashBehind : List ℕ → ℕ → ℕ

@@ -1,6 +1,6 @@
 // The value index: rows of bits by tuple, for each column whose variable another relation has too. A value has a few digits, each of which
-// names a row; a tuple is in the rows of its values. So the tuples that have a value in a column are in all of its rows, and where the
-// digits tell all values apart, no other tuple is.
+// names a row; a tuple is in the rows of its values, and in every row of a column where its value is any. So the tuples whose value in a
+// column fits a value are in all of its rows, and where the digits tell all values apart, no other tuple is.
 ghost use mathlib.Core.Path.{_≡_};
 ghost use mathlib.Core.Bool.{true};
 ghost use Prim.Native.Nat.{ℕ, _+_, _-_, _*_, _≤_, _<_};
@@ -9,8 +9,11 @@ ghost use Rattle.model.specs.Limits.{maxRelations, maxWidth, wordBits};
 ghost use Rattle.layout.specs.Loan.{entry, exit};
 ghost use Rattle.layout.specs.Setting.{lists, networkIn, SoundLists};
 ghost use Rattle.value_index.specs.Plan.{planWords, indexWords, hashes, columnStart, digitCount, hashAt, hashBehind, rowOf, ColumnRows, SoundPlan, SamePlan};
-ghost use Rattle.value_index.specs.Index.{Full, Laid, Raises, Grows, isIndexed, IndexedAt, Indexed, IndexesTuple, IndexesTuples};
+ghost use Rattle.value_index.specs.Index.{Full, Laid, Raises, Grows, isIndexed, Indexed, Entered, EntersColumn, EntersTuples, IndexesTuples};
+use any::any_row;
+use any::spread_columns;
 use layout::Starts;
+use layout::is_any;
 use layout::relation_count;
 use layout::tuple_start;
 use layout::value_start;
@@ -21,6 +24,7 @@ use model::Value;
 use plan::lay_out;
 
 pub mod plan; // how values are told apart
+pub mod any; // the row of any
 
 // The plan's words: where each column's rows begin, how many words a row has, how many digits a value has, how many rows a digit has,
 // what a value is multiplied by, and each relation's variables, a bit for each.
@@ -37,7 +41,7 @@ pub const SCOPES: usize = 516;
 pub const PLAN: usize = 580;
 
 // The words of all rows.
-pub const ROWS: usize = 8704;
+pub const ROWS: usize = 9216;
 
 pub const INDEX: usize = PLAN + ROWS;
 
@@ -118,25 +122,65 @@ fn enter_value(index: &mut Index, start: usize, value: Value, g: u16)
     }
 }
 
-// The tuple with id g of relation r is indexed by its value in column c, if the column has rows; no bit is lost.
-fn enter_column(index: &mut Index, r: u16, c: u16, value: Value, g: u16)
-    requires { ⌜ Laid (now index) (g + 1) × ((r < maxRelations) × (c < maxWidth)) ⌝ }
-    ensures { λ _. ⌜ Full (exit index) × (Grows (entry index) (exit index) × IndexedAt (exit index) r c value g) ⌝ }
+// The tuple with id g is entered by its value among the rows that begin at `start`: in the row of any, or in those of the value; no bit is
+// lost.
+fn enter_cell(index: &mut Index, start: usize, value: Value, g: u16)
+    requires { ⌜ Laid (now index) (g + 1) × ColumnRows (now index) start ⌝ }
+    ensures { λ _. ⌜ Full (exit index) × (Grows (entry index) (exit index) × Entered (exit index) start value g) ⌝ }
 {
-    let start = column_start(index, r, c);
-    if start != 0 {
-        enter_value(index, start, value, g);
+    if is_any(value) {
+        enter(index, any_row(index, start), g);
+        return;
+    }
+    enter_value(index, start, value, g);
+}
+
+// The tuples from id first on and below id end, whose values begin at `at`, are entered by those in column c among the rows that begin at
+// `start`, which is 0 if there are none; no bit is lost.
+fn enter_column(
+    values: &[Value],
+    at: usize,
+    width: u16,
+    c: u16,
+    start: usize,
+    first: u16,
+    end: u16,
+    index: &mut Index,
+)
+    requires { ⌜ Laid (now index) end × ((start ≡ 0 → ⊥) → ColumnRows (now index) start) ⌝ }
+    requires { ⌜ (first ≤ end) × ((c < width) × ((width ≤ maxWidth) × (at + (end - first) * width ≤ length (now values)))) ⌝ }
+    ensures { λ _. ⌜ Full (exit index) × (Grows (entry index) (exit index) × ((start ≡ 0 → ⊥) → EntersColumn (entry values) at width c start first end (exit index))) ⌝ }
+{
+    if start == 0 {
+        return;
+    }
+    let mut g = first;
+    let mut p = at + wide(c);
+    while g < end {
+        enter_cell(index, start, values[p], g);
+        g += 1;
+        p += wide(width);
     }
 }
 
-// The tuple with id g of relation r, whose values begin at `at`, is indexed by each of them; no bit is lost.
-fn index_tuple(values: &[Value], at: usize, r: u16, width: u16, g: u16, index: &mut Index)
-    requires { ⌜ Laid (now index) (g + 1) × ((r < maxRelations) × ((width ≤ maxWidth) × (at + width ≤ length (now values)))) ⌝ }
-    ensures { λ _. ⌜ Full (exit index) × (Grows (entry index) (exit index) × IndexesTuple (entry values) at r width g (exit index)) ⌝ }
+// The tuples of relation r from id start on and below id end, whose values begin at `at`, are entered; no bit is lost.
+fn enter_tuples(
+    values: &[Value],
+    at: usize,
+    r: u16,
+    width: u16,
+    start: u16,
+    end: u16,
+    index: &mut Index,
+)
+    requires { ⌜ Laid (now index) end × ((r < maxRelations) × (width ≤ maxWidth)) ⌝ }
+    requires { ⌜ (start ≤ end) × (at + (end - start) * width ≤ length (now values)) ⌝ }
+    ensures { λ _. ⌜ Full (exit index) × (Grows (entry index) (exit index) × EntersTuples (entry values) at r width start end (exit index)) ⌝ }
 {
     let mut c: u16 = 0;
     while c < width {
-        enter_column(index, r, c, values[at + wide(c)], g);
+        let rows = column_start(index, r, c);
+        enter_column(values, at, width, c, rows, start, end, index);
         c += 1;
     }
 }
@@ -155,13 +199,8 @@ fn index_tuples(
     requires { ⌜ (start ≤ end) × (at + (end - start) * width ≤ length (now values)) ⌝ }
     ensures { λ _. ⌜ Full (exit index) × (Grows (entry index) (exit index) × IndexesTuples (entry values) at r width start end (exit index)) ⌝ }
 {
-    let mut g = start;
-    let mut p = at;
-    while g < end {
-        index_tuple(values, p, r, width, g, index);
-        g += 1;
-        p += wide(width);
-    }
+    enter_tuples(values, at, r, width, start, end, index);
+    spread_columns(index, r, width, start, end);
 }
 
 // Every tuple is indexed. A caller lends noughts: a bit that is there already stays.

@@ -22,6 +22,7 @@ use super::ROW_WORDS;
 use super::ROWS;
 use super::SCOPES;
 use layout::Starts;
+use layout::is_any;
 use layout::relation_count;
 use layout::tuple_count;
 use layout::variable_start;
@@ -104,17 +105,30 @@ fn most_columns(variables: &[u16], starts: &Starts, shared: u64) -> u64
     most
 }
 
-// One more than the largest value, and at least 1.
+// The larger of two values, where any counts for the least.
+fn larger_value(a: Value, b: Value) -> Value
+    ensures { λ n. ⌜ n < hashes ⌝ }
+{
+    if is_any(b) {
+        return a;
+    }
+    if a < b {
+        return b;
+    }
+    a
+}
+
+// One more than the largest value other than any, and at least 1.
 fn value_bound(values: &[Value]) -> u64
     ensures { λ n. ⌜ (0 < n) × (n ≤ hashes) ⌝ }
 {
-    let mut most: u64 = 0;
+    let mut most: Value = 0;
     let mut i = 0;
     while i < values.len() {
-        most = larger(most, wide(values[i]) as u64);
+        most = larger_value(most, values[i]);
         i += 1;
     }
-    most + 1
+    most as u64 + 1
 }
 
 // Whether so many digits, of so many rows each, make at least `classes` classes of hashes.
@@ -159,19 +173,19 @@ fn digits_for(rows: u64, bound: u64) -> Digits
     }
 }
 
-// How many rows each of so many columns may have, of so many words each.
+// How many rows the digits of each of so many columns may have, of so many words each, beside the row of any.
 fn rows_for(columns: u64, words: u64) -> u64
     requires { ⌜ (0 < columns) × (0 < words) ⌝ }
     ensures { λ n. ⌜ (maxDigits ≤ n) × (n ≤ mostRows) ⌝ }
 {
     let rows = ROWS as u64 / columns / words;
-    if rows < MAX_DIGITS as u64 {
+    if rows <= MAX_DIGITS as u64 {
         return MAX_DIGITS as u64;
     }
     if MOST_ROWS < rows {
         return MOST_ROWS;
     }
-    rows
+    rows - 1
 }
 
 // Where the rows of column c of a scope begin: at `start` if its variable is shared and so many words have room there, and otherwise
@@ -282,6 +296,6 @@ pub fn lay_out(variables: &[u16], values: &[Value], starts: &Starts, index: &mut
     index[DIGITS] = digits.count;
     index[DIGIT_ROWS] = digits.rows;
     index[FACTOR] = digits.factor;
-    let size = (digits.count * digits.rows) as usize * words;
+    let size = (digits.count * digits.rows + 1) as usize * words;
     lay_relations(variables, starts, shared, size, index);
 }

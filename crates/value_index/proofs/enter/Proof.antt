@@ -28,7 +28,7 @@ module _ (c : tie.After-wide) where
   is-at : place / 64 ≡ at
   is-at = omega (arith, c .wide .ensures .0)
 
-  few : at ≤ 9283
+  few : at ≤ 9795
   few = omega (arith, is-at, start .pre .1 .1)
 
 returns : tie.Need-returns

@@ -41,7 +41,7 @@ module _ (c : tie.Then1 Inv-loop μ-loop) where
   abbrev row : ℕ
   row = rowOf index (start .args .start) (loop .loop .hash) (loop .loop .i)
 
-  within : row + rowWords index ≤ 9284
+  within : row + rowWords index ≤ 9796
   within = row-within (loop .loop .inv .1 .0 .0 .plan) (loop .loop .hash) below (loop .loop .i) reached (loop .loop .inv .1 .0 .1)
 
   behind : 580 ≤ row

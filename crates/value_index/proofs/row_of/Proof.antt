@@ -9,13 +9,13 @@ use Rattle.value_index.proofs.row_of.Statement.{statement}
 use Rattle.value_index.proofs.row_of.Tie as tie
 
 module _ (s : tie.Start) where
-  short : s .args .hash * digitRows (s .args .index .now) ≤ 570425344
+  short : s .args .hash * digitRows (s .args .index .now) ≤ 603979776
   short = hash-fits (s .pre .0) (s .args .hash) (s .pre .1 .1 .0)
 
-  few : s .args .i * digitRows (s .args .index .now) + s .args .hash * digitRows (s .args .index .now) / 65536 < 34817
+  few : s .args .i * digitRows (s .args .index .now) + s .args .hash * digitRows (s .args .index .now) / 65536 < 36865
   few = rows-few (s .pre .0) (s .args .hash) (s .pre .1 .1 .0) (s .args .i) (s .pre .1 .1 .1)
 
-  fits : rowOf (s .args .index .now) (s .args .start) (s .args .hash) (s .args .i) + rowWords (s .args .index .now) ≤ 9284
+  fits : rowOf (s .args .index .now) (s .args .start) (s .args .hash) (s .args .i) + rowWords (s .args .index .now) ≤ 9796
   fits = row-within (s .pre .0) (s .args .hash) (s .pre .1 .1 .0) (s .args .i) (s .pre .1 .1 .1) (s .pre .1 .0)
 
 pub row-of-spec : {M : Type 1} → statement M

@@ -25,7 +25,7 @@ module _ (c : tie.In-loop Inv-loop μ-loop) where
   few : c .before .loop .i < 64
   few = omega (arith, c .loop-test .taken, start .pre .1 .1 .0 .0)
 
-  within : (k : ℕ) → k < 4 → getD (four (start .args .a) (start .args .b) (start .args .c) (start .args .d)) k 0 + c .before .loop .i < 9284
+  within : (k : ℕ) → k < 4 → getD (four (start .args .a) (start .args .b) (start .args .c) (start .args .d)) k 0 + c .before .loop .i < 9796
   within k h = omega (arith, c .loop-test .taken, start .pre .1 .1 .0 .1, start .pre .1 .0 .inside k h)
 
 loop-holds : tie.Need-loop-holds Inv-loop μ-loop

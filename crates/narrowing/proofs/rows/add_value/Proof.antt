@@ -19,15 +19,21 @@ abbrev μ-loop : tie.MeasureT-loop
 μ-loop index rows₀ n start value hash₀ k₀ i₀ rows hash k i = digitCount index - i
 
 -- the digit reached
-module _ (c : tie.Then2 Inv-loop μ-loop) where
+module _ (c : tie.Then3 Inv-loop μ-loop) where
   abbrev loop : tie.At-loop Inv-loop μ-loop
   loop = c .before .before
 
+  abbrev chosen : tie.Else2 Inv-loop μ-loop
+  chosen = loop .before .before
+
   abbrev start : tie.Start Inv-loop μ-loop
-  start = loop .before .before .before
+  start = chosen .before .before .before
+
+  some : start .args .start ≡ 0 → ⊥
+  some = chosen .before .before .if1 .left
 
   reached : loop .loop .i < digitCount (start .args .index .now)
-  reached = omega (arith, c .if2 .taken, c .before .digit-count .ensures)
+  reached = omega (arith, c .if3 .taken, c .before .digit-count .ensures)
 
   below : loop .loop .hash < 65536
   below = omega (arith, loop .loop .inv .1 .1 .0, hash-below (start .args .index .now) (start .args .value) (loop .loop .i))
@@ -45,7 +51,8 @@ value-row c =
     let l = loop t .loop in
     let a = start t .args in
     record {
-      some = loop t .before .before .if1 .left;
+      definite = sym (chosen t .before .is-any .ensures) ∙ chosen t .if2 .left;
+      some = some t;
       digit = l .i;
       few = reached t;
       begins = c .row-of .ensures ∙ row-is (a .index .now) (a .start) (a .value) (l .i) (l .hash) (l .inv .1 .1 .0);
@@ -75,10 +82,12 @@ add-value-spec =
     Inv-loop
     μ-loop
     (λ c. let s = c .before in adds-none (s .args .n) (s .pre .0))
-    (λ c κs. c .before .pre .1 .0)
-    (λ c. let s = c .before .before in (omega arith, (omega arith, (c .hash-of .ensures, adds-none (s .args .n) (s .pre .0)))))
     (λ c κs. search needs)
-    (λ c κs. (start c .pre .1 .0, (start c .pre .1 .1 .1 (loop c .before .before .if1 .left), (below c, reached c))))
+    (λ c. let s = c .before .before .before in adds-none (s .args .n) (s .pre .0))
+    (λ c κs. c .before .before .before .pre .1 .0)
+    (λ c. let s = c .before .before .before .before in (omega arith, (omega arith, (c .hash-of .ensures, adds-none (s .args .n) (s .pre .0)))))
+    (λ c κs. search needs)
+    (λ c κs. (start c .pre .1 .0, (start c .pre .1 .1 .1 (some c), (below c, reached c))))
     (λ c. let s = start (c .before) in omega (arith, value-within (s .pre .1 .0) (s .pre .1 .1 .1) (value-row c)))
     (λ c. omega (arith, room (c .before)))
     (λ c. room (c .before))

@@ -6,9 +6,9 @@ use native.Mathlib.Omega.{arith}
 use lib.Dec.{eqb}
 use lib.ListN.{getD}
 use borrow.Author.Tests.{eqb-true, not-false}
+use Rattle.live.proofs.Bits.{or-none}
 use Rattle.narrowing.specs.TupleRows.{both, BitsInRows, Apart}
 use Rattle.narrowing.proofs.TupleRows.{bits-both, apart-more}
-use Rattle.narrowing.proofs.Words.{or-none}
 use Rattle.narrowing.proofs.rows.meet_both.Statement.{statement}
 use Rattle.narrowing.proofs.rows.meet_both.Tie as tie
 
@@ -25,10 +25,10 @@ module _ (c : tie.In-loop Inv-loop μ-loop) where
   few : c .before .loop .i < 64
   few = omega (arith, c .loop-test .taken, start .pre .1 .0)
 
-  within-a : start .args .a + c .before .loop .i < 9284
+  within-a : start .args .a + c .before .loop .i < 9796
   within-a = omega (arith, c .loop-test .taken, start .pre .1 .1, start .pre .0 .inside 0 (omega arith))
 
-  within-b : start .args .b + c .before .loop .i < 9284
+  within-b : start .args .b + c .before .loop .i < 9796
   within-b = omega (arith, c .loop-test .taken, start .pre .1 .1, start .pre .0 .inside 1 (omega arith))
 
 loop-again : tie.Need-loop-again Inv-loop μ-loop

@@ -1,5 +1,5 @@
--- `mask_of` goes from one live tuple to the next. The loop's invariant: the bits of those passed are 1.
--- From what `bit_at` ensures, the law of one tuple more, and the laws of the next live id.
+-- `mask_of` goes from one live tuple to the next. The loop's invariant: the bits of those passed are there.
+-- From what `bits_at` ensures, the law of one tuple more, and the laws of the next live id.
 use mathlib.Core.Path.{_≡_, sym, _∙_, subst}
 use mathlib.Core.List.{List}
 use Prim.Native.Nat.{ℕ, _+_, _-_, _*_, _≤_, _<_}
@@ -95,7 +95,7 @@ loop-again c =
     let f = ahead t in
     let e = c .next2 .ensures in (
       (omega (arith, e, f .from-i, l .inv .0 .0), omega (arith, e, f .to-end)),
-      masks-more (network k) (a .s) (a .column) (words k) (l .bits) (done .bit-at .result) (y t) (c .next2 .result) (done .bit-at .ensures .0) (done .bit-at .ensures .1)
+      masks-more (network k) (a .s) (a .column) (words k) (l .bits) (done .bits-at .result) (y t) (c .next2 .result) (done .bits-at .ensures)
           (λ i h b live. not-both live (f .none-before i (omega (arith, h, id t)) (omega (arith, b, e))))
           (subst (MasksBelow (network k) (a .s) (a .column) (words k) (l .bits)) (sym (id t)) (l .inv .1)),
     )
@@ -118,7 +118,6 @@ mask-of-spec =
     loop-holds
     (λ c. c .before .loop .inv .0 .0)
     (λ c κs. let k = known c in (record { laid = start k .pre .1 .laid; own = index c }, start k .pre .1 .inside))
-    (λ c. c .bit-at .ensures .1)
     (λ c. let t = c .before .before in omega (arith, few (known t), t .loop-test .taken))
     (λ c κs. let t = c .before .before in next-asks (known t) (g t + 1) (omega (arith, t .loop-test .taken)))
     (λ c. let t = c .before .before .before in omega (arith, c .next2 .ensures, ahead t .from-i, t .loop-test .taken))

@@ -1,16 +1,15 @@
--- `passes` tests the bit of the tuple's value, if the relation has the sieve's column.
--- From what `bit_at` ensures, and the laws of the tuples that pass.
+-- `passes` looks for a bit of the tuple's value, if the relation has the sieve's column.
+-- From what `bits_at` ensures, and the laws of the tuples that pass.
 use mathlib.Core.Path.{_≡_, sym}
 use Prim.Native.Nat.{_-_, _≤_, _<_}
 use native.Mathlib.Omega.{arith}
 use borrow.Author.Needs.{needs}
 use Rattle.model.specs.Limits.{maxRelations}
 use Rattle.model.specs.Network.{Network, width}
-use Rattle.model.specs.LiveWords.{bit, isSet}
 use Rattle.layout.specs.Setting.{networkIn}
 use Rattle.layout.proofs.SoundStarts.{width-in, scope-rises}
 use Rattle.layout.proofs.Places.{below-limit}
-use Rattle.narrowing.proofs.Sieves.{passes-none, passes-bit}
+use Rattle.narrowing.proofs.Sieves.{passes-none, passes-bits}
 use Rattle.narrowing.proofs.sieve.passes.Statement.{statement}
 use Rattle.narrowing.proofs.sieve.passes.Tie as tie
 
@@ -43,12 +42,11 @@ inside : (c : tie.Else1) → let read = c .before .before in start read .args .s
 inside c = omega (arith, c .if1 .left, width-is (c .before .before), c .before .wide .ensures .0)
 
 returns-2 : tie.Need-returns-2
-unfolding isSet bit
 returns-2 c =
     let e = c .before .before in
     let read = e .before .before in
     let a = start read .args in
-    sym (passes-bit (network read) (a .r) (a .x) (a .sieve) (c .before .bit-at .result) (c .before .bit-at .ensures .0) (inside e))
+    sym (passes-bits (network read) (a .r) (a .x) (a .sieve) (c .before .bits-at .result) (c .before .bits-at .ensures) (inside e))
 
 pub passes-spec : {M : Type 1} → statement M
 passes-spec =
@@ -61,5 +59,4 @@ passes-spec =
     (λ c κs. search needs)
     returns
     (λ c κs. (start (c .before .before) .pre, inside c))
-    (λ c. search needs)
     returns-2)

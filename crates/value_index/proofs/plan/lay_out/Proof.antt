@@ -1,6 +1,6 @@
 -- `lay_out` writes the plan's numbers, and then where each column's rows begin.
 -- From the laws of sound lists, and the law of the whole plan.
-use Prim.Native.Nat.{_*_, _≤_}
+use Prim.Native.Nat.{_+_, _*_, _≤_}
 use native.Mathlib.Nat.{mul-le-mul}
 use native.Mathlib.Omega.{arith}
 use Rattle.layout.proofs.SoundStarts.{scope-rises, tuple-count, tuples-few}
@@ -14,8 +14,8 @@ use Rattle.value_index.proofs.plan.lay_out.Statement.{statement}
 use Rattle.value_index.proofs.plan.lay_out.Tie as tie
 
 -- a column's rows are not many words
-few : (d : Digits) → Digital d → d .count * d .rows ≤ 4096
-few d h = mul-le-mul (h .few) (h .short)
+few : (d : Digits) → Digital d → d .count * d .rows + 1 ≤ 4097
+few d h = let p = mul-le-mul (h .few) (h .short) in omega (arith, p)
 
 scopes : {L : Lists} → SoundLists L → ScopesWithin (L .starts) (L .variables)
 scopes laid = record { rises = λ r h. scope-rises (laid .framed) r h; inside = λ r h. scope-within laid r h }
@@ -63,6 +63,7 @@ lay-out-spec =
     (λ c κs. search needs) (λ c κs. search needs) (λ c κs. search needs) (λ c. search needs)
     (λ c. search needs) (λ c. search needs) (λ c. search needs)
     mul-size
+    (λ c. let d = c .before .digits-for in omega (arith, few (d .result) (d .ensures)))
     mul-size-2
     lay-relations-requires
     returns)

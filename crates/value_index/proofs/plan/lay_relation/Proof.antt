@@ -12,7 +12,7 @@ use Rattle.value_index.proofs.plan.lay_relation.Tie as tie
 
 abbrev Inv-loop : tie.InvT-loop
 Inv-loop scope shared r size index₀ own start₀ c₀ index start c =
-    (own ≡ r * 8) × ((length index ≡ 9284) × ((580 ≤ start) × ((start ≤ 9284) × ((c ≤ 8) × LaysRelation size r c index₀ index))))
+    (own ≡ r * 8) × ((length index ≡ 9796) × ((580 ≤ start) × ((start ≤ 9796) × ((c ≤ 8) × LaysRelation size r c index₀ index))))
 
 abbrev μ-loop : tie.MeasureT-loop
 μ-loop scope shared r size index₀ own start₀ c₀ index start c = 8 - c

@@ -12,7 +12,7 @@ use Rattle.value_index.proofs.plan.lay_relations.Tie as tie
 
 abbrev Inv-loop : tie.InvT-loop
 Inv-loop variables starts shared size index₀ r₀ index r =
-    (r ≤ 64) × ((length index ≡ 9284) × LaysRelations size r index₀ index)
+    (r ≤ 64) × ((length index ≡ 9796) × LaysRelations size r index₀ index)
 
 abbrev μ-loop : tie.MeasureT-loop
 μ-loop variables starts shared size index₀ r₀ index r = 64 - r

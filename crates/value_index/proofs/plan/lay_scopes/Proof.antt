@@ -14,7 +14,7 @@ use Rattle.value_index.proofs.plan.bits_of.Reads as bits-of-reads
 
 abbrev Inv-loop : tie.InvT-loop
 Inv-loop variables starts index₀ r₀ index r =
-    (r ≤ 64) × (length index ≡ 9284)
+    (r ≤ 64) × (length index ≡ 9796)
 
 abbrev μ-loop : tie.MeasureT-loop
 μ-loop variables starts index₀ r₀ index r = 64 - r

@@ -1,5 +1,5 @@
--- `value_bound` keeps the largest value so far.
--- From what `larger` ensures.
+-- `value_bound` goes through all values. Whichever is kept, it is one of 16 bits.
+-- From what `larger_value` ensures.
 use Prim.Native.Nat.{_-_, _≤_, _<_}
 use lib.ListN.{length}
 use native.Mathlib.Omega.{arith}
@@ -14,13 +14,6 @@ Inv-loop values most₀ i₀ most i =
 abbrev μ-loop : tie.MeasureT-loop
 μ-loop values most₀ i₀ most i = length values - i
 
-loop-again : tie.Need-loop-again Inv-loop μ-loop
-loop-again c =
-    let l = c .before .before .before .before .loop in
-    let w : c .before .wide .result ≤ 65535 = omega (arith, c .before .wide .ensures .1) in
-    let m = c .larger .ensures .1 65535 (omega (arith, l .inv .1)) w in
-    (omega arith, omega (arith, m))
-
 pub value-bound-spec : {M : Type 1} → statement M
 value-bound-spec =
     tie.close
@@ -28,6 +21,6 @@ value-bound-spec =
     Inv-loop
     μ-loop
     (λ c. search needs) (λ c. search needs) (λ c. search needs) (λ c κs. search needs)
-    (λ c κs. search needs) (λ c. search needs) (λ c. search needs)
-    loop-again
-    (λ c. search needs) (λ c. search needs))
+    (λ c. search needs) (λ c. search needs)
+    (λ c. (omega (arith, c .before .before .loop-test .taken), omega (arith, c .larger-value .ensures)))
+    (λ c. search needs) (λ c. search needs) (λ c. search needs))
