@@ -14,6 +14,8 @@
  *   rows          2 bytes for each book number of a row (withdraw)
  *
  * A row's book number is its number in its sheet, counted from 0, and the rows of all earlier sheets added.
+ * Two codes fit if they are equal or one of them is 65,535, which means any; two rows agree if their codes fit under every question
+ * that both sheets ask. A support's rows all agree, every two of them.
  * A list may be empty; its pointer is then not read and may be NULL. The lists lent to one call do not overlap, and nothing else
  * writes them while the call runs. A list may have any length: one that is too long is refused like any other fault.
  *
@@ -64,6 +66,7 @@ enum {
     WAKHVOSI_MAX_MEMBERS = 4,
     WAKHVOSI_MAX_COMBINATIONS = 256,
     WAKHVOSI_MAX_SUPPORTS = 32768, /* numbers that the supports may need */
+    WAKHVOSI_ANY = 65535,          /* the code for any */
     WAKHVOSI_NO_SUPPORT = 65535,   /* stands m times in the supports where a row is dead */
     WAKHVOSI_NO_SHEET = 64,        /* the subject of a settled answer */
     WAKHVOSI_NO_QUESTION = 64      /* .. and of compare's where the rows agree */
@@ -105,7 +108,7 @@ enum {
     WAKHVOSI_EMPTIED = 1, /* a sheet has none: no complete order exists */
     WAKHVOSI_NO = 0,      /* test: the marks are not settled */
     WAKHVOSI_YES = 1,     /* .. they are */
-    WAKHVOSI_DIFFER = 0,  /* compare: under some question that both sheets ask, the rows have different codes */
+    WAKHVOSI_DIFFER = 0,  /* compare: under some question that both sheets ask, the rows' codes do not fit */
     WAKHVOSI_AGREE = 1,   /* .. under none */
     WAKHVOSI_REFUSED = 2  /* of every call: the request has a fault; nothing was written */
 };
@@ -149,7 +152,8 @@ uint64_t wakhvosi_withdraw(const uint8_t *sheets, size_t sheets_bytes,
                            uint8_t *supports, size_t supports_bytes,
                            const uint8_t *rows, size_t rows_bytes);
 
-/* Choose: living rows of sheets asking the question, with another code there, lose their marks, then filter. */
+/* Choose: living rows of sheets asking the question, whose code there does not fit the one chosen, lose their marks, then filter.
+ * Choosing any strikes nothing, and no choice strikes a row with any there. */
 uint64_t wakhvosi_choose(const uint8_t *sheets, size_t sheets_bytes,
                          const uint8_t *questions, size_t questions_bytes,
                          const uint8_t *codes, size_t codes_bytes,

@@ -82,6 +82,8 @@ typedef struct {
 static const rest filtered = {123, {0, 0, 1, 1, D, D, 0, 0, 1, 1, 0, 0, 1, 0, D, D, 0, 0, 0, 1, 0, 0, 1, 1, 0, 0, 1, 1}};
 static const rest without_5 = {82, {D, D, 1, 1, D, D, D, D, 1, 1, D, D, 1, 1, D, D, D, D, 1, 1, D, D, 1, 1, D, D, 1, 1}};
 static const rest nothing = {0, {D, D, D, D, D, D, D, D, D, D, D, D, D, D, D, D, D, D, D, D, D, D, D, D, D, D, D, D}};
+static const rest all_with_any = {127, {0, 0, 1, 1, 2, 1, 0, 0, 1, 1, 0, 0, 1, 0, 2, 1, 0, 0, 0, 1, 0, 0, 1, 1, 0, 0, 1, 1}};
+static const rest beside_any = {84, {D, D, D, D, 2, 1, D, D, 2, 1, D, D, D, D, 2, 1, D, D, 2, 1, D, D, 1, 1, D, D, 1, 1}};
 #undef D
 
 /* ---- Expectations */
@@ -145,6 +147,27 @@ static void good_calls(void) {
     q = book_a();
     q.x = 0, q.y = 2;
     answers(q, COMPARE, counted(0, 0, 0, 0, 0), 0, "rows 0 and 2 differ on question 0 and on question 1");
+}
+
+/* Book A with any in the place of the last code, under question 0. */
+static request a_with_any(uint16_t x, uint16_t y) {
+    request q = book_a_with(CODES, NUMBERS(1, 1, 1, 2, 2, 2, 1, 5, 2, 6, 5, 1, 6, WAKHVOSI_ANY));
+    q.x = x, q.y = y;
+    return q;
+}
+
+static void any_code(void) {
+    request q = book_a();
+    q.y = WAKHVOSI_ANY;
+    leaves(q, CHOOSE, counted(0, 64, 6, 0, 1), &filtered, "any chosen on A");
+    leaves(a_with_any(0, 0), FILTER, counted(0, 64, 7, 0, 0), &all_with_any, "row 2 has a partner by any");
+    leaves(a_with_any(0, WAKHVOSI_ANY), CHOOSE, counted(0, 64, 7, 0, 0), &all_with_any, "any chosen on A with any");
+    leaves(a_with_any(0, 2), CHOOSE, counted(0, 64, 3, 3, 1), &beside_any, "a choice leaves the row with any");
+    answers(a_with_any(0, 0), TEST, 1, 1, "test of A with any");
+    answers(a_with_any(2, 6), COMPARE, counted(1, 64, 0, 0, 0), 0, "rows 2 and 6 agree by any");
+    answers(a_with_any(6, 2), COMPARE, counted(1, 64, 0, 0, 0), 0, "rows 6 and 2 agree by any");
+    answers(a_with_any(6, 6), COMPARE, counted(1, 64, 0, 0, 0), 0, "row 6 agrees with itself");
+    answers(a_with_any(5, 6), COMPARE, counted(0, 2, 0, 0, 0), 0, "rows 5 and 6 differ on question 2, and not on 0");
 }
 
 /* A list that is so many bytes short of a whole number of entries. */
@@ -293,6 +316,7 @@ static void most_supports(void) {
 
 int main(void) {
     good_calls();
+    any_code();
     odd_counts();
     numbers_2_to_6();
     numbers_7_to_14();

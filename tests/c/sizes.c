@@ -1,5 +1,5 @@
 /* The constants and the inline functions of wakhvosi.h beside the calls: lists of exactly the bytes that the functions name are
- * accepted and shorter ones are not, and each limit is the last that passes. All codes are 0. */
+ * accepted and shorter ones are not, and each limit is the last that passes. All codes are 0, but for one of the last cases. */
 #include "wakhvosi.h"
 #include <stdbool.h>
 #include <stdio.h>
@@ -153,11 +153,23 @@ static void answers(void) {
     check(wakhvosi_kind(answer) == WAKHVOSI_EMPTIED && wakhvosi_subject(answer) == 0 && wakhvosi_withdrawn(answer) == 2, "emptied");
 }
 
+/* Row 1 of sheet 1 fits every row of sheet 0, and every choice. */
+static void any_code(void) {
+    book b = combined(2, 2, 2, 1);
+    put(codes, 3, WAKHVOSI_ANY);
+    check(settled(b) && wakhvosi_left(filter(&b)) == 4, "any fits");
+    uint64_t answer = wakhvosi_choose(sheets, 8, questions, 4, codes, 8, 2, members, 4, marks, 8, supports, 16, 0, WAKHVOSI_ANY);
+    check(wakhvosi_left(answer) == 4 && wakhvosi_withdrawn(answer) == 0, "any chosen");
+    answer = wakhvosi_choose(sheets, 8, questions, 4, codes, 8, 2, members, 4, marks, 8, supports, 16, 0, WAKHVOSI_ANY - 1);
+    check(wakhvosi_kind(answer) == WAKHVOSI_EMPTIED && wakhvosi_withdrawn(answer) == 3, "a choice that any alone fits");
+}
+
 int main(void) {
     sizes();
     limits();
     most_bytes();
     answers();
+    any_code();
     printf("%u passed, %u failed\n", passed, failed);
     return failed != 0;
 }

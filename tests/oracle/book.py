@@ -15,6 +15,7 @@ DIFFER, AGREE = 0, 1
 NO_SHEET = 64
 NO_QUESTION = 64
 DEAD = 65535
+ANY = 65535  # the code for "any"
 MOST_ROWS = 4096
 MOST_SUPPORTS = 32768
 MOST_BYTES = 65536
@@ -187,14 +188,19 @@ def first_fault(request: Request) -> int:
 # Filtering
 
 
+def fit(one: int, other: int) -> bool:
+    """Whether two codes fit."""
+    return one == other or ANY in (one, other)
+
+
 def agree(one: Row, other: Row) -> bool:
-    return all(other[question] == code for question, code in one.items() if question in other)
+    return all(fit(code, other[question]) for question, code in one.items() if question in other)
 
 
 def first_clash(one: Row, other: Row) -> Optional[int]:
-    """The lowest question of both rows under which they differ."""
+    """The lowest question of both rows under which their codes do not fit."""
     shared = [question for question in range(64) if question in one and question in other]
-    return next((question for question in shared if one[question] != other[question]), None)
+    return next((question for question in shared if not fit(one[question], other[question])), None)
 
 
 def first_support(book: Book, combination: Combination, living: set[int], seeker: int) -> Optional[tuple[int, ...]]:
@@ -270,7 +276,7 @@ def struck_rows(book: Book, request: Request) -> set[int]:
         return set(request.rows)
     if request.call == "choose":
         asking = [g for g, row in enumerate(book.rows) if request.question in row]
-        return {g for g in asking if book.rows[g][request.question] != request.code}
+        return {g for g in asking if not fit(book.rows[g][request.question], request.code)}
     return set()
 
 

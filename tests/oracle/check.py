@@ -2,16 +2,17 @@
 
 import functools
 import itertools
+import math
 import random
 import traceback
 from dataclasses import replace
-from typing import Callable, Optional
+from typing import Callable, Iterable, Iterator, Optional
 from unittest import mock
 
 import book
 import draw
 import reach
-from book import Book, Combination, Reply, Request, Row
+from book import ANY, Book, Combination, Reply, Request, Row
 
 Check = tuple[str, Callable[[], bool]]
 
@@ -118,6 +119,40 @@ def lowest_clash() -> bool:
     return answers == [(1, 64), (0, 4), (0, 4), (0, 9), (0, 1), (2, 13)]
 
 
+def beside_any() -> Request:
+    """Three sheets that ask question 0, the first two of them question 1 too."""
+    return Request(
+        sheets=[(2, 2), (2, 4), (1, 2)],
+        questions=[0, 1, 1, 0, 0],
+        codes=[1, 7, 3, 7, 7, ANY, ANY, 2, ANY, ANY, 8, ANY, 2, 1],
+        m=3,
+        combinations=[0, 1, 2],
+        marks=[0b11111111],
+        supports=[0] * 24,
+    )
+
+
+def any_is_no_chain() -> bool:
+    """Row 1 agrees with row 2, and row 2 by its any with both rows of the last sheet; but row 1 with neither of these. It falls."""
+    answer, marks, supports = book.reply(beside_any())
+    return answer == (0, 64, 4, 0, 4) and marks == [0b10010101] and supports[:6] == [0, 0, 1] + [65535] * 3
+
+
+def any_compared() -> bool:
+    """Any fits on either side and on both, and hides no clash under another question."""
+    pairs = ([0, 2], [2, 0], [0, 4], [4, 5], [0, 3], [3, 7], [0, 5], [5, 0])
+    answers = [book.reply(replace(beside_any(), call="compare", rows=rows))[0] for rows in pairs]
+    return answers == [(1, 64)] * 4 + [(0, 0)] * 2 + [(0, 1)] * 2
+
+
+def any_chosen() -> bool:
+    """Choosing any strikes nothing; choosing a code leaves the rows with any there."""
+    choices = ((0, ANY), (1, 8), (0, 1), (0, draw.TOP))
+    asked = [replace(beside_any(), call="choose", question=question, code=code) for question, code in choices]
+    struck = [book.struck_rows(book.read_book(request), request) for request in asked]
+    return struck == [set(), {0, 1, 2}, {1, 3, 6}, {0, 1, 3, 6, 7}]
+
+
 def clash_unless_agreeing() -> bool:
     """A question is named exactly where two rows do not agree; they differ under it and agree under all lower ones."""
     for request, _ in sample("clashing", 300):
@@ -127,7 +162,7 @@ def clash_unless_agreeing() -> bool:
             if (clash is None) != book.agree(one, other) or clash != book.first_clash(other, one):
                 return False
             lower = {question: code for question, code in one.items() if clash is None or question < clash}
-            if not book.agree(lower, other) or clash is not None and one[clash] == other[clash]:
+            if not book.agree(lower, other) or clash is not None and one[clash] in (other[clash], ANY):
                 return False
     return True
 
@@ -300,24 +335,92 @@ def largest_by_all_subsets() -> bool:
     return seen > 50
 
 
-def complete_orders(whole: Book, living: set[int]) -> set[frozenset[tuple[int, int]]]:
-    orders = set()
-    for rows in itertools.product(*([whole.rows[g] for g in sheet if g in living] for sheet in whole.sheets)):
-        if all(book.agree(one, other) for one, other in itertools.combinations(rows, 2)):
-            orders.add(frozenset(pair for row in rows for pair in row.items()))
-    return orders
+def codes_to_try(whole: Book, question: int) -> list[int]:
+    """The codes other than any that rows have under the question, and one that none has, which stands for all others."""
+    own = {row[question] for row in whole.rows if question in row} - {ANY}
+    return [*own, min(set(range(len(own) + 1)) - own)]
+
+
+def questions_of(whole: Book, sheets: Iterable[int]) -> list[int]:
+    return sorted({question for sheet in sheets for g in whole.sheets[sheet] for question in whole.rows[g]})
+
+
+def order_count(whole: Book, sheets: Iterable[int]) -> int:
+    return math.prod(len(codes_to_try(whole, question)) for question in questions_of(whole, sheets))
+
+
+def orders_over(whole: Book, sheets: Iterable[int], living: set[int]) -> Iterator[tuple[int, ...]]:
+    """The codes other than any, one for each question of the sheets, such that each sheet has a living row that fits them."""
+    asked = questions_of(whole, sheets)
+    for codes in itertools.product(*(codes_to_try(whole, question) for question in asked)):
+        order = dict(zip(asked, codes))
+        if all(any(g in living and book.agree(whole.rows[g], order) for g in whole.sheets[sheet]) for sheet in sheets):
+            yield codes
 
 
 def no_order_lost() -> bool:
-    found = 0
-    for request, (answer, marks, _) in changes_accepted("small", 600):
+    """Of books with any and without."""
+    found = {False: 0, True: 0}
+    for request, (answer, marks, _) in changes_accepted("small", 600) + changes_accepted("any", 300):
         whole = book.read_book(request)
+        sheets = range(len(whole.sheets))
+        if order_count(whole, sheets) > 500:
+            continue
         rest = book.living_rows(whole, request.marks) - book.struck_rows(whole, request)
-        orders = complete_orders(whole, rest)
-        found += len(orders)
-        if orders != complete_orders(whole, book.living_rows(whole, marks)) or (answer[0] == book.EMPTIED and orders):
+        orders, left = (set(orders_over(whole, sheets, living)) for living in (rest, book.living_rows(whole, marks)))
+        found[ANY in request.codes] += len(orders)
+        if orders != left or answer[0] == book.EMPTIED and orders:
             return False
-    return found > 50
+    return min(found.values()) > 50
+
+
+def seekers(whole: Book, combinations: list[Combination], living: set[int]) -> Iterator[tuple[Combination, int, set[int]]]:
+    """Each living row in each combination that has few orders, with the living rows of all other sheets."""
+    for combination in combinations:
+        if order_count(whole, combination) <= 100:
+            for rows in (set(whole.sheets[sheet]) for sheet in combination):
+                yield from ((combination, g, living - rows) for g in living & rows)
+
+
+def supports_by_orders() -> bool:
+    """A row has a support exactly if codes other than any, one for each question, fit it and a living row of every other member."""
+    seen = set()
+    for request, _ in changes_accepted("any", 300):
+        whole = book.read_book(request)
+        living = book.living_rows(whole, request.marks) if len(whole.rows) <= 30 else set()
+        for combination, g, others in seekers(whole, book.read_combinations(request), living):
+            by_orders = any(True for _ in orders_over(whole, combination, others | {g}))
+            seen.add((by_orders, request.m, ANY in whole.rows[g].values()))
+            if by_orders != (book.first_support(whole, combination, living, g) is not None):
+                return False
+    return seen == set(itertools.product((False, True), (2, 3, 4), (False, True)))
+
+
+def choices_leave_any() -> bool:
+    """Choosing any is a filter; choosing another code strikes exactly the rows that have a third code under the question."""
+    for request, _ in changes_accepted("any", 300):
+        whole = book.read_book(request)
+        if book.reply(replace(request, call="choose", code=ANY)) != book.reply(replace(request, call="filter")):
+            return False
+        for code in set(request.codes) - {ANY}:
+            struck = book.struck_rows(whole, replace(request, call="choose", code=code))
+            if struck != {g for g, row in enumerate(whole.rows) if row.get(request.question, ANY) not in (code, ANY)}:
+                return False
+    return True
+
+
+def any_keeps_more() -> bool:
+    """With any in place of a code no row falls that stayed before."""
+    rng, more = random.Random(1), 0
+    for request, _ in changes_accepted("small", 600):
+        whole, combinations = book.read_book(request), book.read_combinations(request)
+        living = book.living_rows(whole, request.marks)
+        looser = [{question: ANY if draw.chance(rng, 10) else code for question, code in row.items()} for row in whole.rows]
+        before, behind = (book.filtered(Book(rows, whole.sheets), combinations, living) for rows in (whole.rows, looser))
+        more += before != behind
+        if not before <= behind:
+            return False
+    return more > 20
 
 
 def joined_by_spreading(members: list[list[int]]) -> bool:
@@ -355,7 +458,7 @@ def listing_as_filter() -> bool:
 
 @functools.lru_cache(maxsize=None)
 def drawn_lists() -> list[tuple[Request, list[Request]]]:
-    return draw.lists_of_calls(1, 400)
+    return draw.lists_of_calls(1, 400) + draw.lists_of_calls(1, 100, "any")
 
 
 def list_agrees(shared: Request, calls: list[Request]) -> bool:
@@ -378,7 +481,8 @@ def lists_agree() -> bool:
 
 
 def lists_are_varied() -> bool:
-    """Lists with no accepted call, with other lists lent, with struck dead rows, ending settled and emptied."""
+    """Lists with no accepted call, with other lists lent, with struck dead rows, ending settled and emptied; with any chosen, with
+    codes chosen beside any, and with any that decides what is left."""
     seen = set()
     for shared, calls in drawn_lists():
         done = book.in_turn(shared.marks, calls)
@@ -389,7 +493,11 @@ def lists_are_varied() -> bool:
         seen.add(("other marks", any(call.marks != shared.marks for call in calls)))
         seen.add(("refused first", kinds[0] == book.REFUSED and bool(accepted)))
         seen.add(("refused last", kinds[-1] == book.REFUSED and bool(accepted)))
+        for request, reply in done:
+            if ANY in request.codes and reply[0][0] != book.REFUSED:
+                seen.update((label, True) for label in reach.of_any(request, reply))
     wanted = {("last", kind) for kind in (book.SETTLED, book.EMPTIED, None)}
+    wanted |= {(label, True) for label in reach.ANY_LISTS}
     wanted |= {(name, True) for name in ("other book", "other marks", "refused first", "refused last")}
     return wanted <= seen
 
@@ -446,6 +554,14 @@ def refusals_occur() -> bool:
     return drawn == set(range(2, 15)) and in_texts == {1, 6, 9, 10, 12}
 
 
+def any_in_texts() -> bool:
+    """Any decides some of the listings that are not refused."""
+    listed = [book.read_text(text) for text in draw.texts(31, 300) if not book.listing(text).startswith(b"2,")]
+    lent = {"marks": [2**64 - 1] * 64, "supports": [0] * book.MOST_SUPPORTS}
+    asked = [replace(request, **lent) for request in listed if ANY in request.codes]
+    return sum(reach.any_decides(request, book.reply(request)) for request in asked) > 2
+
+
 def answers_occur() -> bool:
     """Settled and emptied, each with and without withdrawn and deleted rows; yes and no; agree and several questions."""
     changed = {(answer[0], answer[3] > 0, answer[4] > 0) for _, (answer, _, _) in changes_accepted("small", 600)}
@@ -482,7 +598,7 @@ def same_seed_same_draws() -> bool:
 
 # Wrong variants, each put in the place of one function
 
-all_supported = book.supported
+all_supported, all_struck = book.supported, book.struck_rows
 
 
 def support_by_seeker_only(
@@ -519,26 +635,26 @@ def verdict_from_sheet_one(whole: Book, living: set[int]) -> tuple[int, int]:
 
 def agree_by_place(one: Row, other: Row) -> bool:
     places = zip(one.items(), other.items())
-    return not any(q == r and code != other_code for (q, code), (r, other_code) in places)
+    return not any(q == r and not book.fit(code, other_code) for (q, code), (r, other_code) in places)
 
 
 def agree_in_codes_by_place(one: Row, other: Row) -> bool:
     places = zip(one.items(), other.values())
-    return all(code == other_code for (question, code), other_code in places if question in other)
+    return all(book.fit(code, other_code) for (question, code), other_code in places if question in other)
 
 
 def agree_from_column_one(one: Row, other: Row) -> bool:
-    return all(other[question] == code for question, code in list(one.items())[1:] if question in other)
+    return all(book.fit(code, other[question]) for question, code in list(one.items())[1:] if question in other)
 
 
-def agree_in_remainders(one: Row, other: Row) -> bool:
+def fit_in_remainders(one: int, other: int) -> bool:
     """Takes codes for equal that the library's value index does not tell apart."""
-    return all((other[question] - code) % reach.BUCKETS == 0 for question, code in one.items() if question in other)
+    return (one - other) % reach.BUCKETS == 0 or ANY in (one, other)
 
 
 def unlike(one: Row, other: Row) -> list[int]:
     """The questions under which two rows differ, as the columns of the first stand."""
-    return [question for question, code in one.items() if question in other and other[question] != code]
+    return [question for question, code in one.items() if question in other and not book.fit(code, other[question])]
 
 
 def clash_first_met(one: Row, other: Row) -> Optional[int]:
@@ -555,7 +671,54 @@ def clash_from_column_one(one: Row, other: Row) -> Optional[int]:
 
 def clash_by_place(one: Row, other: Row) -> Optional[int]:
     places = zip(one.items(), other.values())
-    return min((question for (question, code), other_code in places if question in other and code != other_code), default=None)
+    clashes = (question for (question, code), other_code in places if question in other and not book.fit(code, other_code))
+    return min(clashes, default=None)
+
+
+def fit_if_equal(one: int, other: int) -> bool:
+    return one == other
+
+
+def fit_any_of_the_first(one: int, other: int) -> bool:
+    return other in (one, ANY)
+
+
+def fit_any_of_the_second(one: int, other: int) -> bool:
+    return one in (other, ANY)
+
+
+def fit_any_to_others_alone(one: int, other: int) -> bool:
+    return (one == other) != (ANY in (one, other))
+
+
+def fit_near_any(one: int, other: int) -> bool:
+    return one == other or max(one, other) >= draw.TOP
+
+
+def fit_nought(one: int, other: int) -> bool:
+    """Takes 0 for any too."""
+    return one == other or ANY in (one, other) or 0 in (one, other)
+
+
+def struck_with_any(whole: Book, request: Request) -> set[int]:
+    """A choice strikes rows with any too, and choosing any strikes all others."""
+    if request.call != "choose":
+        return all_struck(whole, request)
+    return {g for g, row in enumerate(whole.rows) if row.get(request.question, request.code) != request.code}
+
+
+def struck_by_any(whole: Book, request: Request) -> set[int]:
+    """A choice strikes as it should, but choosing any strikes all other codes."""
+    return (struck_with_any if request.code == ANY else all_struck)(whole, request)
+
+
+def clash_at_any(one: Row, other: Row) -> Optional[int]:
+    return min((question for question in one if question in other and one[question] != other[question]), default=None)
+
+
+def chain_of_rows(whole: Book, combination: Combination, living: set[int], seeker: int) -> Optional[tuple[int, ...]]:
+    """Tries each new row against the last one chosen alone."""
+    return (seeker,) * len(combination) if reach.chain(whole, combination, living, seeker) else None
 
 
 def filtered_to_first_empty(whole: Book, combinations: list[Combination], living: set[int]) -> set[int]:
@@ -629,6 +792,19 @@ VARIANTS: list[tuple[str, Callable]] = [
     ("filtered", filtered_once),
 ]
 
+ANY_VARIANTS: list[tuple[str, Callable]] = [
+    ("fit", fit_if_equal),
+    ("fit", fit_any_of_the_first),
+    ("fit", fit_any_of_the_second),
+    ("fit", fit_any_to_others_alone),
+    ("fit", fit_near_any),
+    ("fit", fit_nought),
+    ("struck_rows", struck_with_any),
+    ("struck_rows", struck_by_any),
+    ("first_clash", clash_at_any),
+    ("first_support", chain_of_rows),
+]
+
 
 def told_apart(place: str, variant: Callable, drawn: Callable[[], Replied], least: int) -> bool:
     """Whether so many of the drawn requests get another answer or other marks; supports are left out."""
@@ -639,8 +815,8 @@ def told_apart(place: str, variant: Callable, drawn: Callable[[], Replied], leas
 
 
 def of_many_pairs() -> Replied:
-    """Changes with all of the 1,024 pairs, by which rows fall and rows stay."""
-    drawn = sample("full", 10)
+    """Changes with all of the 1,024 pairs, by which rows fall and rows stay; first the last, which tells most variants apart."""
+    drawn = reversed(sample("full", 11))
     return [(asked, reply) for asked, reply in drawn if f"1,024 pairs, {asked.call}" in reach.reached(asked, reply)]
 
 
@@ -657,19 +833,23 @@ def later_pairs() -> list[Check]:
 
 def checks() -> list[Check]:
     plain = [p1, p2, p3, p4, p5, p6, p7, p8, p9, input_a, test_and_compare, lowest_clash, spare_and_missing_words]
+    plain += [any_is_no_chain, any_compared, any_chosen]
     plain += [choice_edge, book_number_edge, faults_not_used, list_edges, whole_supports]
     plain += [text_edges, texts_not_in_form, texts_refused]
     plain += [counts_add_up, filtering_repeats, spare_stays, refusals_change_nothing, largest_by_all_subsets]
     plain += [no_order_lost, connected_by_spreading, listing_as_filter, clash_unless_agreeing]
+    plain += [supports_by_orders, choices_leave_any, any_keeps_more]
     plain += [lists_agree, lists_are_varied, sheets_out_of_reach_keep_rows]
-    plain += [first_of_several, refusals_occur, answers_occur, shapes_occur, same_seed_same_draws]
+    plain += [first_of_several, refusals_occur, any_in_texts, answers_occur, shapes_occur, same_seed_same_draws]
     named = [(function.__name__, function) for function in plain]
     named += [(f"edge of {number}", functools.partial(edge_holds, number)) for number in draw.EDGES]
     named += [(f"fault {number} alone", functools.partial(fault_alone, number)) for number in book.FAULT_TESTS]
     few = functools.partial(sample, "small", 600)
     named += [(variant.__name__, functools.partial(told_apart, place, variant, few, 3)) for place, variant in VARIANTS]
+    any_too = functools.partial(sample, "any", 300)
+    named += [(variant.__name__, functools.partial(told_apart, place, variant, any_too, 3)) for place, variant in ANY_VARIANTS]
     several_words = functools.partial(sample, "alike", 60)
-    named.append(("agree_in_remainders", functools.partial(told_apart, "agree", agree_in_remainders, several_words, 3)))
+    named.append(("fit_in_remainders", functools.partial(told_apart, "fit", fit_in_remainders, several_words, 3)))
     return named + later_pairs()
 
 

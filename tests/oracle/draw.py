@@ -7,14 +7,15 @@ from dataclasses import replace
 from typing import Callable, NamedTuple, Optional
 
 import book
-from book import Request, Row
+from book import ANY, Request, Row
 
 Page = tuple[list[int], list[list[int]]]  # a sheet: its questions and its rows
 
 CALLS = ["filter", "withdraw", "choose", "test", "compare"]
 CHANGES = ["filter", "withdraw", "choose"]
 EDGE_QUESTIONS = (0, 1, 2, 31, 32, 62, 63)
-ALPHABETS = ((0, 1), (0, 1), (0, 1, 2), (0, 65535), (1, 256, 257))
+TOP = ANY - 1  # the highest code that fits itself alone
+ALPHABETS = ((0, 1), (0, 1), (0, 1, 2), (0, TOP), (1, 256, 257))
 LIKELY_BYTES = b"0123456789,,\n\n\r -+.\t\0\x0b\xff\xb2"
 LIKELY_FIELDS = b"0 1 5 9 63 64 65 256 257 4096 4097 65535 65536 99999".split()
 BAD_QUESTIONS = (64, 65, 127, 128, 256, 319, 65535)
@@ -51,6 +52,11 @@ def draw_rows(
     return rows
 
 
+def shuffled_columns(rng: random.Random, page: Page) -> Page:
+    order = rng.sample(range(len(page[0])), len(page[0]))
+    return [page[0][k] for k in order], [[row[k] for k in order] for row in page[1]]
+
+
 def draw_combinations(rng: random.Random, pages: list[Page], m: int, count: int, most: int) -> list[list[int]]:
     """Connected combinations with at most so many choices of one row from each member."""
     fitting = []
@@ -76,7 +82,7 @@ def ring_network(rng: random.Random) -> Network:
     """Sheets that pair off the codes of neighbouring questions in a ring: they fit in pairs, but not all together."""
     m = rng.choice((2, 3, 3, 3, 3, 4))
     pool = rng.sample(EDGE_QUESTIONS, rng.choice((3, max(m, 3))))
-    codes = rng.sample((0, 1, 257, 65535), rng.choice((2, 3, 3)))
+    codes = rng.sample((0, 1, 257, TOP), rng.choice((2, 3, 3)))
     pages = []
     for place, question in enumerate(pool):
         rows = [list(pair) for pair in zip(codes, rng.sample(codes, len(codes)))]
@@ -138,13 +144,22 @@ def tall_network(rng: random.Random) -> Network:
     return Network(pages, 2, draw_combinations(rng, pages, 2, rng.choice((2, 3, 4, 6)), 2500))
 
 
-def alike(rng: random.Random, network: Network) -> Network:
-    """The network with other codes in place of its own, all of them with one remainder by one number."""
-    own = sorted({code for _, rows in network.pages for row in rows for code in row})
-    modulus = rng.choice(MODULI)
-    new = dict(zip(own, rng.sample(range(rng.randrange(modulus), 65536, modulus), len(own))))
+def own_codes(network: Network) -> list[int]:
+    """The codes other than any, rising."""
+    return sorted({code for _, rows in network.pages for row in rows for code in row} - {ANY})
+
+
+def recoded(network: Network, codes: list[int]) -> Network:
+    """The network with these codes in place of its own; any stays."""
+    new = {ANY: ANY, **dict(zip(own_codes(network), codes))}
     pages = [(questions, [[new[code] for code in row] for row in rows]) for questions, rows in network.pages]
     return Network(pages, network.m, network.combinations)
+
+
+def alike(rng: random.Random, network: Network) -> Network:
+    """The network with other codes in place of its own, all of them with one remainder by one number."""
+    modulus = rng.choice(MODULI)
+    return recoded(network, rng.sample(range(rng.randrange(modulus), ANY, modulus), len(own_codes(network))))
 
 
 def alike_network(rng: random.Random) -> Network:
@@ -260,7 +275,7 @@ def knotted_network(rng: random.Random, m: int, count: int) -> Network:
     among different other ones or among the later half of these."""
     sheets = many_sheets(rng)
     rings = min(sheets // m, 12)
-    pool, codes = rng.sample(range(64), 64), rng.sample((0, 1, 16, 17, 34, 257, 65535), rng.choice((3, 4, 4)))
+    pool, codes = rng.sample(range(64), 64), rng.sample((0, 1, 16, 17, 34, 257, TOP), rng.choice((3, 4, 4)))
     chain, links = pool[m * rings :][:rings], pool[(m + 1) * rings :][: max(2, rings // 3)]
     pages: list[Page] = []
     for k in range(rings):
@@ -305,6 +320,62 @@ def thin_network(rng: random.Random) -> Network:
     m = rng.choice((2, 2, 3, 4))
     pages = many_pages(rng, many_sheets(rng), 1)
     return Network(pages, m, different_combinations(rng, pages, m, rng.choice((7, 8, 10, 15, 20, 40))))
+
+
+# Networks with any
+
+
+def any_rows(rng: random.Random, page: Page, under: list[int], percent: int) -> list[list[int]]:
+    """The sheet's rows with any in place of some codes under these questions; a few are any throughout or equal to another."""
+    rows: list[list[int]] = []
+    for row in page[1]:
+        if rows and chance(rng, 10):
+            rows.append(list(rng.choice(rows)))
+            continue
+        whole = chance(rng, 1)
+        rows.append([ANY if whole or q in under and chance(rng, percent) else code for q, code in zip(page[0], row)])
+    return rows
+
+
+def with_any(rng: random.Random, network: Network) -> Network:
+    """The network with any on all sheets or some, under all questions or two, in few, many or all places there."""
+    asked = sorted({question for questions, _ in network.pages for question in questions})
+    under = asked if chance(rng, 50) else rng.sample(asked, min(2, len(asked)))
+    sheets_percent, percent = rng.choice((40, 100)), rng.choice((5, 5, 30, 30, 100))
+    pages = [(page[0], any_rows(rng, page, under, percent)) if chance(rng, sheets_percent) else page for page in network.pages]
+    return Network(pages, network.m, network.combinations)
+
+
+def at_times_with_any(rng: random.Random, network: Network) -> Network:
+    return with_any(rng, network) if chance(rng, 15) else network
+
+
+def other_codes(rng: random.Random, network: Network) -> Network:
+    """The network with its own codes, with random ones, or with the topmost ones up to the neighbour of any."""
+    own = own_codes(network)
+    return recoded(network, rng.choice((own, rng.sample(range(ANY), len(own)), list(range(ANY - len(own), ANY)))))
+
+
+def far_network(rng: random.Random) -> Network:
+    """Every row of sheet 0 fits all rows of sheet 1. Only one of these has a row of sheet 2 that fits both, often by any, and it may
+    stand behind many others, which a row with any on sheet 0 keeps."""
+    count = rng.randint(20, 28)
+    a, b, c, d = rng.sample(range(64), 4)
+    pages: list[Page] = [([a, b], [[end, 0] for end in rng.sample(range(count), 4)] + [[ANY, 0]])]
+    pages.append(([b, c, d], [[0, line, line] for line in rng.sample(range(count), count)]))
+    pages.append(([c, d, a], [[ANY if chance(rng, 40) else line, line, line] for line in range(count)]))
+    if chance(rng, 30):
+        pages.append(([rng.choice((a, b))], [[0], [ANY]]))
+    return Network([shuffled_columns(rng, page) for page in pages], len(pages), [list(range(len(pages)))])
+
+
+def any_network(rng: random.Random) -> Network:
+    """A network of any kind with any, most of them small."""
+    if chance(rng, 6):
+        return other_codes(rng, far_network(rng))
+    kinds = [small_network] * 10 + [ring_network] * 4 + [clashing_network] * 2
+    kinds += [loose_network, wide_network, tall_network, thin_network]
+    return with_any(rng, other_codes(rng, rng.choice(kinds)(rng)))
 
 
 # Lending a network to a call
@@ -362,7 +433,7 @@ def give_arguments(rng: random.Random, request: Request) -> None:
     if request.call == "choose":
         asked = request.questions if request.questions and chance(rng, 90) else range(64)
         request.question = rng.choice(asked)
-        given = request.codes if request.codes and chance(rng, 85) else (0, 1, 65535)
+        given = request.codes if request.codes and chance(rng, 85) else (0, 1, TOP, ANY)
         request.code = rng.choice(given)
 
 
@@ -382,7 +453,7 @@ def good_request(rng: random.Random, network: Network, call: str) -> Request:
 
 
 def request_on(network: Callable[[random.Random], Network]) -> Callable[[random.Random, str], Request]:
-    return lambda rng, call: good_request(rng, network(rng), call)
+    return lambda rng, call: good_request(rng, at_times_with_any(rng, network(rng)), call)
 
 
 # Faults put into a network: everything after them still fits together
@@ -649,6 +720,7 @@ SIZES: dict[str, Callable[[random.Random, str], Request]] = {
     "wide": request_on(wide_network),
     "alike": request_on(alike_network),
     "clashing": request_on(clashing_network),
+    "any": request_on(any_network),
     "crowded": request_on(crowded_network),
     "full": request_on(full_network),
     "thin": request_on(thin_network),
@@ -689,10 +761,14 @@ def accepted_call(rng: random.Random, shared: Request, call: str) -> Request:
 
 
 def usual_network(rng: random.Random) -> Network:
-    return wide_network(rng) if chance(rng, 10) else small_network(rng)
+    return at_times_with_any(rng, wide_network(rng) if chance(rng, 10) else small_network(rng))
 
 
-LIST_SIZES: dict[str, Callable[[random.Random], Network]] = {"usual": usual_network, "crowded": crowded_network}
+LIST_SIZES: dict[str, Callable[[random.Random], Network]] = {
+    "usual": usual_network,
+    "crowded": crowded_network,
+    "any": any_network,
+}
 
 
 def list_of_calls(rng: random.Random, network: Network) -> tuple[Request, list[Request]]:

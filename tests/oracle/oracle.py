@@ -58,7 +58,7 @@ def print_requests(arguments: argparse.Namespace) -> None:
     reached: set[str] = set()
     for request in draw.requests(arguments.seed, arguments.count, arguments.calls, arguments.size):
         reply = book.reply(request)
-        reached.update(reach.reached(request, reply))
+        reached.update(reach.reached(request, reply) if arguments.reach else ())
         if arguments.plain:
             print_numbers(plain(request, reply))
         else:

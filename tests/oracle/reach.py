@@ -1,15 +1,18 @@
 """What the drawn requests of a size must reach, told from the requests and their replies."""
 
+from dataclasses import replace
 from typing import Iterator
 
 import book
-from book import Reply, Request
+from book import ANY, Book, Combination, Reply, Request, Row
 
 BUCKETS = 17  # codes with one remainder by this number are alike to an index of so many buckets
 
 SHEETS = [(15, 15), (16, 31), (32, 63), (64, 64)]
 ORDERS = ["rising", "falling", "mixed"]
 COMBINATIONS = [(7, 15), (16, 63), (64, 255), (256, 256)]
+ANY_SHARES = [(1, 10), (20, 40), (100, 100)]
+FAR = 16  # the library's search takes another way after so many rows in vain
 
 
 def bands(number: int, all_bands: list[tuple[int, int]], of: str) -> Iterator[str]:
@@ -38,18 +41,133 @@ def order(questions: list[int]) -> str:
 def compared(request: Request, reply: Reply) -> Iterator[str]:
     """Of a comparison: that the rows agree, or how the columns stand in which they differ."""
     one, other = (book.read_book(request).rows[g] for g in request.rows)
-    clashes = [[q for q in row if q in one and q in other and one[q] != other[q]] for row in (one, other)]
+    shared = [[q for q in row if q in one and q in other] for row in (one, other)]
+    clashes = [[q for q in questions if not book.fit(one[q], other[q])] for questions in shared]
     if not clashes[0]:
         yield "agree"
     if len(clashes[0]) > 2:
         yield f"several clashes, {order(clashes[0])} and {order(clashes[1])}"
     if reply[0][1] in (0, 63):
         yield f"clash under {reply[0][1]}"
+    if clashes[0] and any(ANY in (one[q], other[q]) for q in shared[0]):
+        yield "a clash beside any"
+
+
+# Any
+
+
+def any_in_book(request: Request) -> Iterator[str]:
+    """Where any stands in the book, and what stands beside it."""
+    whole = book.read_book(request)
+    for rows in whole.sheets:
+        held = [tuple(whole.rows[g].values()) for g in rows if ANY in whole.rows[g].values()]
+        yield from ("equal rows with any" for _ in range(len(held) - len(set(held))))
+        yield from ("a row of any alone" for row in held if len(row) > 1 and set(row) == {ANY})
+        yield from ("any in several columns" for row in held if 1 < row.count(ANY) < len(row))
+    for question in set(request.questions):
+        asking = [sheet for sheet, asked in enumerate(book.read_questions(request)) if question in asked]
+        codes = {whole.rows[g][question] for sheet in asking for g in whole.sheets[sheet]}
+        if ANY in codes:
+            yield "any, asked by several sheets" if len(asking) > 1 else "any, asked by one sheet"
+        if {ANY, ANY - 1} <= codes:
+            yield "any beside 65,534"
+
+
+def codes_beside_any(request: Request) -> str:
+    codes = set(request.codes) - {ANY}
+    return "low" if max(codes, default=0) < 16 else "topmost" if min(codes) > ANY - 16 else "scattered"
+
+
+def any_decides(request: Request, reply: Reply) -> bool:
+    """Whether an ordinary code in the place of any gets another answer or other marks."""
+    other = min(set(range(len(request.codes) + 2)) - {*request.codes, request.code})
+    codes = [other if code == ANY else code for code in request.codes]
+    return book.reply(replace(request, codes=codes, code=other if request.code == ANY else request.code))[:2] != reply[:2]
+
+
+def any_meets(one: Row, other: Row) -> Iterator[str]:
+    """Where any stands for a seeking row and a row of its support."""
+    for question in one.keys() & other.keys():
+        if ANY in (one[question], other[question]):
+            seeker, partner = one[question] == ANY, other[question] == ANY
+            yield "any on both sides" if seeker and partner else "any in the seeking row" if seeker else "any in its support"
+
+
+def chain(whole: Book, combination: Combination, candidates: set[int], g: int) -> bool:
+    """Whether candidates of the members, g for its own sheet, agree each with the one before."""
+    ends = [g]
+    for place, sheet in enumerate(combination):
+        rows = [g] if g in whole.sheets[sheet] else [h for h in whole.sheets[sheet] if h in candidates]
+        ends = [h for h in rows if place == 0 or any(book.agree(whole.rows[h], whole.rows[end]) for end in ends)]
+    return bool(ends)
+
+
+def chained(whole: Book, combinations: list[Combination], kept: set[int], g: int) -> bool:
+    """Whether a row that fell has chains of rows left in all its combinations, and in one of them through any alone."""
+    holding = [combination for combination in combinations if any(g in whole.sheets[sheet] for sheet in combination)]
+    without = {h for h in kept if ANY not in whole.rows[h].values()}
+    chains = [(chain(whole, combination, kept, g), chain(whole, combination, without, g)) for combination in holding]
+    return all(has_chain for has_chain, _ in chains) and (True, False) in chains
+
+
+def far_on(whole: Book, combination: Combination, living: set[int], g: int) -> bool:
+    """Whether in the first support of row g two further rows meet by any, the first of them behind many that agree with g."""
+    chosen = book.first_support(whole, combination, living, g)
+    others = [h for h in chosen or () if h != g]
+    if len(others) < 2 or not list(any_meets(whole.rows[others[0]], whole.rows[others[1]])):
+        return False
+    before = [h for rows in whole.sheets if others[0] in rows for h in rows if h < others[0] and h in living]
+    return sum(book.agree(whole.rows[g], whole.rows[h]) for h in before) >= FAR
+
+
+def any_in_supports(whole: Book, combinations: list[Combination], kept: set[int]) -> Iterator[str]:
+    for combination in combinations:
+        for g in (g for sheet in combination for g in whole.sheets[sheet] if g in kept):
+            for h in set(book.first_support(whole, combination, kept, g)) - {g}:
+                yield from any_meets(whole.rows[g], whole.rows[h])
+
+
+def any_in_choice(request: Request, whole: Book, living: set[int], kept: set[int]) -> Iterator[str]:
+    question, code = request.question, request.code
+    if code == ANY and any(question in whole.rows[g] for g in living):
+        yield "any chosen"
+    if living & book.struck_rows(whole, request) and any(whole.rows[g].get(question) == ANY for g in kept):
+        yield "a code chosen beside any"
+
+
+def any_in_change(request: Request, reply: Reply) -> Iterator[str]:
+    """Of an accepted change: how any stands in the supports, before the filter and after it, in rows that fall, and in a choice."""
+    whole, combinations = book.read_book(request), book.read_combinations(request)
+    living, kept = (book.living_rows(whole, marks) for marks in (request.marks, reply[1]))
+    rest = living - book.struck_rows(whole, request)
+    yield from any_in_supports(whole, combinations, kept)
+    if any(chained(whole, combinations, kept, g) for g in rest - kept):
+        yield f"a chain through any, m = {request.m}"
+    if any(far_on(whole, combination, rest, g) for combination in combinations for g in rest & set(whole.sheets[combination[0]])):
+        yield "a support far on by any"
+    if request.call == "choose":
+        yield from any_in_choice(request, whole, living, kept)
+
+
+def of_any(request: Request, reply: Reply) -> Iterator[str]:
+    """Of an accepted request with any: that it decides, and how it stands."""
+    share = 100 * request.codes.count(ANY) // len(request.codes)
+    yield from bands(share, ANY_SHARES, "per cent any")
+    yield from any_in_book(request)
+    if any_decides(request, reply):
+        yield f"any decides, {request.call}" + (f" {reply[0][0]}" if request.call in book.ASKING else f", m = {request.m}")
+        yield f"any decides beside {codes_beside_any(request)} codes"
+        if book.row_total(request) > 64 and request.call != "compare":
+            yield "any decides in several words"
+    if request.call not in book.ASKING:
+        yield from any_in_change(request, reply)
 
 
 def reached(request: Request, reply: Reply) -> Iterator[str]:
     if request.call == "compare" and reply[0][0] != book.REFUSED:
         yield from compared(request, reply)
+    if ANY in request.codes and reply[0][0] != book.REFUSED:
+        yield from of_any(request, reply)
     if not works(request, reply):
         return
     combinations = {tuple(combination) for combination in book.read_combinations(request)}
@@ -57,7 +175,8 @@ def reached(request: Request, reply: Reply) -> Iterator[str]:
     yield from bands(len(combinations), COMBINATIONS, "different combinations")
     if len(combinations) * request.m == 1024:
         yield f"1,024 pairs, {request.call}" + (f" {reply[0][0]}" if request.call == "test" else "")
-    different = len(set(request.codes)) if len({code % BUCKETS for code in request.codes}) == 1 else 1
+    codes = set(request.codes) - {ANY}
+    different = len(codes) if len({code % BUCKETS for code in codes}) == 1 else 1
     if different >= 3 and book.row_total(request) > 64:
         yield "codes alike in several words"
     if different >= 4 and spread(request) > 2:
@@ -68,10 +187,22 @@ def labels(all_bands: list[tuple[int, int]], of: str) -> set[str]:
     return {label for low, _ in all_bands for label in bands(low, all_bands, of)}
 
 
+ANY_PLACES = {"any in the seeking row", "any in its support", "any on both sides", "a support far on by any"}
+ANY_PLACES |= {"any in several columns", "a row of any alone", "equal rows with any"}
+ANY_PLACES |= {"any, asked by several sheets", "any, asked by one sheet"}
+ANY_CALLS = {f"any decides, {call}, m = {m}" for call in ("filter", "withdraw", "choose") for m in (2, 3, 4)}
+ANY_CALLS |= {"any decides, test 1", "any decides, compare 0", "any decides, compare 1", "a clash beside any"}
+ANY_CALLS |= {"any chosen", "a code chosen beside any", "a chain through any, m = 3", "a chain through any, m = 4"}
+ANY_CODES = {"any decides beside low codes", "any decides beside topmost codes", "any decides beside scattered codes"}
+ANY_CODES |= {"any beside 65,534", "any decides in several words"} | labels(ANY_SHARES, "per cent any")
+ANY_LISTS = {"any chosen", "a code chosen beside any"} | {label for label in ANY_CALLS if label.startswith("any decides, choose")}
+
+
 WANTED: dict[str, set[str]] = {
     "crowded": labels(SHEETS, "sheets") | labels(COMBINATIONS, "different combinations"),
     "full": {f"1,024 pairs, {call}" for call in ("filter", "withdraw", "choose", "test 0", "test 1")},
     "clashing": {"agree", "clash under 0", "clash under 63"}
     | {f"several clashes, {one} and {other}" for one in ORDERS for other in ORDERS},
     "alike": {"codes alike in several words", "codes alike in a sheet of several words"},
+    "any": ANY_PLACES | ANY_CALLS | ANY_CODES,
 }
