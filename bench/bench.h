@@ -6,9 +6,9 @@
 #include <stdint.h>
 #include <stdio.h>
 
-/* The limits of a network, and what stands for no support and for no variable. */
+/* The limits of a network, and what stands for no support, for no variable and for every value. */
 enum { MAX_RELATIONS = 64, MAX_WIDTH = 8, MAX_TUPLES = 4096, MAX_MEMBERS = 4, MAX_COMBINATIONS = 256, MAX_NUMBERS = 32768 };
-enum { NO_SUPPORT = 65535, NO_VARIABLE = 64 };
+enum { NO_SUPPORT = 65535, NO_VARIABLE = 64, ANY = 65535 };
 enum { WORDS = MAX_TUPLES / 64, MAX_PAIRS = MAX_COMBINATIONS * MAX_MEMBERS };
 
 /* A network with its combinations, and where each relation and each pair's numbers begin. The library takes the three tables and the
@@ -49,16 +49,18 @@ typedef struct {
     size_t step;     /* of the combinations that the shape has, every so manieth */
     size_t alike;    /* so many tuples are alike but for private variables */
     bool apart;      /* the last relation agrees with none */
+    unsigned any;    /* of a hundred values so many are any */
 } description;
 
-extern const description suite[], growth[];
-extern const size_t suite_count, growth_count;
+/* Of these, only `with_any` has networks with any. */
+extern const description suite[], growth[], with_any[];
+extern const size_t suite_count, growth_count, with_any_count;
 enum { NAME_SIZE = 64 };
 void name_network(const description *, char name[NAME_SIZE]);
 void draw_network(network *, const description *);
 /* The scope of one of so many relations of a shape, and its width. */
 size_t shape_scope(network_shape, size_t relations, size_t relation, uint16_t *scope);
-/* The code of a value; different ones have different codes. */
+/* The code of a value; different ones have different codes, and none is any. */
 uint16_t code_of(const description *, unsigned value);
 
 uint16_t bench_first_clash(const uint16_t *, size_t, const uint16_t *, size_t, const uint16_t *, size_t, const uint16_t *, size_t);

@@ -1,5 +1,7 @@
 /* Times filter and test of two builds of the library, in turn and in one run, on the benchmark's networks: the one's functions have
- * their names, the other's `before_` in front. Both must give the same answers, marks and supports. */
+ * their names, the other's `before_` in front. Both must give the same answers, marks and supports.
+ *     beside [any]
+ * Networks with any are timed only where that is asked for: a build from before card 4 takes any for a value. */
 #include "bench.h"
 #include "wakhvosi.h"
 #include <math.h>
@@ -66,10 +68,15 @@ static void timed(const description *d) {
     count++, differing += !same;
 }
 
-int main(void) {
+static void timed_all(const description *networks, size_t number) {
+    for (size_t i = 0; i < number; i++) timed(networks + i);
+}
+
+int main(int argc, char **argv) {
+    bool any = argc > 1 && !strcmp(argv[1], "any");
     printf("%-36s %11s %11s  ratio   %11s %11s  ratio\n", "", "filter was", "is", "test was", "is");
-    for (size_t i = 0; i < suite_count; i++) timed(suite + i);
-    for (size_t i = 0; i < growth_count; i++) timed(growth + i);
+    timed_all(suite, suite_count), timed_all(growth, growth_count);
+    if (any) timed_all(with_any, with_any_count);
     printf("mean of %zu (geometric): filter %.3f, test %.3f; most: filter %.3f, test %.3f\n", count, exp(filter_sum / (double)count),
            exp(test_sum / (double)count), filter_most, test_most);
     return differing != 0;

@@ -5,7 +5,7 @@
 #include "leaves.h"
 #include <string.h>
 
-enum { TABLE = 8704, MAX_DIGITS = 4, MAX_ROWS = 1024, MAX_SWEEPS = 2, FEW = 8, MANY = 64, FAILURES = 16, PLACES = 2048, SAMPLE = 32 };
+enum { TABLE = 9216, MAX_DIGITS = 4, MAX_ROWS = 1024, MAX_SWEEPS = 2, FEW = 8, MANY = 64, FAILURES = 16, PLACES = 2048, SAMPLE = 32 };
 enum { MAX_SHARED = MAX_WIDTH, MAX_KEPT = MAX_SHARED * MAX_DIGITS };
 
 /* A relation: its tuples have the ids from first on and below end; these are in the words from word on and below last. */
@@ -22,7 +22,8 @@ typedef struct {
     uint8_t from[MAX_SHARED], to[MAX_SHARED];
 } columns;
 
-/* For each shared column and each value of each digit, the ids of the tuples that have it there. */
+/* For each shared column and each value of each digit, the ids of the tuples that have it there, or any; behind these rows of a column
+ * one of the ids that have any. */
 typedef struct {
     unsigned digits, factor, rows, parts[MAX_DIGITS], begins[MAX_DIGITS];
     uint64_t table[TABLE];
@@ -131,18 +132,24 @@ static uint64_t divide_rows(value_index *index, unsigned digits) {
 static void choose_digits(value_index *index, const uint16_t *values, size_t count) {
     unsigned bound = 1;
     for (size_t i = 0; i < count; i++)
-        if (values[i] >= bound) bound = values[i] + 1u;
+        if (values[i] >= bound && values[i] != ANY) bound = values[i] + 1u;
     index->factor = 65536 / bound;
     for (unsigned digits = 1; digits <= MAX_DIGITS; digits++)
         if (divide_rows(index, digits) * index->factor >= 65536) return;
     index->factor = 40503;
 }
 
-/* The rows that a value has in the relation's column, one for each digit. */
+/* Where the rows of the relation's column begin, counted in rows. */
+static inline unsigned column_row(const filtering *f, const relation *r, int column) {
+    return (unsigned)r->slots[column] * (f->index.rows + 1);
+}
+
+/* The rows that a value has in the relation's column, one for each digit; any has none. */
 static inline unsigned rows_of(const filtering *f, const uint64_t **rows, const relation *r, int column, uint16_t value) {
     const value_index *index = &f->index;
-    const unsigned slot = (unsigned)r->slots[column] * index->rows;
+    const unsigned slot = column_row(f, r, column);
     unsigned h = value * index->factor & 65535;
+    if (value == ANY) return 0;
     for (unsigned i = 0; i < index->digits; i++) {
         h *= index->parts[i];
         rows[i] = index->table + (slot + index->begins[i] + (h >> 16)) * f->words;
@@ -151,20 +158,45 @@ static inline unsigned rows_of(const filtering *f, const uint64_t **rows, const 
     return index->digits;
 }
 
-static void mark_relation(filtering *f, const relation *r) {
+/* The row of the ids that have any in the relation's column. */
+static inline uint64_t *any_row(filtering *f, const relation *r, int column) {
+    return f->index.table + (column_row(f, r, column) + f->index.rows) * f->words;
+}
+
+static bool has_bits(const uint64_t *words, const relation *r) {
+    uint64_t any = 0;
+    for (int w = r->word; w < r->last; w++) any |= words[w];
+    return any;
+}
+
+/* The relation's ids that have any in the column are put to all its rows. */
+static void spread_any(filtering *f, const relation *r, int column) {
+    const uint64_t *any = any_row(f, r, column);
+    uint64_t *row = f->index.table + column_row(f, r, column) * f->words;
+    if (!has_bits(any, r)) return;
+    for (; row < any; row += f->words)
+        for (int w = r->word; w < r->last; w++) row[w] |= any[w];
+}
+
+static void mark_value(filtering *f, const relation *r, int column, uint16_t value, int g) {
     const uint64_t *rows[MAX_DIGITS];
+    if (value == ANY) put(any_row(f, r, column), g);
+    for (unsigned i = rows_of(f, rows, r, column, value); i-- > 0;) put((uint64_t *)rows[i], g);
+}
+
+static void mark_relation(filtering *f, const relation *r) {
     const uint16_t *tuple = r->values;
     for (int g = r->first; g < r->end; g++, tuple += r->width)
-        for (int c = 0; c < r->width; c++) {
-            if (r->slots[c] < 0) continue;
-            for (unsigned i = rows_of(f, rows, r, c, tuple[c]); i-- > 0;) put((uint64_t *)rows[i], g);
-        }
+        for (int c = 0; c < r->width; c++)
+            if (r->slots[c] >= 0) mark_value(f, r, c, tuple[c], g);
+    for (int c = 0; c < r->width; c++)
+        if (r->slots[c] >= 0) spread_any(f, r, c);
 }
 
 static void make_index(filtering *f) {
     find_relations(f);
     int cells = find_slots(f) * f->words;
-    unsigned rows = cells ? TABLE / cells : MAX_DIGITS;
+    unsigned rows = cells ? TABLE / cells - 1 : MAX_DIGITS;
     f->index.rows = rows < MAX_ROWS ? rows : MAX_ROWS;
     choose_digits(&f->index, f->n->values, f->n->value_count);
     memset(f->index.table, 0, sizeof f->index.table);
@@ -180,9 +212,10 @@ static inline unsigned rows_of_tuple(const filtering *f, const uint64_t **rows, 
 
 /* ---- Sweeps. */
 
-/* Whether some id is in all these words; at least one row. */
+/* Whether some id is in all these words; true where there are no rows. */
 static inline bool meet(const uint64_t *words, const uint64_t **rows, unsigned count, const relation *s) {
     uint64_t any = 0;
+    if (count == 0) return true;
     if (count == 1)
         for (int w = s->word; w < s->last; w++) any |= words[w] & rows[0][w];
     else if (count == 2)
@@ -275,6 +308,7 @@ static inline bool narrow(const visit *v, uint64_t *words, int i, int x, int j) 
     uint64_t any = 1;
     for (int k = 0; k < e->count; k++) {
         unsigned digits = rows_of(v->f, rows, s, e->to[k], tuple[e->from[k]]);
+        if (digits == 0) continue;
         any = 0;
         if (digits == 1)
             for (int w = s->word; w < s->last; w++) any |= (words[w] &= rows[0][w] | outside[w]) & ~outside[w];
@@ -300,9 +334,11 @@ static int count_of(const uint64_t *words, const relation *r) {
     return k;
 }
 
-/* The ids in all these rows, at least one, are put to the sum. */
+/* The ids in all these rows are put to the sum. */
 static inline void gather(uint64_t *sum, const uint64_t **rows, unsigned count, const relation *s) {
-    if (count == 1)
+    if (count == 0)
+        for (int w = s->word; w < s->last; w++) sum[w] = ~0ull;
+    else if (count == 1)
         for (int w = s->word; w < s->last; w++) sum[w] |= rows[0][w];
     else
         for (int w = s->word; w < s->last; w++) {
@@ -369,7 +405,8 @@ static bool spread_open(const visit *v, uint64_t *words, int j) {
     return true;
 }
 
-static inline unsigned bit_of(uint16_t value) { return (value * 40503u & 65535) >> 10; }
+/* The bits of a value in a sieve: one, and of any all. */
+static inline uint64_t bits_of(uint16_t value) { return value == ANY ? ~0ull : 1ull << ((value * 40503u & 65535) >> 10); }
 
 /* The column in which member j's tuples are sieved by the values of the last member's candidates; none sieves nothing. */
 static int find_sieve(const visit *v, const uint64_t *words, int j, uint64_t *bits) {
@@ -378,7 +415,7 @@ static int find_sieve(const visit *v, const uint64_t *words, int j, uint64_t *bi
     if (last <= j || !v->shared[j][last].count) return -1;
     const relation *r = v->members[last];
     for (int g = next_of(words, r, r->first); g < r->end; g = next_of(words, r, g + 1))
-        *bits |= 1ull << bit_of(tuple_of(r, g - r->first)[v->shared[j][last].to[0]]);
+        *bits |= bits_of(tuple_of(r, g - r->first)[v->shared[j][last].to[0]]);
     return v->shared[j][last].from[0];
 }
 
@@ -406,7 +443,7 @@ static bool comb(const visit *v, const uint64_t *words, int j, bool resumes, uin
     memset(failed, 255, sizeof failed);
     for (; g < r->end; g = next_of(words, r, g + 1)) {
         int x = g - r->first;
-        if (column >= 0 && !(bits >> bit_of(tuple_of(r, x)[column]) & 1)) continue;
+        if (column >= 0 && !(bits & bits_of(tuple_of(r, x)[column]))) continue;
         if (!fits(v, j, chosen, x)) continue;
         if (!(resumes && x == v->low[j]) && first_alike(failed, r, x, variables) != x) continue;
         if (attempt(v, words, j, resumes, chosen, x, true, &hard)) return true;

@@ -3,15 +3,16 @@
 #define LEAVES_H
 #include "bench.h"
 
+static inline bool fit(uint16_t a, uint16_t b) { return a == b || a == ANY || b == ANY; }
 
-/* The lowest variable of both scopes whose values differ; 64 where there is none. */
+/* The lowest variable of both scopes whose values do not fit; 64 where there is none. */
 static inline uint16_t first_clash(const uint16_t *scope_a, size_t wa, const uint16_t *a, size_t la, const uint16_t *scope_b, size_t wb, const uint16_t *b, size_t lb) {
     (void)la, (void)lb;
     uint16_t lowest = NO_VARIABLE;
     for (size_t i = 0; i < wa; i++)
         for (size_t j = 0; j < wb; j++)
             if (scope_a[i] == scope_b[j]) {
-                if (a[i] != b[j] && scope_a[i] < lowest) lowest = scope_a[i];
+                if (!fit(a[i], b[j]) && scope_a[i] < lowest) lowest = scope_a[i];
                 break;
             }
     return lowest;

@@ -2,7 +2,7 @@
  * rounds. Both must give the same results.
  *     main [--skip PATTERN]... DIRECTORY [NAME]...
  * Each network goes to DIRECTORY/NAME.txt in the desk's text form, and its times to DIRECTORY/times.txt: lines of kind (network,
- * growth or other), name, m, tuples, left, and the two times in seconds. Further names are those of other networks, whose texts are
+ * growth, any or other), name, m, tuples, left, and the two times in seconds. Further names are those of other networks, whose texts are
  * there already. Of networks whose name has the pattern (*, ? and [] as in a shell), the library's filter is left out; its time is
  * then 0. */
 #include "bench.h"
@@ -189,6 +189,8 @@ int main(int argc, char **argv) {
     filters_described("network", suite, suite_count);
     puts("growth:");
     filters_described("growth", growth, growth_count);
+    puts("with any:");
+    filters_described("any", with_any, with_any_count);
     for (; at < argc; at++) filters_text(argv[at]);
     fclose(times);
     return failures != 0;

@@ -101,37 +101,37 @@ bool read_network(network *n, FILE *in) {
 
 /* ---- The suite. */
 
-#define TODAY(codes, factor)                              \
-    {NEIGHBOURS, 2, 8, 75, 6, codes, factor, 1, 1, 0},    \
-    {NEIGHBOURS, 2, 16, 256, 9, codes, factor, 1, 1, 0},  \
-    {NEIGHBOURS, 2, 16, 256, 18, codes, factor, 1, 1, 0}, \
-    {NEIGHBOURS, 2, 16, 250, 60, codes, factor, 1, 1, 0}, \
-    {NEIGHBOURS, 3, 8, 150, 6, codes, factor, 1, 1, 0},   \
-    {NEIGHBOURS, 3, 12, 200, 12, codes, factor, 1, 1, 0}, \
-    {NEIGHBOURS, 3, 8, 200, 30, codes, factor, 1, 1, 0},  \
-    {NEIGHBOURS, 4, 6, 150, 5, codes, factor, 1, 1, 0},   \
-    {NEIGHBOURS, 4, 8, 200, 9, codes, factor, 1, 1, 0},   \
-    {NEIGHBOURS, 4, 8, 200, 25, codes, factor, 1, 1, 0}
+#define TODAY(codes, factor)                                 \
+    {NEIGHBOURS, 2, 8, 75, 6, codes, factor, 1, 1, 0, 0},    \
+    {NEIGHBOURS, 2, 16, 256, 9, codes, factor, 1, 1, 0, 0},  \
+    {NEIGHBOURS, 2, 16, 256, 18, codes, factor, 1, 1, 0, 0}, \
+    {NEIGHBOURS, 2, 16, 250, 60, codes, factor, 1, 1, 0, 0}, \
+    {NEIGHBOURS, 3, 8, 150, 6, codes, factor, 1, 1, 0, 0},   \
+    {NEIGHBOURS, 3, 12, 200, 12, codes, factor, 1, 1, 0, 0}, \
+    {NEIGHBOURS, 3, 8, 200, 30, codes, factor, 1, 1, 0, 0},  \
+    {NEIGHBOURS, 4, 6, 150, 5, codes, factor, 1, 1, 0, 0},   \
+    {NEIGHBOURS, 4, 8, 200, 9, codes, factor, 1, 1, 0, 0},   \
+    {NEIGHBOURS, 4, 8, 200, 25, codes, factor, 1, 1, 0, 0}
 
 /* One combination of four relations. */
-#define QUADRUPLE(codes, factor)                       \
-    {PATH, 4, 4, 1024, 240, codes, factor, 1, 1, 0},   \
-    {STAR, 4, 4, 1024, 120, codes, factor, 1, 1, 0},   \
-    {RING, 4, 4, 1024, 180, codes, factor, 1, 1, 0},   \
-    {CLIQUE, 4, 4, 1024, 30, codes, factor, 1, 1, 0},  \
-    {PATH, 4, 4, 1024, 10, codes, factor, 1, 1, 1}
+#define QUADRUPLE(codes, factor)                          \
+    {PATH, 4, 4, 1024, 240, codes, factor, 1, 1, 0, 0},   \
+    {STAR, 4, 4, 1024, 120, codes, factor, 1, 1, 0, 0},   \
+    {RING, 4, 4, 1024, 180, codes, factor, 1, 1, 0, 0},   \
+    {CLIQUE, 4, 4, 1024, 30, codes, factor, 1, 1, 0, 0},  \
+    {PATH, 4, 4, 1024, 10, codes, factor, 1, 1, 1, 0}
 
 /* Four relations of so many tuples. */
-#define SMALLER(tuples, path, ring, clique)              \
-    {PATH, 4, 4, tuples, path, MULTIPLES, 1, 1, 1, 0},   \
-    {STAR, 4, 4, tuples, path, MULTIPLES, 1, 1, 1, 0},   \
-    {RING, 4, 4, tuples, ring, MULTIPLES, 1, 1, 1, 0},   \
-    {CLIQUE, 4, 4, tuples, clique, MULTIPLES, 1, 1, 1, 0}
+#define SMALLER(tuples, path, ring, clique)                 \
+    {PATH, 4, 4, tuples, path, MULTIPLES, 1, 1, 1, 0, 0},   \
+    {STAR, 4, 4, tuples, path, MULTIPLES, 1, 1, 1, 0, 0},   \
+    {RING, 4, 4, tuples, ring, MULTIPLES, 1, 1, 1, 0, 0},   \
+    {CLIQUE, 4, 4, tuples, clique, MULTIPLES, 1, 1, 1, 0, 0}
 
 /* All connected combinations of two and of three of four relations. */
-#define FEWER_MEMBERS(shape, pairs, triples)                \
-    {shape, 2, 4, 1024, pairs, MULTIPLES, 1, 1, 1, 0},      \
-    {shape, 3, 4, 900, triples, MULTIPLES, 1, 1, 1, 0}
+#define FEWER_MEMBERS(shape, pairs, triples)                   \
+    {shape, 2, 4, 1024, pairs, MULTIPLES, 1, 1, 1, 0, 0},      \
+    {shape, 3, 4, 900, triples, MULTIPLES, 1, 1, 1, 0, 0}
 
 const description suite[] = {
     TODAY(MULTIPLES, 1),
@@ -152,31 +152,57 @@ const description suite[] = {
     FEWER_MEMBERS(STAR, 600, 500),
     FEWER_MEMBERS(RING, 600, 400),
     FEWER_MEMBERS(CLIQUE, 300, 60),
-    {RING, 4, 8, 120, 60, MULTIPLES, 1, 1, 1, 0},
-    {RING, 3, 8, 150, 80, MULTIPLES, 1, 1, 1, 0},
-    {RING, 4, 8, 512, 400, MULTIPLES, 1, 2, 1, 0},
-    {CATALOGUE, 4, 6, 100, 8, MULTIPLES, 1, 1, 1, 0},
-    {CATALOGUE, 4, 6, 100, 15, MULTIPLES, 1, 1, 1, 0},
-    {CATALOGUE, 3, 6, 180, 10, MULTIPLES, 1, 1, 1, 0},
-    {CATALOGUE, 3, 6, 180, 20, MULTIPLES, 1, 1, 1, 0},
-    {PATH, 4, 4, 1024, 60, MULTIPLES, 1, 1, 16, 0},
-    {STAR, 4, 4, 1024, 30, MULTIPLES, 1, 1, 32, 0},
-    {RING, 4, 4, 1024, 30, MULTIPLES, 1, 1, 16, 0},
-    {CLIQUE, 4, 4, 1024, 12, MULTIPLES, 1, 1, 8, 0},
-    {CATALOGUE, 4, 6, 128, 6, MULTIPLES, 1, 1, 8, 0},
+    {RING, 4, 8, 120, 60, MULTIPLES, 1, 1, 1, 0, 0},
+    {RING, 3, 8, 150, 80, MULTIPLES, 1, 1, 1, 0, 0},
+    {RING, 4, 8, 512, 400, MULTIPLES, 1, 2, 1, 0, 0},
+    {CATALOGUE, 4, 6, 100, 8, MULTIPLES, 1, 1, 1, 0, 0},
+    {CATALOGUE, 4, 6, 100, 15, MULTIPLES, 1, 1, 1, 0, 0},
+    {CATALOGUE, 3, 6, 180, 10, MULTIPLES, 1, 1, 1, 0, 0},
+    {CATALOGUE, 3, 6, 180, 20, MULTIPLES, 1, 1, 1, 0, 0},
+    {PATH, 4, 4, 1024, 60, MULTIPLES, 1, 1, 16, 0, 0},
+    {STAR, 4, 4, 1024, 30, MULTIPLES, 1, 1, 32, 0, 0},
+    {RING, 4, 4, 1024, 30, MULTIPLES, 1, 1, 16, 0, 0},
+    {CLIQUE, 4, 4, 1024, 12, MULTIPLES, 1, 1, 8, 0, 0},
+    {CATALOGUE, 4, 6, 128, 6, MULTIPLES, 1, 1, 8, 0, 0},
 };
 const size_t suite_count = sizeof suite / sizeof *suite;
 
 /* Of m = 4 every second combination, so that 4,000 tuples need no more than 32,768 support numbers. */
-#define GROWN(m, step)                                     \
-    {NEIGHBOURS, m, 16, 16, 4, MULTIPLES, 1, step, 1, 0},  \
-    {NEIGHBOURS, m, 16, 32, 4, MULTIPLES, 1, step, 1, 0},  \
-    {NEIGHBOURS, m, 16, 63, 4, MULTIPLES, 1, step, 1, 0},  \
-    {NEIGHBOURS, m, 16, 125, 4, MULTIPLES, 1, step, 1, 0}, \
-    {NEIGHBOURS, m, 16, 250, 4, MULTIPLES, 1, step, 1, 0}
+#define GROWN(m, step)                                        \
+    {NEIGHBOURS, m, 16, 16, 4, MULTIPLES, 1, step, 1, 0, 0},  \
+    {NEIGHBOURS, m, 16, 32, 4, MULTIPLES, 1, step, 1, 0, 0},  \
+    {NEIGHBOURS, m, 16, 63, 4, MULTIPLES, 1, step, 1, 0, 0},  \
+    {NEIGHBOURS, m, 16, 125, 4, MULTIPLES, 1, step, 1, 0, 0}, \
+    {NEIGHBOURS, m, 16, 250, 4, MULTIPLES, 1, step, 1, 0, 0}
 
 const description growth[] = {GROWN(2, 1), GROWN(3, 1), GROWN(4, 2)};
 const size_t growth_count = sizeof growth / sizeof *growth;
+
+/* Shapes of the suite, of whose values so many per cent are any. */
+#define ANY_AMONG(any)                                        \
+    {NEIGHBOURS, 2, 16, 256, 60, MULTIPLES, 1, 1, 1, 0, any}, \
+    {NEIGHBOURS, 3, 12, 200, 20, MULTIPLES, 1, 1, 1, 0, any}, \
+    {NEIGHBOURS, 4, 8, 200, 25, MULTIPLES, 1, 1, 1, 0, any},  \
+    {PATH, 4, 4, 1024, 240, MULTIPLES, 1, 1, 1, 0, any},      \
+    {STAR, 4, 4, 1024, 600, MULTIPLES, 1, 1, 1, 0, any},      \
+    {RING, 4, 4, 1024, 600, MULTIPLES, 1, 1, 1, 0, any},      \
+    {CLIQUE, 4, 4, 1024, 150, MULTIPLES, 1, 1, 1, 0, any},    \
+    {CLIQUE, 4, 4, 256, 60, MULTIPLES, 1, 1, 1, 0, any},      \
+    {CLIQUE, 4, 8, 120, 10, MULTIPLES, 1, 1, 1, 0, any}
+
+/* The same, and for each share some of which tuples fall. */
+const description with_any[] = {
+    ANY_AMONG(5),
+    {PATH, 4, 4, 64, 100, MULTIPLES, 1, 1, 1, 0, 5},
+    {RING, 4, 4, 256, 1000, MULTIPLES, 1, 1, 1, 0, 5},
+    {CATALOGUE, 4, 6, 100, 30, MULTIPLES, 1, 1, 1, 0, 5},
+    ANY_AMONG(30),
+    {NEIGHBOURS, 2, 64, 16, 50, MULTIPLES, 1, 1, 1, 0, 30},
+    {NEIGHBOURS, 3, 64, 16, 50, MULTIPLES, 1, 1, 1, 0, 30},
+    {NEIGHBOURS, 4, 16, 32, 50, MULTIPLES, 1, 1, 1, 0, 30},
+    {CLIQUE, 4, 8, 30, 200, MULTIPLES, 1, 1, 1, 0, 30},
+};
+const size_t with_any_count = sizeof with_any / sizeof *with_any;
 
 void name_network(const description *d, char name[NAME_SIZE]) {
     static const char *const shapes[] = {"neighbours", "path", "star", "ring", "clique", "catalogue"};
@@ -185,7 +211,8 @@ void name_network(const description *d, char name[NAME_SIZE]) {
     else if (d->factor != 1) at += snprintf(name + at, NAME_SIZE - at, "-x%u", d->factor);
     if (d->step != 1) at += snprintf(name + at, NAME_SIZE - at, "-step%zu", d->step);
     if (d->alike != 1) at += snprintf(name + at, NAME_SIZE - at, "-alike%zu", d->alike);
-    if (d->apart) snprintf(name + at, NAME_SIZE - at, "-apart");
+    if (d->apart) at += snprintf(name + at, NAME_SIZE - at, "-apart");
+    if (d->any) snprintf(name + at, NAME_SIZE - at, "-any%u", d->any);
 }
 
 static uint64_t seed;
@@ -245,7 +272,7 @@ size_t shape_scope(network_shape shape, size_t relations, size_t r, uint16_t *sc
 
 uint16_t code_of(const description *d, unsigned value) {
     if (d->codes == MULTIPLES) return (uint16_t)(value * d->factor);
-    if (d->codes == TOPMOST) return (uint16_t)(65535 - value);
+    if (d->codes == TOPMOST) return (uint16_t)(ANY - 1 - value);
     value = (value * 24029 + 12345) & 65535; /* odd factors, and a shift that the upper bits undo: one to one */
     return (uint16_t)((value ^ value >> 7) * 51749);
 }
@@ -256,6 +283,11 @@ static bool is_private(const network *n, uint16_t variable) {
     return count == 1;
 }
 
+static uint16_t draw_code(const description *d, unsigned moved) {
+    if (d->any && draw(100) < d->any) return ANY;
+    return code_of(d, draw(d->values) + moved);
+}
+
 /* A tuple of which an earlier one is to be alike has that one's values, apart from private ones. */
 static void draw_values(network *n, const description *d, size_t r) {
     size_t width = width_of(n, r), different = d->tuples / d->alike;
@@ -264,7 +296,7 @@ static void draw_values(network *n, const description *d, size_t r) {
     for (size_t x = 0; x < d->tuples; x++, tuple += width)
         for (size_t c = 0; c < width; c++) {
             bool again = x >= different && !is_private(n, n->variables[n->variable_starts[r] + c]);
-            tuple[c] = again ? (tuple - different * width)[c] : code_of(d, draw(d->values) + moved);
+            tuple[c] = again ? (tuple - different * width)[c] : draw_code(d, moved);
         }
 }
 

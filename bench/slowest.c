@@ -19,7 +19,8 @@ enum { SCATTERED = CATALOGUE + 1, SHAPES };
 typedef enum { DRAWN, SORTED, ALL, WAYS } way;
 
 /* Where a relation has a rule, a row's values add up to its class by the modulus: pairs of relations agree everywhere then, and the
- * classes decide whether a combination closes. A row with a joker, the highest value of a variable, needs to keep to no rule. */
+ * classes decide whether a combination closes. A row with a joker, the highest value of a variable, needs to keep to no rule. Of a
+ * relation's values under open variables so many per cent are any; these variables are no part of its rule. */
 typedef struct {
     unsigned shape, m, relations, tuples;        /* tuples of all relations, in proportion to sizes */
     unsigned width, variables;                   /* of scattered scopes, at most */
@@ -28,8 +29,10 @@ typedef struct {
     unsigned codes, factor;                      /* as in a description */
     unsigned thinned, repeated;                  /* one combination in so many; all of them so many times */
     uint64_t scopes, rows;                       /* seeds */
+    uint64_t open;                               /* a bit for each variable */
     uint16_t order[MAX_RELATIONS];               /* which relation of the shape comes first, and so on */
     unsigned sizes[MAX_RELATIONS], ruled[MAX_RELATIONS], classes[MAX_RELATIONS], alike[MAX_RELATIONS], ways[MAX_RELATIONS];
+    unsigned anys[MAX_RELATIONS];
 } plan;
 
 static uint64_t state;
@@ -71,9 +74,12 @@ static bool has_joker(const plan *p, const uint16_t *scope, size_t width, const 
     return false;
 }
 
+static bool is_open(const plan *p, unsigned r, uint16_t variable) { return p->anys[r] && p->open >> variable & 1; }
+
 static bool keeps_rule(const plan *p, const uint16_t *scope, size_t width, unsigned r, const uint16_t *row) {
     unsigned sum = 0;
-    for (size_t c = 0; c < width; c++) sum += row[c];
+    for (size_t c = 0; c < width; c++)
+        if (!is_open(p, r, scope[c])) sum += row[c];
     return !p->ruled[r] || sum % p->modulus == p->classes[r] || has_joker(p, scope, width, row);
 }
 
@@ -109,6 +115,13 @@ static int compare_rows(const void *a, const void *b) {
     return 0;
 }
 
+/* The values of so many rows become codes, or any. */
+static void write_codes(const plan *p, const uint16_t *scope, size_t width, unsigned r, uint16_t *rows, size_t size) {
+    description codes = {.codes = p->codes, .factor = p->factor};
+    for (size_t i = 0; i < size * width; i++)
+        rows[i] = is_open(p, r, scope[i % width]) && draw(100) < p->anys[r] ? ANY : code_of(&codes, rows[i]);
+}
+
 static void fill_relation(const plan *p, network *n, size_t r) {
     unsigned s = p->order[r];
     size_t width = width_of(n, r), size = size_of(n, r), different = size / p->alike[s] + 1;
@@ -124,8 +137,7 @@ static void fill_relation(const plan *p, network *n, size_t r) {
     }
     compared_width = width;
     if (p->ways[s] == SORTED && size > p->late) qsort(rows, size - p->late, width * sizeof *rows, compare_rows);
-    description codes = {.codes = p->codes, .factor = p->factor};
-    for (size_t i = 0; i < size * width; i++) rows[i] = code_of(&codes, rows[i]);
+    write_codes(p, scope, width, s, rows, size);
 }
 
 static void combine(const plan *p, network *n) {
@@ -162,6 +174,8 @@ static void make_network(const plan *p, network *n) {
                        .ruled = EACH(1), .classes = {0, 0, 0, 1}, .alike = EACH(1)
 #define IN_A_ROW .order = {0, 1, 2, 3}
 #define ACROSS .order = {0, 2, 1, 3}
+/* The other three have any under the variables of the first, whose tuples are all different. */
+#define ANY_FOR_THE_FIRST .shape = CLIQUE, .repeated = 1, .open = 1 << 0 | 1 << 1 | 1 << 3, .anys = {0, 100, 100, 100}
 
 static const plan made[] = {
     {NOTHING_CLOSES, IN_A_ROW, .shape = RING, .repeated = 1, .values = EACH(2), .sizes = EACH(1)},
@@ -175,6 +189,8 @@ static const plan made[] = {
     {NOTHING_CLOSES, IN_A_ROW, .shape = CLIQUE, .repeated = 2, .values = EACH(12), .sizes = EACH(1), .ways = EACH(ALL), .jokers = 1},
     {NOTHING_CLOSES, IN_A_ROW, .shape = CLIQUE, .repeated = 1, .values = {22, 2, 2, 34, 34, 590}, .sizes = {7, 7, 12, 12},
      .ways = {ALL, ALL, ALL, DRAWN}},
+    {NOTHING_CLOSES, IN_A_ROW, ANY_FOR_THE_FIRST, .values = {2384, 1, 44, 1, 44, 44}, .sizes = {298, 242, 242, 242}, .ways = EACH(ALL)},
+    {NOTHING_CLOSES, IN_A_ROW, ANY_FOR_THE_FIRST, .values = {5120, 1, 32, 1, 32, 32}, .sizes = {5, 1, 1, 1}, .ways = EACH(ALL)},
 };
 
 static void draw_relation(plan *p, unsigned r) {
@@ -200,6 +216,24 @@ static void draw_codes(plan *p) {
     p->factor = factors[draw(sizeof factors / sizeof *factors)];
 }
 
+/* All variables, those of one relation, or some. */
+static uint64_t draw_open(const plan *p) {
+    uint16_t scope[MAX_WIDTH];
+    uint64_t open = 0;
+    if (one_in(3)) return ~0ull;
+    if (p->shape == SCATTERED || one_in(2)) return (uint64_t)draw(1u << 31) << 31 ^ draw(1u << 31);
+    for (size_t c = shape_scope(p->shape, p->relations, draw(p->relations), scope); c-- > 0;) open |= 1ull << scope[c];
+    return open;
+}
+
+/* Every other plan has any. */
+static void draw_any(plan *p) {
+    unsigned share = 1 + draw(100);
+    bool none = one_in(2);
+    p->open = draw_open(p);
+    for (unsigned r = 0; r < MAX_RELATIONS; r++) p->anys[r] = none || one_in(4) ? 0 : one_in(2) ? share : draw(101);
+}
+
 static void draw_combinations(plan *p) { p->thinned = one_in(2) ? 1 : draw_size(8), p->repeated = one_in(3) ? draw_size(256) : one_in(2) ? 2 : 1; }
 
 /* So many relations, or as many as the shape can have, in an order of their own. */
@@ -219,6 +253,7 @@ static void draw_plan(plan *p) {
     draw_rows(p);
     draw_codes(p);
     draw_combinations(p);
+    draw_any(p);
 }
 
 static void change_number(unsigned *number, unsigned least, unsigned most) {
@@ -229,7 +264,7 @@ static void change_number(unsigned *number, unsigned least, unsigned most) {
 
 static void change_plan(plan *p) {
     unsigned r = draw(p->relations);
-    switch (draw(16)) {
+    switch (draw(18)) {
     case 0: p->rows = draw(1u << 30); break;
     case 1: p->scopes = draw(1u << 30); break;
     case 2: case 3: change_number(&p->values[draw(8)], 2, 2000); break;
@@ -243,6 +278,8 @@ static void change_plan(plan *p) {
     case 12: draw_codes(p); break;
     case 13: draw_combinations(p); break;
     case 14: p->ways[r] = draw(WAYS); break;
+    case 15: change_number(&p->anys[r], 0, 100); break;
+    case 16: draw_any(p); break;
     default: set_relations(p, p->m + draw(5)); break;
     }
 }
@@ -323,7 +360,7 @@ static void print_plan(const plan *p, double time) {
     printf("%s%8.3f ms  %s, m = %u, %u relations, %zu tuples, %zu combinations, modulus %u, jokers %u, late %u", time < LONGEST ? " " : ">", time * 1e3,
            shapes[p->shape], p->m, p->relations, tuple_count(&drawn), drawn.pairs / drawn.m, p->modulus, p->jokers, p->late);
     print_four("values", p->values), print_four("sizes", p->sizes), print_four("alike", p->alike), print_four("ways", p->ways);
-    putchar('\n');
+    print_four("any", p->anys), printf(" under %#llx\n", (unsigned long long)p->open);
 }
 
 static void print_kept(const char *when, long count) {

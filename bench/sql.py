@@ -4,18 +4,22 @@ Reads DIRECTORY/times.txt and the networks' texts beside it, as bench/main write
 visit of a combination and member. Prints two times beside the others: of the whole job, from the lists to the rows left (tables,
 indexes, deletes), and of the deletes alone. SQLite finds no supports. The lines go on to DIRECTORY/all-times.txt, with the whole
 job's time behind. A job that takes longer than LIMIT is given up and counted with LIMIT.
+
+Networks with the code ANY are joined so that it fits every code, by the fastest of five ways tried.
 """
 
 import itertools
 import sqlite3
 import sys
 import time
+from collections.abc import Callable
 from pathlib import Path
 from typing import NamedTuple
 
 LIMIT = 20.0  # seconds after which a job is given up
 ENOUGH = 1.0  # and after which no other round begins
 ROUNDS = 3
+ANY = 65535
 
 
 class Measured(NamedTuple):
@@ -69,21 +73,36 @@ def load(network: Network) -> sqlite3.Connection:
     return base
 
 
-def visit(network: Network, combination: tuple[int, ...], member: int) -> str:
+def has_any(network: Network) -> bool:
+    return any(ANY in row for tuples in network.tuples for row in tuples)
+
+
+def equal(a: str, b: str) -> str:
+    return f"{a} = {b}"
+
+
+def fitting(a: str, b: str) -> str:
+    """Two codes fit. Each part asks something of both columns, so that SQLite finds the rows of either table by its index."""
+    return f"({a} = {b} OR ({a} = {ANY} AND {b} >= 0) OR ({b} = {ANY} AND {a} >= 0))"
+
+
+def visit(network: Network, combination: tuple[int, ...], member: int, agree: Callable[[str, str], str]) -> str:
     """The statement that deletes the member's tuples without a support in the combination."""
-    equal = [f"r{a}.x{x} = r{b}.x{x}" for a, b in itertools.combinations(combination, 2) for x in shared(network, a, b)]
+    pairs = itertools.combinations(combination, 2)
+    agreeing = [agree(f"r{a}.x{x}", f"r{b}.x{x}") for a, b in pairs for x in shared(network, a, b)]
     others = ", ".join(f"r{r}" for r in combination if r != member)
-    return f"DELETE FROM r{member} WHERE NOT EXISTS (SELECT 1 FROM {others} WHERE {' AND '.join(equal)})"
+    return f"DELETE FROM r{member} WHERE NOT EXISTS (SELECT 1 FROM {others} WHERE {' AND '.join(agreeing)})"
 
 
 def filtered(base: sqlite3.Connection, network: Network) -> None:
     """Visits until none waits; what falls in one combination makes the other members of the others wait."""
     waiting = dict.fromkeys((c, r) for c in range(len(network.combinations)) for r in network.combinations[c])
+    agree = fitting if has_any(network) else equal
     while waiting:
         pair = next(iter(waiting))
         del waiting[pair]
         combination, member = pair
-        if base.execute(visit(network, network.combinations[combination], member)).rowcount:
+        if base.execute(visit(network, network.combinations[combination], member, agree)).rowcount:
             for other, members in enumerate(network.combinations):
                 if other != combination and member in members:
                     waiting.update(dict.fromkeys((other, r) for r in members if r != member))
