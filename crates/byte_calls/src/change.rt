@@ -1,20 +1,24 @@
-// The change calls on bytes: decode what is only read, plan the change, and make it on the needed words and numbers.
+// The change calls on bytes: decode what is only read and check it, decode the needed words and the counts, check these and plan the
+// change, and make it.
 ghost use mathlib.Core.Path.{_≡_};
 ghost use mathlib.Core.Bool.{true};
-ghost use Prim.Native.Nat.{_%_};
+ghost use Prim.Native.Nat.{_/_};
 ghost use lib.ListN.{length};
 ghost use Rattle.layout.specs.Loan.{entry};
+ghost use Rattle.layout.specs.Setting.{SoundLists};
 ghost use Rattle.layout.specs.Shape.{instanceOf};
-ghost use Rattle.request.specs.Plan.{Planned};
+ghost use Rattle.request.specs.Plan.{listsFrom, PlansOn};
 ghost use Rattle.encoding.specs.Call.{byteBook, byteInstance, byteRequest, wholeIds, decodedChange, KeepsBytes, left};
 ghost use Rattle.byte_calls.specs.Call.{changeIn};
-ghost use Rattle.byte_calls.specs.Planned.{settingFor, Writable, WritesChange, PlansBytes, LeavesPlanned, AnswersOn};
+ghost use Rattle.byte_calls.specs.Planned.{settingFor, Writable, WritesChange, AnswersOn, WholeBytes, PlansBytes, LeavesPlanned, Readable, OpensBytes, AnswersOpened};
 use super::NOT_WHOLE;
 use changes::change;
 use combination::needed;
 use encoding::ids::ids_at;
 use encoding::lengths::change_whole;
 use encoding::packing::pack;
+use encoding::sheets::counts_at;
+use encoding::sheets::put_counts;
 use encoding::sheets::shape_at;
 use layout::Shape;
 use layout::tuple_count;
@@ -23,6 +27,9 @@ use live::words_for;
 use model::Answer;
 use model::MAX_SUPPORT_NUMBERS;
 use model::Value;
+use request::checks::Opening;
+use request::checks::checked;
+use request::counts::counted;
 use request::plan::Plan;
 use request::plan::plan_choose;
 use request::plan::plan_filter;
@@ -39,39 +46,19 @@ pub enum Call {
     Choose(u16, u16),
 }
 
-// What the call is to do, with so many live words and support numbers. Only withdraw reads the ids.
-fn plan(
-    call: Call,
-    shape: Shape,
-    variables: &[u16],
-    values: &[Value],
-    m: u16,
-    members: &[u16],
-    words: usize,
-    numbers: usize,
-    ids: &[u8],
-) -> Plan
-    ensures { λ p. ⌜ Planned p (instanceOf shape (entry variables) (entry values) m (entry members)) words numbers (decodedChange (changeIn call (entry ids))) ⌝ }
+// What the call is to do, with this opening. Only withdraw reads the ids.
+fn plan(call: Call, opening: Opening, variables: &[u16], values: &[Value], ids: &[u8]) -> Plan
+    requires { ⌜ (opening .fault ≡ 0 → SoundLists (listsFrom opening (now variables) (now values))) ⌝ }
+    ensures { λ p. ⌜ PlansOn p opening (entry variables) (entry values) (decodedChange (changeIn call (entry ids))) ⌝ }
 {
     match call {
-        Call::Filter => plan_filter(shape, variables, values, m, members, words, numbers),
-        Call::Withdraw => plan_withdraw(
-            shape,
-            variables,
-            values,
-            m,
-            members,
-            words,
-            numbers,
-            ids_at(ids),
-        ),
-        Call::Choose(x, v) => {
-            plan_choose(shape, variables, values, m, members, words, numbers, x, v)
-        }
+        Call::Filter => plan_filter(opening),
+        Call::Withdraw => plan_withdraw(opening, ids_at(ids)),
+        Call::Choose(x, v) => plan_choose(opening, variables, values, x, v),
     }
 }
 
-// Makes the planned change on these words and numbers, and writes them over the first bytes lent.
+// Makes the planned change on these words, numbers and counts, and writes them over the bytes lent.
 fn write_change(
     variables: &[u16],
     values: &[Value],
@@ -79,12 +66,14 @@ fn write_change(
     members: &[u16],
     words: &mut [u64],
     numbers: &mut [u16],
+    counts: &mut [u16],
+    sheets: &mut [u8],
     marks: &mut [u8],
     supports: &mut [u8],
     plan: Plan,
 ) -> u64
-    requires { ⌜ Writable (settingFor plan (now variables) (now values) m (now members)) (now words) (now numbers) (plan .removed) (now marks) (now supports) ⌝ }
-    ensures { λ n. ⌜ WritesChange n (settingFor plan (entry variables) (entry values) m (entry members)) words numbers (plan .removed) marks supports ⌝ }
+    requires { ⌜ Writable (settingFor plan (now variables) (now values) m (now members)) (now words) (now numbers) (now counts) (plan .removed) (now sheets) (now marks) (now supports) ⌝ }
+    ensures { λ n. ⌜ WritesChange n (settingFor plan (entry variables) (entry values) m (entry members)) words numbers (plan .removed) sheets marks supports ⌝ }
 {
     let starts = plan.starts;
     let removed = plan.removed;
@@ -96,46 +85,126 @@ fn write_change(
         m,
         words,
         numbers,
+        counts,
         &removed,
     );
+    put_counts(counts, sheets);
     store64(words, marks);
     store16(numbers, supports);
     pack(a)
 }
 
-// Makes the change that is planned: decodes the needed words alone, and lends as many numbers as are needed.
+// Makes the change that is planned, with room for as many numbers as are needed.
 fn make(
     variables: &[u16],
     values: &[Value],
     m: u16,
     members: &[u16],
+    words: &mut [u64],
+    counts: &mut [u16],
+    sheets: &mut [u8],
     marks: &mut [u8],
     supports: &mut [u8],
     plan: Plan,
 ) -> u64
-    requires { ⌜ PlansBytes plan (now variables) (now values) m (now members) (now marks) (now supports) ⌝ }
-    ensures { λ n. ⌜ LeavesPlanned n plan (entry variables) (entry values) m (entry members) marks supports ⌝ }
+    requires { ⌜ PlansBytes plan (now variables) (now values) m (now members) (now words) (now counts) (now sheets) (now marks) (now supports) ⌝ }
+    ensures { λ n. ⌜ LeavesPlanned n plan (entry variables) (entry values) m (entry members) sheets marks supports ⌝ }
 {
     let starts = plan.starts;
-    let word_count = words_for(tuple_count(&starts));
     let number_count = needed(&starts, members, m);
-    let mut words = [0u64; WORDS];
     let mut numbers = [0u16; MAX_SUPPORT_NUMBERS];
-    load64(&marks[..8 * word_count], &mut words);
     write_change(
         variables,
         values,
         m,
         members,
-        &mut words[..word_count],
+        words,
         &mut numbers[..number_count],
+        counts,
+        sheets,
         marks,
         supports,
         plan,
     )
 }
 
-// The call on decoded lists: planned, and refused or made.
+// The call on the words and counts decoded: these checked and the change planned, then refused or made.
+fn change_counted(
+    call: Call,
+    opening: Opening,
+    variables: &[u16],
+    values: &[Value],
+    m: u16,
+    members: &[u16],
+    words: &mut [u64],
+    counts: &mut [u16],
+    sheets: &mut [u8],
+    marks: &mut [u8],
+    supports: &mut [u8],
+    ids: &[u8],
+) -> u64
+    requires { ⌜ OpensBytes opening (now variables) (now values) m (now members) (now words) (now counts) (now sheets) (now marks) (now supports) ⌝ }
+    ensures { λ n. ⌜ AnswersOpened n opening (entry variables) (entry values) m (entry members) sheets marks supports (changeIn call (entry ids)) ⌝ }
+{
+    let opened = counted(opening, words, counts);
+    let plan = plan(call, opened, variables, values, ids);
+    if plan.fault != 0 {
+        return pack(Answer::Refused(plan.fault));
+    }
+    make(
+        variables,
+        values,
+        m,
+        members,
+        words,
+        counts,
+        sheets,
+        marks,
+        supports,
+        plan,
+    )
+}
+
+// The call on lists that are opened: the needed words alone and the counts are decoded.
+fn change_opened(
+    call: Call,
+    shape: Shape,
+    opening: Opening,
+    variables: &[u16],
+    values: &[Value],
+    m: u16,
+    members: &[u16],
+    sheets: &mut [u8],
+    marks: &mut [u8],
+    supports: &mut [u8],
+    ids: &[u8],
+) -> u64
+    requires { ⌜ Readable opening (shape .count) (instanceOf shape (now variables) (now values) m (now members)) (now sheets) (now marks) (now supports) ⌝ }
+    ensures { λ n. ⌜ AnswersOn n (instanceOf shape (entry variables) (entry values) m (entry members)) sheets marks supports (changeIn call (entry ids)) ⌝ }
+{
+    let starts = opening.starts;
+    let word_count = words_for(tuple_count(&starts));
+    let count = shape.count;
+    let mut words = [0u64; WORDS];
+    load64(&marks[..8 * word_count], &mut words);
+    let mut counts = counts_at(sheets);
+    change_counted(
+        call,
+        opening,
+        variables,
+        values,
+        m,
+        members,
+        &mut words[..word_count],
+        &mut counts[..count],
+        sheets,
+        marks,
+        supports,
+        ids,
+    )
+}
+
+// The call on decoded lists: checked as far as number 12, then refused or opened.
 fn change_decoded(
     call: Call,
     shape: Shape,
@@ -143,35 +212,39 @@ fn change_decoded(
     values: &[Value],
     m: u16,
     members: &[u16],
+    sheets: &mut [u8],
     marks: &mut [u8],
     supports: &mut [u8],
     ids: &[u8],
 ) -> u64
-    requires { ⌜ (length (now marks) % 8 ≡ 0) × (length (now supports) % 2 ≡ 0) ⌝ }
-    ensures { λ n. ⌜ AnswersOn n (instanceOf shape (entry variables) (entry values) m (entry members)) marks supports (changeIn call (entry ids)) ⌝ }
+    requires { ⌜ (shape .count ≡ length (now sheets) / 6) × WholeBytes (now marks) (now supports) ⌝ }
+    ensures { λ n. ⌜ AnswersOn n (instanceOf shape (entry variables) (entry values) m (entry members)) sheets marks supports (changeIn call (entry ids)) ⌝ }
 {
-    let plan = plan(
+    let words = marks.len() / 8;
+    let numbers = supports.len() / 2;
+    let opening = checked(shape, variables, values, m, members, words, numbers);
+    if opening.fault != 0 {
+        return pack(Answer::Refused(opening.fault));
+    }
+    change_opened(
         call,
         shape,
+        opening,
         variables,
         values,
         m,
         members,
-        marks.len() / 8,
-        supports.len() / 2,
+        sheets,
+        marks,
+        supports,
         ids,
-    );
-    let fault = plan.fault;
-    if fault != 0 {
-        return pack(Answer::Refused(fault));
-    }
-    make(variables, values, m, members, marks, supports, plan)
+    )
 }
 
 // Decodes the lists that are only read, each into room for one entry more than any accepted list has, and makes the call.
 fn change_bytes(
     call: Call,
-    sheets: &[u8],
+    sheets: &mut [u8],
     questions: &[u8],
     codes: &[u8],
     m: u16,
@@ -180,8 +253,8 @@ fn change_bytes(
     supports: &mut [u8],
     ids: &[u8],
 ) -> u64
-    requires { ⌜ (length (now marks) % 8 ≡ 0) × (length (now supports) % 2 ≡ 0) ⌝ }
-    ensures { λ n. ⌜ AnswersOn n (byteInstance (byteBook entry sheets questions codes m combinations)) marks supports (changeIn call (entry ids)) ⌝ }
+    requires { ⌜ WholeBytes (now marks) (now supports) ⌝ }
+    ensures { λ n. ⌜ AnswersOn n (byteInstance (byteBook entry sheets questions codes m combinations)) sheets marks supports (changeIn call (entry ids)) ⌝ }
 {
     let mut variables = [0u16; 513];
     let mut values = [0u16; 32769];
@@ -197,6 +270,7 @@ fn change_bytes(
         &values[..value_count],
         m,
         &members[..member_count],
+        sheets,
         marks,
         supports,
         ids,
@@ -206,7 +280,7 @@ fn change_bytes(
 // The call, whose ids are whole: refused with number 1 before all else if another list is not.
 pub fn change_call(
     call: Call,
-    sheets: &[u8],
+    sheets: &mut [u8],
     questions: &[u8],
     codes: &[u8],
     m: u16,
@@ -216,7 +290,7 @@ pub fn change_call(
     ids: &[u8],
 ) -> u64
     requires { ⌜ wholeIds (changeIn call (now ids)) ≡ true ⌝ }
-    ensures { λ n. ⌜ KeepsBytes (byteRequest (byteBook entry sheets questions codes m combinations) (entry marks) (entry supports) (changeIn call (entry ids))) (left n marks supports) ⌝ }
+    ensures { λ n. ⌜ KeepsBytes (byteRequest (byteBook entry sheets questions codes m combinations) (entry marks) (entry supports) (changeIn call (entry ids))) (left n sheets marks supports) ⌝ }
 {
     if !change_whole(
         sheets.len(),

@@ -13,7 +13,7 @@ use encoding::lengths::network_whole;
 // Filters what lives.
 #[no_mangle]
 pub extern "C" fn wakhvosi_filter(
-    sheets: &[u8],
+    sheets: &mut [u8],
     questions: &[u8],
     codes: &[u8],
     m: u16,
@@ -21,7 +21,7 @@ pub extern "C" fn wakhvosi_filter(
     marks: &mut [u8],
     supports: &mut [u8],
 ) -> u64
-    ensures { λ n. ⌜ KeepsBytes (byteRequest (byteBook entry sheets questions codes m combinations) (entry marks) (entry supports) filter) (left n marks supports) ⌝ }
+    ensures { λ n. ⌜ KeepsBytes (byteRequest (byteBook entry sheets questions codes m combinations) (entry marks) (entry supports) filter) (left n sheets marks supports) ⌝ }
 {
     change_call(
         Call::Filter,
@@ -32,14 +32,14 @@ pub extern "C" fn wakhvosi_filter(
         combinations,
         marks,
         supports,
-        &sheets[..0],
+        &questions[..0],
     )
 }
 
 // Withdraws the tuples whose ids are listed, live or dead, and filters what then lives.
 #[no_mangle]
 pub extern "C" fn wakhvosi_withdraw(
-    sheets: &[u8],
+    sheets: &mut [u8],
     questions: &[u8],
     codes: &[u8],
     m: u16,
@@ -48,7 +48,7 @@ pub extern "C" fn wakhvosi_withdraw(
     supports: &mut [u8],
     ids: &[u8],
 ) -> u64
-    ensures { λ n. ⌜ KeepsBytes (byteRequest (byteBook entry sheets questions codes m combinations) (entry marks) (entry supports) (withdraw (entry ids))) (left n marks supports) ⌝ }
+    ensures { λ n. ⌜ KeepsBytes (byteRequest (byteBook entry sheets questions codes m combinations) (entry marks) (entry supports) (withdraw (entry ids))) (left n sheets marks supports) ⌝ }
 {
     if ids.len() % 2 != 0 {
         return NOT_WHOLE;
@@ -69,7 +69,7 @@ pub extern "C" fn wakhvosi_withdraw(
 // Withdraws every tuple that has another value than `code` under variable `question`, and filters what then lives.
 #[no_mangle]
 pub extern "C" fn wakhvosi_choose(
-    sheets: &[u8],
+    sheets: &mut [u8],
     questions: &[u8],
     codes: &[u8],
     m: u16,
@@ -79,7 +79,7 @@ pub extern "C" fn wakhvosi_choose(
     question: u16,
     code: u16,
 ) -> u64
-    ensures { λ n. ⌜ KeepsBytes (byteRequest (byteBook entry sheets questions codes m combinations) (entry marks) (entry supports) (choose question code)) (left n marks supports) ⌝ }
+    ensures { λ n. ⌜ KeepsBytes (byteRequest (byteBook entry sheets questions codes m combinations) (entry marks) (entry supports) (choose question code)) (left n sheets marks supports) ⌝ }
 {
     change_call(
         Call::Choose(question, code),
@@ -90,7 +90,7 @@ pub extern "C" fn wakhvosi_choose(
         combinations,
         marks,
         supports,
-        &sheets[..0],
+        &questions[..0],
     )
 }
 

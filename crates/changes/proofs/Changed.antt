@@ -13,28 +13,31 @@ use Rattle.model.specs.Limits.{wordBits}
 use Rattle.model.specs.TupleSet.{TupleSet, count, without}
 use Rattle.model.specs.Network.{Network, total}
 use Rattle.model.specs.Combination.{Combination}
+use Rattle.model.specs.LiveCounts.{liveCounts}
 use Rattle.model.specs.Consistency.{filtered, supportList, needed}
 use Rattle.model.specs.LiveWords.{isLive, livingFrom, living, written}
 use Rattle.model.specs.Request.{Change, Instance, combinationsOf, Request, removes}
-use Rattle.model.specs.Fault.{firstFault, refusal, faultsOn}
+use Rattle.model.specs.Fault.{firstFault, refusal, untrue, faultsOn}
 use Rattle.model.specs.Reply.{answerNumbers, answerFor, remainder, leaving, accepted, reply, refused, request, replied}
 use Rattle.model.specs.Edges.{restored}
 use Rattle.model.proofs.TupleSet.{without-count, without-length, without-cong, has-below}
 use Rattle.model.proofs.Consistency.{filtered-length, filtered-count, supportList-length}
 use Rattle.model.proofs.LiveWords.{living-length, written-length, living-written, written-written, living-take}
+use Rattle.model.proofs.LiveCounts.{counts-length, true-counts}
+use Rattle.model.proofs.Fault.{accepts-true}
 use Rattle.model.proofs.Reply.{reply-fault, accepts-none, reply-accepted, countsFor-differences}
 use Rattle.model.proofs.Edges.{leaving-needed}
 use Rattle.layout.specs.Starts.{outline}
 use Rattle.layout.specs.Setting.{Setting, network, listed, instanceIn}
 use Rattle.layout.proofs.SoundStarts.{tuples-few}
-use Rattle.layout.proofs.Outline.{answerFor-outline}
+use Rattle.layout.proofs.Outline.{counts-outline, answerFor-outline}
 use Rattle.request.specs.declared.plan.Plan.{Plan}
 use Rattle.request.specs.Removal.{withoutIds}
 use Rattle.request.specs.Answer.{livingIn, Covered, countsOf}
-use Rattle.request.specs.Plan.{settingOf, Clear, Planned}
+use Rattle.request.specs.Plan.{settingOf, Clear}
 use Rattle.request.proofs.Removed.{withoutIds-length, withoutIds-living, holds-room}
 use Rattle.engine.specs.Work.{Room, Filtered}
-use Rattle.changes.specs.Change.{changed, Ready}
+use Rattle.changes.specs.Change.{changed, Ready, PlannedOn}
 
 -- a count of all ids
 pub counted-all : (n end k : ℕ) (ws : List ℕ) → end ≡ n → k ≡ count (livingFrom 0 (end - 0) ws) → k ≡ count (living n ws)
@@ -45,7 +48,7 @@ counted-all n end k ws e f =
 
 -- ---- Removed, filtered and answered
 
-module _ (G : Setting) (words supports removed : List ℕ) (ready : Ready G words supports removed) where
+module _ (G : Setting) (words supports counts removed : List ℕ) (ready : Ready G words supports counts removed) where
   abbrev N : Network
   N = network G
 
@@ -106,18 +109,19 @@ module _ (G : Setting) (words supports removed : List ℕ) (ready : Ready G word
           omega (arith, after-is, b, without-count (isLive removed) alive),
         )
 
-        pub final-reply : (x : Answer) → x ≡ answerFor (outline (G .lists .starts)) (livingIn (G .lists .starts) final) (countsOf before after (livingIn (G .lists .starts) final)) → replied x final numbers ≡ changed (instanceIn G) (isLive removed) words supports
+        pub final-reply : (x : Answer) → x ≡ answerFor (outline (G .lists .starts)) (livingIn (G .lists .starts) final) (countsOf before after (livingIn (G .lists .starts) final)) → (tally : List ℕ) → tally ≡ liveCounts (outline (G .lists .starts)) (livingIn (G .lists .starts) final) → replied x final numbers tally ≡ changed (instanceIn G) (isLive removed) words supports
         unfolding changed leaving
-        final-reply x e =
-            let counts : TupleSet → Counts = λ L. record { left = count L; withdrawn = count alive - count rest; deleted = count rest - count L } in
-            let answered : x ≡ answerFor N kept (counts kept) =
+        final-reply x e tally f =
+            let numbers-of : TupleSet → Counts = λ L. record { left = count L; withdrawn = count alive - count rest; deleted = count rest - count L } in
+            let answered : x ≡ answerFor N kept (numbers-of kept) =
             e
             ∙ answerFor-outline (G .lists) (living n final) (countsOf before after (living n final))
             ∙ ap₂ (λ (y z : ℕ). answerFor N (living n final) (countsOf y z (living n final))) b after-is
-            ∙ ap (λ (L : TupleSet). answerFor N L (counts L)) final-living in
+            ∙ ap (λ (L : TupleSet). answerFor N L (numbers-of L)) final-living in
             let numbered : numbers ≡ supportList N cs kept ++ drop (needed N cs) supports =
             done .1 ∙ ap (λ (S : TupleSet). supportList N cs (filtered N cs S) ++ drop (needed N cs) supports) cut-living in
-            λ i. record { answer = answerNumbers (answered i); words = final-words i; supports = numbered i }
+            let tallied : tally ≡ liveCounts N kept = f ∙ counts-outline (G .lists) (living n final) ∙ ap (liveCounts N) final-living in
+            λ i. record { answer = answerNumbers (answered i); words = final-words i; supports = numbered i; counts = tallied i }
 
 -- ---- The reply
 
@@ -140,7 +144,7 @@ module _ (q : Request) (removed : ℕ → Bool) (same : (g : ℕ) → g < total 
       (λ g e. same g (omega (arith, has-below S g e, living-length (total (I .network)) (q .words)))))
       ∙ ap (λ (k : Counts). leaving I (remainder I (q .change) S) k (q .words) (q .supports)) (sym (countsFor-differences I (q .change) S))
 
-  pub changed-reply : 0 ≡ refusal (firstFault (faultsOn I (length (q .words)) (length (q .supports)) (q .change))) → changed I removed (q .words) (q .supports) ≡ reply q
+  pub changed-reply : 0 ≡ refusal (firstFault (faultsOn I (length (q .words)) (length (q .supports)) (untrue (I .network) (q .words) (q .counts)) (q .change))) → changed I removed (q .words) (q .supports) ≡ reply q
   changed-reply none = changed-accepted ∙ sym (reply-accepted q (accepts-none q none))
 
 -- ---- From a plan
@@ -150,21 +154,29 @@ module _ (p : Plan) (I : Instance) (words numbers : ℕ) (change : Change) (clea
   G = settingOf (p .starts) I
 
   -- what a change asks, of lists that are long enough
-  pub clear-ready : (ws ss : List ℕ) → total (network G) ≤ wordBits * length ws → needed (network G) (listed G) ≤ length ss → Ready G ws ss (p .removed)
-  clear-ready ws ss enough room =
+  pub clear-ready : (ws ss ks : List ℕ) → total (network G) ≤ wordBits * length ws → needed (network G) (listed G) ≤ length ss → length ks ≡ length (network G .relations) → Ready G ws ss ks (p .removed)
+  clear-ready ws ss ks enough room tally =
       let sound = clear .sufficient .sound in
       record {
         sound = sound;
         space = record { enough = enough; short = clear .sufficient .short; room = room };
+        tally = tally;
         removal = holds-room (total (network G)) (tuples-few (sound .laid .framed)) (removes (network G) change) (p .removed) (clear .holds) ws enough (clear .full);
       }
 
-module _ (p : Plan) (I : Instance) (words supports : List ℕ) (change : Change) (planned : Planned p I (length words) (length supports) change) where
+module _ (p : Plan) (I : Instance) (words supports counts : List ℕ) (change : Change) (planned : PlannedOn p I words supports counts change) where
   abbrev asked : Request
-  asked = request I words supports change
+  asked = request I words supports counts change
 
   pub planned-refused : (p .fault ≡ 0 → ⊥) → refused (p .fault) asked ≡ reply asked
   planned-refused d = sym (reply-fault asked (p .fault) (planned .fault) d)
+
+  -- without fault the counts are true, and so there is one for each relation
+  pub planned-tally : p .fault ≡ 0 → length counts ≡ length (network (settingOf (p .starts) I) .relations)
+  planned-tally z =
+      ap length (true-counts (I .network) words counts (accepts-true asked (accepts-none asked (sym z ∙ planned .fault))))
+      ∙ counts-length (I .network) (living (total (I .network)) words)
+      ∙ ap (λ (J : Instance). length (J .network .relations)) (sym (planned .clear z .sufficient .same))
 
   pub planned-reply : (z : p .fault ≡ 0) → changed (instanceIn (settingOf (p .starts) I)) (isLive (p .removed)) words supports ≡ reply asked
   planned-reply z =

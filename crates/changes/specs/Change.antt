@@ -10,6 +10,7 @@ use Rattle.model.specs.Network.{total}
 use Rattle.model.specs.Consistency.{filtered}
 use Rattle.model.specs.LiveWords.{isLive, living}
 use Rattle.model.specs.Request.{Change, Instance, combinationsOf}
+use Rattle.model.specs.Fault.{untrue}
 use Rattle.model.specs.Reply.{Reply, leaving, request, replied, Keeps}
 use Rattle.layout.specs.declared.Shape.{Shape}
 use Rattle.layout.specs.Loan.{Loan, entry, exit}
@@ -28,28 +29,35 @@ changed I removed words supports =
     let L = filtered (I .network) (combinationsOf I) R in
     leaving I L (record { left = count L; withdrawn = count S - count R; deleted = count R - count L }) words supports
 
--- An instance without fault, words and numbers enough, and words that hold ids of its tuples.
-pub record Ready (G : Setting) (words supports removed : List ℕ) : Type 0 where
+-- An instance without fault, words and numbers enough, a count for each relation, and words that hold ids of its tuples.
+pub record Ready (G : Setting) (words supports counts removed : List ℕ) : Type 0 where
   pub sound : Sound G
   pub space : engine.Room G words supports
+  pub tally : length counts ≡ length (network G .relations)
   pub removal : request′.Room words removed (total (network G))
 
-abbrev pub Changes : Answer → Setting → Loan → Loan → List ℕ → Type 0
-Changes a G words supports removed =
-    replied a (exit words) (exit supports) ≡ changed (instanceIn G) (isLive removed) (entry words) (entry supports)
+abbrev pub Changes : Answer → Setting → Loan → Loan → Loan → List ℕ → Type 0
+Changes a G words supports counts removed =
+    replied a (exit words) (exit supports) (exit counts) ≡ changed (instanceIn G) (isLive removed) (entry words) (entry supports)
 
 -- A change call keeps its contract.
-abbrev pub Replies : Answer → Instance → Loan → Loan → Change → Type 0
-Replies a I words supports change = Keeps (request I (entry words) (entry supports) change) (replied a (exit words) (exit supports))
+abbrev pub Replies : Answer → Instance → Loan → Loan → Loan → Change → Type 0
+Replies a I words supports counts change =
+    Keeps (request I (entry words) (entry supports) (entry counts) change) (replied a (exit words) (exit supports) (exit counts))
+
+-- p is the plan of this change on these lists
+abbrev pub PlannedOn : Plan → Instance → List ℕ → List ℕ → List ℕ → Change → Type 0
+PlannedOn p I words supports counts change =
+    Planned p I (length words) (length supports) (untrue (I .network) words counts) change
 
 -- The plan is one for these lists.
-pub record Plans (p : Plan) (variables values : List ℕ) (m : ℕ) (members words supports : List ℕ) : Type 0 where
+pub record Plans (p : Plan) (variables values : List ℕ) (m : ℕ) (members words supports counts : List ℕ) : Type 0 where
   pub shape : Shape
   pub change : Change
-  pub planned : Planned p (instanceOf shape variables values m members) (length words) (length supports) change
+  pub planned : PlannedOn p (instanceOf shape variables values m members) words supports counts change
 
 -- .. and for every change that it is one for, the call keeps its contract
-abbrev pub RepliesPlanned : Answer → Plan → List ℕ → List ℕ → ℕ → List ℕ → Loan → Loan → Type 0
-RepliesPlanned a p variables values m members words supports =
+abbrev pub RepliesPlanned : Answer → Plan → List ℕ → List ℕ → ℕ → List ℕ → Loan → Loan → Loan → Type 0
+RepliesPlanned a p variables values m members words supports counts =
     (S : Shape) (change : Change) → (let I = instanceOf S variables values m members in
-    Planned p I (length (entry words)) (length (entry supports)) change → Replies a I words supports change)
+    PlannedOn p I (entry words) (entry supports) (entry counts) change → Replies a I words supports counts change)

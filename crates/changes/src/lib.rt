@@ -13,6 +13,8 @@ use live::count;
 use model::Answer;
 use model::Value;
 use request::answer::answer_for;
+use request::counts::count_all;
+use request::counts::opened;
 use request::plan::Plan;
 use request::plan::plan_choose;
 use request::plan::plan_filter;
@@ -20,7 +22,7 @@ use request::plan::plan_withdraw;
 use request::removal::listed;
 use request::removal::remove;
 
-// Takes the ids removed from what lives, filters the rest, and answers.
+// Takes the ids removed from what lives, filters the rest, counts what is left, and answers.
 pub fn change(
     variables: &[u16],
     values: &[Value],
@@ -29,16 +31,18 @@ pub fn change(
     m: u16,
     words: &mut [u64],
     supports: &mut [u16],
+    counts: &mut [u16],
     removed: &Words,
 ) -> Answer
-    requires { ⌜ Ready (setting now variables values starts members m) (now words) (now supports) (now removed) ⌝ }
-    ensures { λ a. ⌜ Changes a (setting entry variables values starts members m) words supports (entry removed) ⌝ }
+    requires { ⌜ Ready (setting now variables values starts members m) (now words) (now supports) (now counts) (now removed) ⌝ }
+    ensures { λ a. ⌜ Changes a (setting entry variables values starts members m) words supports counts (entry removed) ⌝ }
 {
     let total = tuple_count(starts);
     let before = count(words, 0, total);
     remove(words, removed, total);
     let kept = count(words, 0, total);
     engine::filter::filter(variables, values, starts, members, m, words, supports);
+    count_all(starts, words, counts);
     answer_for(starts, words, before, kept)
 }
 
@@ -50,10 +54,11 @@ fn make(
     members: &[u16],
     words: &mut [u64],
     supports: &mut [u16],
+    counts: &mut [u16],
     plan: Plan,
 ) -> Answer
-    requires { ⌜ Plans plan (now variables) (now values) m (now members) (now words) (now supports) ⌝ }
-    ensures { λ a. ⌜ RepliesPlanned a plan (entry variables) (entry values) m (entry members) words supports ⌝ }
+    requires { ⌜ Plans plan (now variables) (now values) m (now members) (now words) (now supports) (now counts) ⌝ }
+    ensures { λ a. ⌜ RepliesPlanned a plan (entry variables) (entry values) m (entry members) words supports counts ⌝ }
 {
     let fault = plan.fault;
     if fault != 0 {
@@ -69,6 +74,7 @@ fn make(
         m,
         words,
         supports,
+        counts,
         &removed,
     )
 }
@@ -82,19 +88,22 @@ pub fn filter(
     members: &[u16],
     words: &mut [u64],
     supports: &mut [u16],
+    counts: &mut [u16],
 ) -> Answer
-    ensures { λ a. ⌜ Replies a (instanceOf shape (entry variables) (entry values) m (entry members)) words supports filter ⌝ }
+    ensures { λ a. ⌜ Replies a (instanceOf shape (entry variables) (entry values) m (entry members)) words supports counts filter ⌝ }
 {
-    let plan = plan_filter(
+    let opening = opened(
         shape,
         variables,
         values,
         m,
         members,
-        words.len(),
+        words,
         supports.len(),
+        counts,
     );
-    make(variables, values, m, members, words, supports, plan)
+    let plan = plan_filter(opening);
+    make(variables, values, m, members, words, supports, counts, plan)
 }
 
 // Withdraws the tuples listed, live or dead, and filters what then lives.
@@ -106,21 +115,23 @@ pub fn withdraw(
     members: &[u16],
     words: &mut [u64],
     supports: &mut [u16],
+    counts: &mut [u16],
     ids: &[u16],
 ) -> Answer
-    ensures { λ a. ⌜ Replies a (instanceOf shape (entry variables) (entry values) m (entry members)) words supports (withdraw (entry ids)) ⌝ }
+    ensures { λ a. ⌜ Replies a (instanceOf shape (entry variables) (entry values) m (entry members)) words supports counts (withdraw (entry ids)) ⌝ }
 {
-    let plan = plan_withdraw(
+    let opening = opened(
         shape,
         variables,
         values,
         m,
         members,
-        words.len(),
+        words,
         supports.len(),
-        listed(ids),
+        counts,
     );
-    make(variables, values, m, members, words, supports, plan)
+    let plan = plan_withdraw(opening, listed(ids));
+    make(variables, values, m, members, words, supports, counts, plan)
 }
 
 // Withdraws every tuple that has another value than v under variable x, and filters what then lives.
@@ -132,21 +143,22 @@ pub fn choose(
     members: &[u16],
     words: &mut [u64],
     supports: &mut [u16],
+    counts: &mut [u16],
     x: u16,
     v: Value,
 ) -> Answer
-    ensures { λ a. ⌜ Replies a (instanceOf shape (entry variables) (entry values) m (entry members)) words supports (choose x v) ⌝ }
+    ensures { λ a. ⌜ Replies a (instanceOf shape (entry variables) (entry values) m (entry members)) words supports counts (choose x v) ⌝ }
 {
-    let plan = plan_choose(
+    let opening = opened(
         shape,
         variables,
         values,
         m,
         members,
-        words.len(),
+        words,
         supports.len(),
-        x,
-        v,
+        counts,
     );
-    make(variables, values, m, members, words, supports, plan)
+    let plan = plan_choose(opening, variables, values, x, v);
+    make(variables, values, m, members, words, supports, counts, plan)
 }

@@ -4,6 +4,7 @@ ghost use mathlib.Core.Option.{none, some};
 ghost use mathlib.Core.List.{_++_};
 ghost use Prim.Native.Nat.{_≤_};
 ghost use lib.ListN.{length, take, drop};
+ghost use Rattle.model.specs.Limits.{maxRelations};
 ghost use Rattle.model.specs.Text.{textOf};
 ghost use Rattle.model.specs.Listing.{linesFor, listing};
 ghost use Rattle.layout.specs.Loan.{entry, exit};
@@ -30,7 +31,7 @@ fn refused(out: &mut [u8; OUTPUT]) -> usize
     line(out, 0, &fields)
 }
 
-// Filters a network whose tuples are all live, and writes the reply; the number of bytes written.
+// Filters a network whose tuples are all live and counted, and writes the reply; the number of bytes written.
 fn filtered(
     shape: Shape,
     variables: &[u16],
@@ -39,10 +40,13 @@ fn filtered(
     members: &[u16],
     out: &mut [u8; OUTPUT],
 ) -> usize
+    requires { ⌜ shape .count ≤ maxRelations ⌝ }
     ensures { λ n. ⌜ Appended (textOf (linesFor (some (instanceOf shape (entry variables) (entry values) m (entry members))))) (entry out) 0 (exit out) n ⌝ }
 {
     let mut words = [u64::MAX; WORDS];
     let mut supports = [0u16; MAX_SUPPORT_NUMBERS];
+    let mut counts = shape.tuples;
+    let relations = shape.count;
     let answer = filter(
         shape,
         variables,
@@ -51,6 +55,7 @@ fn filtered(
         members,
         &mut words,
         &mut supports,
+        &mut counts[..relations],
     );
     print(shape, variables, values, answer, &words, out)
 }

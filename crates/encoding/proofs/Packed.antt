@@ -2,17 +2,17 @@
 -- From the laws of replies.
 use mathlib.Core.Logic.{⊎-elim}
 use mathlib.Core.Path.{_≡_, refl, ap, _∙_}
-use mathlib.Core.Bool.{Bool, true, false, cond}
+use mathlib.Core.Bool.{true, _&&_}
 use mathlib.Core.Option.{Option, none, some}
 use mathlib.Core.List.{List, [], _∷_}
-use Prim.Native.Nat.{ℕ, _+_, _*_, _/_, _%_, _≤_, _<_}
+use Prim.Native.Nat.{ℕ, zero, suc, _+_, _*_, _/_, _%_, _≤_, _<_}
 use native.Mathlib.Nat.{add-comm, mul-comm}
 use native.Mathlib.Decide.{decLt}
 use native.Mathlib.Omega.{arith}
-use borrow.Author.Tests.{ltb-true}
+use borrow.Author.Tests.{leb-true, eqb-true}
 use lib.Arith.{digits-mod}
-use lib.Dec.{ltb}
-use lib.ListN.{length}
+use lib.Dec.{leb, eqb}
+use lib.ListN.{length, getD}
 use Rattle.model.specs.declared.Counts.{Counts}
 use Rattle.model.specs.declared.Verdict.{Verdict}
 use Rattle.model.specs.declared.Verdict.the-variants.{No, Yes}
@@ -21,18 +21,19 @@ use Rattle.model.specs.declared.Comparison.{Comparison}
 use Rattle.model.specs.declared.Comparison.the-variants.{Differ, Agree}
 use Rattle.model.specs.declared.Comparison.the-variants as comparison
 use Rattle.model.specs.Limits.{maxRelations}
-use Rattle.model.specs.Lists.{all, isNone}
+use Rattle.model.specs.Lists.{sum, isNone}
 use Rattle.model.specs.TupleSet.{TupleSet}
 use Rattle.model.specs.Network.{Network, total}
 use Rattle.model.specs.LiveWords.{living}
-use Rattle.model.specs.Request.{Change, filter, withdraw, choose, Request}
-use Rattle.model.specs.Fault.{Fault, firstFault, refusal, changeFaults, faultsOn, faults, accepts}
+use Rattle.model.specs.Request.{Request}
+use Rattle.model.specs.Fault.{published, firstFault, untrue, faults, accepts}
 use Rattle.model.specs.Reply.{Numbers, Reply, answerNumbers, verdictNumbers, comparisonNumbers, lowestEmpty, answerFor, remainder, countsFor, leaving, accepted, replyTo, reply}
-use Rattle.model.proofs.Bools.{and-left, and-right}
+use Rattle.model.proofs.Bools.{and-right, or-cases}
 use Rattle.model.proofs.TupleSet.{count-length}
 use Rattle.model.proofs.LiveWords.{living-length}
-use Rattle.model.proofs.Fault.{faultless, accepts-network}
+use Rattle.model.proofs.Fault.{faultless, accepts-network, refusal-within}
 use Rattle.model.proofs.Reply.{answer-emptied, answer-settled, answerFor-kind, leaving-sum}
+use Rattle.model.proofs.Mission.{filtering}
 use Rattle.encoding.specs.Packed.{packedCounts, packed, unpacked, packedPair, pairIn}
 
 -- The numbers fit their bits.
@@ -82,20 +83,16 @@ comparison-back (comparison.Refused f) = pair-back (2, f) (omega arith)
 
 -- ---- The numbers of a reply
 
-refusal-below : (b : ℕ) → 0 < b → (fs : List Fault) → all (λ (f : Fault). ltb (f .0) b) fs ≡ true → refusal (firstFault fs) < b
-refusal-below b pos [] h = pos
-refusal-below b pos (f ∷ fs) h =
-    either (f .1) (firstFault fs) (ltb-true (f .0) b (and-left (ltb (f .0) b) (all (λ (g : Fault). ltb (g .0) b) fs) h))
-    (refusal-below b pos fs (and-right (ltb (f .0) b) (all (λ (g : Fault). ltb (g .0) b) fs) h))
-  where
-    either : (x : Bool) (o : Option ℕ) {k : ℕ} → k < b → refusal o < b → refusal (cond x (some k) o) < b
-    either true o here later = here
-    either false o here later = later
+at-most-sum : (xs : List ℕ) (i : ℕ) → getD xs i 0 ≤ sum xs
+at-most-sum [] i = omega arith
+at-most-sum (x ∷ xs) zero = omega arith
+at-most-sum (x ∷ xs) (suc i) = omega (arith, at-most-sum xs i)
 
-change-numbers : (N : Network) (change : Change) → all (λ (f : Fault). ltb (f .0) 15) (changeFaults N change) ≡ true
-change-numbers N filter = refl
-change-numbers N (withdraw ids) = refl
-change-numbers N (choose x v) = refl
+-- a refusal number fits its byte
+published-small : (n : ℕ) → published n ≡ true → n < 256
+published-small n h =
+    ⊎-elim (λ low. omega (arith, leb-true n 14 (and-right (leb 2 n) (leb n 14) low))) (λ e. omega (arith, eqb-true n 18 e))
+    (or-cases (leb 2 n && leb n 14) (eqb n 18) h)
 
 -- an answer's subject is 64 or a relation's number
 pub answer-subject : (N : Network) (L : TupleSet) (k : Counts) → length (N .relations) ≤ maxRelations → Dec (lowestEmpty N L < length (N .relations)) → answerNumbers (answerFor N L k) .subject < 256
@@ -103,14 +100,11 @@ answer-subject N L k few (yes h) = omega (arith, h, few, ap (λ a. answerNumbers
 answer-subject N L k few (no d) = omega (arith, ap (λ a. answerNumbers a .subject) (answer-settled N L k (omega arith)))
 
 module _ (q : Request) where
-  fault-numbers : refusal (firstFault (faults q)) < 15
-  unfolding faults faultsOn
-  fault-numbers = refusal-below 15 (omega arith) (faults q) (change-numbers (q .given .network) (q .change))
-
   fits-of : (o : Option ℕ) → firstFault (faults q) ≡ o → Fits (replyTo o q .answer)
-  unfolding accepted leaving accepts
+  unfolding accepted leaving accepts faults
   fits-of (some f) e =
-      record { kind = omega arith; subject = omega (arith, ap refusal e, fault-numbers); left = omega arith; withdrawn = omega arith; deleted = omega arith }
+      let small = published-small f (refusal-within (q .given) (length (q .words)) (length (q .supports)) (untrue (q .given .network) (q .words) (q .counts)) (q .change) f e) in
+      record { kind = omega arith; subject = small; left = omega arith; withdrawn = omega arith; deleted = omega arith }
   fits-of none e =
       let I = q .given in
       let S = living (total (I .network)) (q .words) in
@@ -139,3 +133,7 @@ module _ (q : Request) where
 
   pub replied-subject : (r : Reply) → r ≡ reply q → r .answer .subject < 256
   replied-subject r e = omega (arith, ap (λ (s : Reply). s .answer .subject) e, reply-fits .subject)
+
+  -- the live counts of an accepted call fit their 16 bits: each is at most the tuples left
+  pub reply-counts-below : accepts q ≡ true → (i : ℕ) → getD (reply q .counts) i 0 < 65536
+  reply-counts-below e i = omega (arith, at-most-sum (reply q .counts) i, filtering q e .counted .together, reply-fits .left)

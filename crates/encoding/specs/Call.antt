@@ -10,7 +10,7 @@ use Rattle.model.specs.Fault.{accepts}
 use Rattle.model.specs.Reply.{reply, testReply, compareReply}
 use Rattle.layout.specs.Loan.{Loan, exit}
 use Rattle.wire.specs.Entries.{entries16, entries64}
-use Rattle.encoding.specs.Records.{records}
+use Rattle.encoding.specs.Records.{records, countsIn}
 use Rattle.encoding.specs.Whole.{whole, wholeNetwork, wholeInstance, wholeChange}
 use Rattle.encoding.specs.Packed.{packedPair, Outcome, outcome, replyBytes}
 
@@ -82,6 +82,7 @@ decoded q =
       given = byteInstance (q .book);
       words = entries64 (q .marks);
       supports = entries16 (q .supports);
+      counts = countsIn (q .book .sheets);
       change = decodedChange (q .change);
     }
 
@@ -93,15 +94,16 @@ acceptsBytes q = isWhole q && accepts (decoded q)
 -- every byte as lent.
 unfoldable pub byteReply : ByteRequest → Outcome
 byteReply q =
-    cond (isWhole q) (replyBytes (reply (decoded q)) (q .marks) (q .supports)) (outcome notWhole (q .marks) (q .supports))
+    let sheets = q .book .sheets in
+    cond (isWhole q) (replyBytes (reply (decoded q)) sheets (q .marks) (q .supports)) (outcome notWhole sheets (q .marks) (q .supports))
 
 -- A change call keeps its contract.
 abbrev pub KeepsBytes : ByteRequest → Outcome → Type 0
 KeepsBytes q o = o ≡ byteReply q
 
 -- the answer of a change call, and the bytes that it leaves
-abbrev pub left : ℕ → Loan → Loan → Outcome
-left answer marks supports = outcome answer (exit marks) (exit supports)
+abbrev pub left : ℕ → Loan → Loan → Loan → Outcome
+left answer sheets marks supports = outcome answer (exit sheets) (exit marks) (exit supports)
 
 -- ---- Test and compare
 

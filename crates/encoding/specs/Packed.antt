@@ -5,6 +5,7 @@ use Prim.Native.Nat.{ℕ, _+_, _*_, _/_, _%_}
 use lib.Dec.{eqb}
 use Rattle.model.specs.Reply.{Numbers, Reply}
 use Rattle.wire.specs.Entries.{bytes}
+use Rattle.encoding.specs.Records.{withCounts}
 
 -- ---- Answers as one number
 
@@ -27,9 +28,9 @@ unpacked n =
       deleted = n / 281474976710656 % 65536;
     }
 
--- what a packed answer says, with the live words and the support list at the end
-abbrev pub repliedIn : ℕ → List ℕ → List ℕ → Reply
-repliedIn n words supports = record { answer = unpacked n; words = words; supports = supports }
+-- what a packed answer says, with the live words, the support list and the live counts at the end
+abbrev pub repliedIn : ℕ → List ℕ → List ℕ → List ℕ → Reply
+repliedIn n words supports counts = record { answer = unpacked n; words = words; supports = supports; counts = counts }
 
 -- of test and compare: bits 0 to 7 the answer, 8 to 15 the refusal number, or the variable that compare names
 abbrev pub packedPair : ℕ × ℕ → ℕ
@@ -41,19 +42,21 @@ pairIn n = (n % 256, n / 256)
 
 -- ---- .. and the bytes lent
 
--- The packed answer of a change call, and the bytes of the live words and of the support numbers at its end.
+-- The packed answer of a change call, and the bytes of the records, of the live words and of the support numbers at its end.
 pub record Outcome : Type 0 where
   pub answer : ℕ
+  pub sheets : List ℕ
   pub marks : List ℕ
   pub supports : List ℕ
 
-abbrev pub outcome : ℕ → List ℕ → List ℕ → Outcome
-outcome answer marks supports = record { answer = answer; marks = marks; supports = supports }
+abbrev pub outcome : ℕ → List ℕ → List ℕ → List ℕ → Outcome
+outcome answer sheets marks supports = record { answer = answer; sheets = sheets; marks = marks; supports = supports }
 
--- a reply, its words and its numbers as bytes
-abbrev pub encoded : Reply → Outcome
-encoded r = outcome (packed (r .answer)) (bytes 8 (r .words)) (bytes 2 (r .supports))
+-- a reply: its counts in the records lent, its words and its numbers as bytes
+abbrev pub encoded : Reply → List ℕ → Outcome
+encoded r sheets = outcome (packed (r .answer)) (withCounts sheets (r .counts)) (bytes 8 (r .words)) (bytes 2 (r .supports))
 
 -- the bytes that a call leaves: those of its reply, or those lent where it is refused
-unfoldable pub replyBytes : Reply → List ℕ → List ℕ → Outcome
-replyBytes r marks supports = cond (eqb (r .answer .kind) 2) (outcome (packed (r .answer)) marks supports) (encoded r)
+unfoldable pub replyBytes : Reply → List ℕ → List ℕ → List ℕ → Outcome
+replyBytes r sheets marks supports =
+    cond (eqb (r .answer .kind) 2) (outcome (packed (r .answer)) sheets marks supports) (encoded r sheets)

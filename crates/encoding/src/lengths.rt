@@ -1,4 +1,4 @@
-// Tests that lists of bytes are cut between entries. A relation record takes four bytes, a 16-bit entry two, a live word eight.
+// Tests that lists of bytes are cut between entries. A relation record takes six bytes, a 16-bit entry two, a live word eight.
 ghost use mathlib.Core.Path.{_≡_};
 ghost use Rattle.encoding.specs.Whole.{wholeNetwork, wholeInstance, wholeChange};
 
@@ -6,7 +6,7 @@ ghost use Rattle.encoding.specs.Whole.{wholeNetwork, wholeInstance, whol
 pub fn network_whole(sheets: usize, questions: usize, codes: usize) -> bool
     ensures { λ b. ⌜ b ≡ wholeNetwork sheets questions codes ⌝ }
 {
-    if sheets % 4 != 0 {
+    if sheets % 6 != 0 {
         return false;
     }
     if questions % 2 != 0 {

@@ -6,7 +6,9 @@ use Prim.Native.Nat.{ℕ}
 use Rattle.model.specs.TupleSet.{TupleSet}
 use Rattle.model.specs.declared.Counts.{Counts}
 use Rattle.model.specs.Combination.{Combination}
+use Rattle.model.specs.LiveCounts.{liveCounts}
 use Rattle.model.specs.Consistency.{needed, supportStart}
+use Rattle.model.specs.Fault.{untrue}
 use Rattle.model.specs.Reply.{lowestEmpty, answerFor}
 use Rattle.layout.specs.Starts.{outline}
 use Rattle.layout.specs.Setting.{Lists, networkIn}
@@ -23,3 +25,11 @@ module _ (L : Lists) where
   pub answerFor-outline : (S : TupleSet) (k : Counts) → answerFor (outline (L .starts)) S k ≡ answerFor (networkIn L) S k
   unfolding answerFor lowestEmpty
   answerFor-outline S k = refl
+
+  pub counts-outline : (S : TupleSet) → liveCounts (outline (L .starts)) S ≡ liveCounts (networkIn L) S
+  unfolding liveCounts
+  counts-outline S = refl
+
+  pub untrue-outline : (ws counts : List ℕ) → untrue (outline (L .starts)) ws counts ≡ untrue (networkIn L) ws counts
+  unfolding untrue liveCounts
+  untrue-outline ws counts = refl

@@ -78,9 +78,9 @@ module _ (Rs : List Relation) where
       pub testReply-shapeOf : testReply (within (networkOf (shapeOf Rs) variables values)) words ≡ testReply (within (over variables values)) words
       testReply-shapeOf = testReply-alike (instance-alike shapeOf-alike m members) words
 
-      module _ (supports : List ℕ) (change : Change) where
+      module _ (supports counts : List ℕ) (change : Change) where
         abbrev request : Network → Request
-        request N = record { given = within N; words = words; supports = supports; change = change }
+        request N = record { given = within N; words = words; supports = supports; counts = counts; change = change }
 
         pub reply-shapeOf : reply (request (networkOf (shapeOf Rs) variables values)) ≡ reply (request (over variables values))
-        reply-shapeOf = reply-alike (instance-alike shapeOf-alike m members) words supports change
+        reply-shapeOf = reply-alike (instance-alike shapeOf-alike m members) words supports counts change

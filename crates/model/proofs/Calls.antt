@@ -1,60 +1,67 @@
 -- The strike rule: a list of calls leaves what one filtering leaves of the starting tuples without all that accepted calls
 -- removed. By induction over the list, from the laws of closure and of written words.
 use mathlib.Core.Path.{_≡_, refl, sym, _∙_, ap, subst, fun-ext}
-use mathlib.Core.Bool.{Bool, true, false, _&&_, _||_, cond, or-false, or-assoc, false≢true, true≢false}
+use mathlib.Core.Bool.{Bool, true, false, not, _&&_, _||_, cond, or-false, or-assoc, false≢true, true≢false}
 use mathlib.Core.Option.{Option, none, some}
 use mathlib.Core.Logic.{_⊎_, inl, inr, ⊎-elim}
 use mathlib.Core.List.{List, [], _∷_, List·Memᴰ, List·Memᴰ·tail, List·Memᴰ·cases-cons, List·Memᴰ·not-nil}
 use Prim.Native.Nat.{ℕ, _+_, _*_, _≤_}
 use native.Mathlib.Omega.{arith}
+use borrow.Author.Tests.{eq-eqb, eqb-true, not-false}
 use lib.ListN.{length}
-use Rattle.model.specs.Lists.{isNone}
 use Rattle.model.specs.declared.Counts.{Counts}
 use Rattle.model.specs.Limits.{wordBits}
 use Rattle.model.specs.TupleSet.{TupleSet, count, without}
 use Rattle.model.specs.Network.{Network, total}
 use Rattle.model.specs.Combination.{Combination}
+use Rattle.model.specs.LiveCounts.{liveCounts}
 use Rattle.model.specs.Consistency.{filtered}
 use Rattle.model.specs.LiveWords.{living, written}
-use Rattle.model.specs.Request.{Change, Instance, combinationsOf, removes}
-use Rattle.model.specs.Fault.{firstFault, faultsOn, faults, accepts}
-use Rattle.model.specs.Reply.{Reply, remainder, countsFor, leaving, accepted, reply, Keeps}
-use Rattle.model.specs.Calls.{Call, lentWords, callRequest, sharedAfter, Proper, Made, callsOf, State, start, after, afterAll, AllKeep, make, makeAll, anyAccepted, removedBy, starting}
+use Rattle.model.specs.Request.{Change, Instance, combinationsOf, Request, removes}
+use Rattle.model.specs.Fault.{untrue, accepts}
+use Rattle.model.specs.Reply.{Reply, remainder, countsFor, leaving, accepted, refused, reply, Keeps}
+use Rattle.model.specs.Calls.{Marks, Call, lentMarks, marksIn, callRequest, sharedAfter, Proper, Made, isAccepted, State, start, after, afterAll, AllKeep, anyAccepted, removedBy, starting}
 use Rattle.model.proofs.Bools.{not-both, or-false-left, or-false-right}
 use Rattle.model.proofs.Lists.{here}
 use Rattle.model.proofs.TupleSet.{without-without, without-length}
 use Rattle.model.proofs.Consistency.{filtered-length, filtered-without}
 use Rattle.model.proofs.LiveWords.{living-written, living-length, written-length}
-use Rattle.model.proofs.Fault.{accepts-words}
-use Rattle.model.proofs.Reply.{reply-accepted, reply-refused, leaving-sum, leaving-left, leaving-written}
+use Rattle.model.proofs.Fault.{accepts-words, accepts-true}
+use Rattle.model.proofs.Reply.{reply-accepted, reply-refused, refused-not, leaving-sum, leaving-left, leaving-written}
 
--- ---- Refused calls change nothing
+-- ---- Accepted and refused
 
-pub shared-lent : (o : Option (List ℕ)) (ws : List ℕ) → sharedAfter o ws (lentWords o ws) ≡ ws
-shared-lent none ws = refl
-shared-lent (some own) ws = refl
+-- a call that keeps its contract was accepted exactly if its request is
+accepted-accepts : (q : Request) (k : Call) (p : Reply) → Keeps q p → isAccepted (k, p) ≡ true → accepts q ≡ true
+accepted-accepts q k p keep a = go (accepts q) refl
+  where
+    go : (b : Bool) → accepts q ≡ b → accepts q ≡ true
+    go true e = e
+    go false e = absurd (not-both a (ap not (eq-eqb _ 2 (ap (λ (p : Reply). (p .answer) .kind) (keep ∙ reply-refused q e .1)))))
 
-make-refused : (st : State) (c : Call) → accepts (callRequest (st .words) c) ≡ false → make st c ≡ st
-unfolding make
-make-refused st c e =
-    let q = callRequest (st .words) c in
-    let r = reply-refused q e .1 in
-    let words : sharedAfter (c .own) (st .words) ((reply q) .words) ≡ st .words = ap (λ (p : Reply). sharedAfter (c .own) (st .words) (p .words)) r ∙ shared-lent (c .own) (st .words) in
-    let gone : st .gone + (((reply q) .answer) .withdrawn + ((reply q) .answer) .deleted) ≡ st .gone = omega (arith, ap (λ (p : Reply). (p .answer) .withdrawn) r, ap (λ (p : Reply). (p .answer) .deleted) r) in
-    λ i. record { words = words i; gone = gone i; last = ap {B = Option (Call × Reply)} (λ x. cond x (some (c, reply q)) (st .last)) e i }
+-- a refused one leaves what it was lent
+refused-leaves : (q : Request) (k : Call) (p : Reply) → Keeps q p → isAccepted (k, p) ≡ false → (n : ℕ) × (p ≡ refused n q)
+refused-leaves q k p keep a = go (accepts q) refl
+  where
+    go : (b : Bool) → accepts q ≡ b → (n : ℕ) × (p ≡ refused n q)
+    go true e = absurd (refused-not q (sym (ap (λ (p : Reply). (p .answer) .kind) keep) ∙ eqb-true _ 2 (not-false _ a)) e)
+    go false e = let r = reply-refused q e in (r .0, keep ∙ r .1)
 
--- ---- Acceptance depends on how many words there are, and not on what they hold
+pub shared-lent : (o : Option Marks) (s : Marks) → sharedAfter o s (lentMarks o s) ≡ s
+shared-lent none s = refl
+shared-lent (some own) s = refl
 
-lent-length : (o : Option (List ℕ)) (vs ws : List ℕ) → length vs ≡ length ws → length (lentWords o vs) ≡ length (lentWords o ws)
-lent-length none vs ws e = e
-lent-length (some own) vs ws e = refl
+after-refused : (st : State) (c : Made) → Keeps (callRequest (st .marks) (c .0)) (c .1) → isAccepted c ≡ false → after st c ≡ st
+after-refused st c keep e =
+    let r = refused-leaves (callRequest (st .marks) (c .0)) (c .0) (c .1) keep e .1 in
+    let marks : sharedAfter ((c .0) .own) (st .marks) (marksIn (c .1)) ≡ st .marks = ap (λ (p : Reply). sharedAfter ((c .0) .own) (st .marks) (marksIn p)) r ∙ shared-lent ((c .0) .own) (st .marks) in
+    let gone : st .gone + (((c .1) .answer) .withdrawn + ((c .1) .answer) .deleted) ≡ st .gone = omega (arith, ap (λ (p : Reply). (p .answer) .withdrawn) r, ap (λ (p : Reply). (p .answer) .deleted) r) in
+    λ i. record { marks = marks i; gone = gone i; last = ap {B = Option Made} (λ x. cond x (some c) (st .last)) e i }
 
-accepts-length : (vs ws : List ℕ) (c : Call) → length vs ≡ length ws → accepts (callRequest vs c) ≡ accepts (callRequest ws c)
-unfolding accepts faults
-accepts-length vs ws c e =
-    ap (λ (n : ℕ). isNone (firstFault (faultsOn (c .given) n (length (c .supports)) (c .change)))) (lent-length (c .own) vs ws e)
+module _ (I : Instance) (s : Marks) where
+  abbrev ws : List ℕ
+  ws = s .words
 
-module _ (I : Instance) (ws : List ℕ) where
   abbrev N : Network
   N = I .network
 
@@ -82,74 +89,78 @@ module _ (I : Instance) (ws : List ℕ) where
   shared-call : (c : Call) → c .given ≡ I → c .own ≡ none → shared (c .supports) (c .change) ≡ c
   shared-call c e f = λ i. record { given = sym e i; own = sym f i; supports = c .supports; change = c .change }
 
+  -- the marks with what is left without t
+  abbrev leaves : (ℕ → Bool) → Marks
+  leaves t = record { words = written (total N) (rest t) ws; counts = liveCounts N (rest t) }
+
   -- The state after accepted calls that removed the tuples of t.
   pub record After (t : ℕ → Bool) (st : State) : Type 0 where
-    pub words : st .words ≡ written (total N) (rest t) ws
+    pub marks : st .marks ≡ leaves t
     pub call : Call
     pub counts : Counts
     pub last : st .last ≡ some (call, leaving I (rest t) counts ws (call .supports))
     pub left : counts .left ≡ count (rest t)
     pub sum : st .gone + count (rest t) ≡ count (starting I ws)
     pub enough : total N ≤ wordBits * length ws
+    pub truth : untrue N ws (s .counts) ≡ false
 
   -- an accepted call that finds S live and leaves what is left without t
-  after-call : (t : ℕ → Bool) (st : State) (supports : List ℕ) (change : Change) (S : TupleSet) → accepts (callRequest ws (shared supports change)) ≡ true → accepts (callRequest (st .words) (shared supports change)) ≡ true → reply (callRequest (st .words) (shared supports change)) ≡ leaving I (rest t) (countsFor I change S) ws supports → remainder I change S ≡ rest t → st .gone + count S ≡ count (starting I ws) → After t (make st (shared supports change))
-  unfolding make leaving countsFor
-  after-call t st supports change S a b r l g =
+  after-call : (t : ℕ → Bool) (st : State) (supports : List ℕ) (change : Change) (p : Reply) (S : TupleSet) → isAccepted (shared supports change, p) ≡ true → p ≡ leaving I (rest t) (countsFor I change S) ws supports → remainder I change S ≡ rest t → st .gone + count S ≡ count (starting I ws) → total N ≤ wordBits * length ws → untrue N ws (s .counts) ≡ false → After t (after st (shared supports change, p))
+  unfolding leaving countsFor
+  after-call t st supports change p S a r l g enough truth =
       record {
-        words = ap (λ (p : Reply). p .words) r;
+        marks = ap marksIn r;
         call = shared supports change;
         counts = countsFor I change S;
-        last = ap {B = Option (Call × Reply)} (λ x. cond x (some (shared supports change, reply (callRequest (st .words) (shared supports change)))) (st .last)) b
-            ∙ ap {B = Option (Call × Reply)} (λ p. some (shared supports change, p)) r;
+        last = ap {B = Option Made} (λ x. cond x (some (shared supports change, p)) (st .last)) a ∙ ap {B = Option Made} (λ p. some (shared supports change, p)) r;
         left = ap count l;
         sum = omega (arith, ap (λ (p : Reply). (p .answer) .left) r, ap (λ (p : Reply). (p .answer) .withdrawn) r, ap (λ (p : Reply). (p .answer) .deleted) r, leaving-sum I change S (rest t) ws supports, leaving-left I (rest t) (countsFor I change S) ws supports, ap count l);
-        enough = accepts-words (callRequest ws (shared supports change)) a;
+        enough = enough;
+        truth = truth;
       }
 
-  after-first : (st : State) (supports : List ℕ) (change : Change) → st .words ≡ ws → st .gone ≡ 0 → accepts (callRequest ws (shared supports change)) ≡ true → After (removes N change) (make st (shared supports change))
+  after-first : (st : State) (supports : List ℕ) (change : Change) (p : Reply) → st .marks ≡ s → st .gone ≡ 0 → Keeps (callRequest (st .marks) (shared supports change)) p → isAccepted (shared supports change, p) ≡ true → After (removes N change) (after st (shared supports change, p))
   unfolding remainder accepted
-  after-first st supports change e z a =
-      let c = shared supports change in
-      after-call (removes N change) st supports change (starting I ws) a (ap (λ (v : List ℕ). accepts (callRequest v c)) e ∙ a)
-      (ap (λ (v : List ℕ). reply (callRequest v c)) e ∙ reply-accepted (callRequest ws c) a)
-      refl
-      (omega arith)
+  after-first st supports change p e z keep a =
+      let k = shared supports change in
+      let keeps : Keeps (callRequest s k) p = keep ∙ ap (λ (m : Marks). reply (callRequest m k)) e in
+      let accepts-it = accepted-accepts (callRequest s k) k p keeps a in
+      after-call (removes N change) st supports change p (starting I ws) a (keeps ∙ reply-accepted (callRequest s k) accepts-it) refl (omega arith)
+      (accepts-words (callRequest s k) accepts-it) (accepts-true (callRequest s k) accepts-it)
 
-  words-length : (t : ℕ → Bool) (st : State) → After t st → length (st .words) ≡ length ws
-  words-length t st after = ap length (after .words) ∙ written-length (total N) (rest t) ws
-
-  after-next : (t : ℕ → Bool) (st : State) (supports : List ℕ) (change : Change) → After t st → accepts (callRequest ws (shared supports change)) ≡ true → After (λ (g : ℕ). t g || removes N change g) (make st (shared supports change))
+  after-next : (t : ℕ → Bool) (st : State) (supports : List ℕ) (change : Change) (p : Reply) → After t st → Keeps (callRequest (st .marks) (shared supports change)) p → isAccepted (shared supports change, p) ≡ true → After (λ (g : ℕ). t g || removes N change g) (after st (shared supports change, p))
   unfolding accepted
-  after-next t st supports change after a =
-      let c = shared supports change in
+  after-next t st supports change p so-far keep a =
+      let k = shared supports change in
       let both : ℕ → Bool = λ g. t g || removes N change g in
-      let a′ = accepts-length (st .words) ws c (words-length t st after) ∙ a in
-      after-call both st supports change (rest t) a a′
-      (reply-accepted (callRequest (st .words) c) a′
-      ∙ ap (λ (v : List ℕ). leaving I (remainder I change (living (total N) v)) (countsFor I change (living (total N) v)) v supports) (after .words)
-      ∙ ap (λ (X : TupleSet). leaving I (remainder I change X) (countsFor I change X) (written (total N) (rest t) ws) supports) (living-written (total N) (rest t) ws (rest-length t) (accepts-words (callRequest ws c) a))
+      after-call both st supports change p (rest t) a
+      (keep
+      ∙ reply-accepted (callRequest (st .marks) k) (accepted-accepts (callRequest (st .marks) k) k p keep a)
+      ∙ ap (λ (m : Marks). leaving I (remainder I change (living (total N) (m .words))) (countsFor I change (living (total N) (m .words))) (m .words) supports) (so-far .marks)
+      ∙ ap (λ (X : TupleSet). leaving I (remainder I change X) (countsFor I change X) (written (total N) (rest t) ws) supports) (living-written (total N) (rest t) ws (rest-length t) (so-far .enough))
       ∙ ap (λ (L : TupleSet). leaving I L (countsFor I change (rest t)) (written (total N) (rest t) ws) supports) (remainder-rest t change)
       ∙ leaving-written I (rest both) (rest t) (countsFor I change (rest t)) ws supports)
       (remainder-rest t change)
-      (after .sum)
+      (so-far .sum)
+      (so-far .enough)
+      (so-far .truth)
 
   -- ---- The induction over the list
 
   -- an accepted call of a proper list is on the shared lists
-  on-shared : (c : Call) → accepts (callRequest ws c) ≡ true → ((c .given ≡ I) × (c .own ≡ none)) ⊎ (accepts (callRequest ws c) ≡ false) → shared (c .supports) (c .change) ≡ c
-  on-shared c a (inl e) = shared-call c (e .0) (e .1)
+  on-shared : (c : Made) → isAccepted c ≡ true → (((c .0) .given ≡ I) × ((c .0) .own ≡ none)) ⊎ (isAccepted c ≡ false) → shared ((c .0) .supports) ((c .0) .change) ≡ c .0
+  on-shared c a (inl e) = shared-call (c .0) (e .0) (e .1)
   on-shared c a (inr r) = absurd (not-both a r)
 
-  next-call : (t : ℕ → Bool) (st : State) (c : Call) → shared (c .supports) (c .change) ≡ c → After t st → accepts (callRequest ws c) ≡ true → After (λ (g : ℕ). t g || removes N (c .change) g) (make st c)
-  next-call t st c e after a =
-      subst (λ (d : Call). After (λ (g : ℕ). t g || removes N (c .change) g) (make st d)) e
-      (after-next t st (c .supports) (c .change) after (ap (λ (d : Call). accepts (callRequest ws d)) e ∙ a))
+  next-made : (t : ℕ → Bool) (st : State) (c : Made) → shared ((c .0) .supports) ((c .0) .change) ≡ c .0 → After t st → Keeps (callRequest (st .marks) (c .0)) (c .1) → isAccepted c ≡ true → After (λ (g : ℕ). t g || removes N ((c .0) .change) g) (after st c)
+  next-made t st c e so-far keep a =
+      subst (λ (d : Call). After (λ (g : ℕ). t g || removes N ((c .0) .change) g) (after st (d, c .1))) e
+      (after-next t st ((c .0) .supports) ((c .0) .change) (c .1) so-far (subst (λ (d : Call). Keeps (callRequest (st .marks) d) (c .1)) (sym e) keep) a)
 
-  first-call : (st : State) (c : Call) → shared (c .supports) (c .change) ≡ c → st .words ≡ ws → st .gone ≡ 0 → accepts (callRequest ws c) ≡ true → After (removes N (c .change)) (make st c)
-  first-call st c e w z a =
-      subst (λ (d : Call). After (removes N (c .change)) (make st d)) e
-      (after-first st (c .supports) (c .change) w z (ap (λ (d : Call). accepts (callRequest ws d)) e ∙ a))
+  first-made : (st : State) (c : Made) → shared ((c .0) .supports) ((c .0) .change) ≡ c .0 → st .marks ≡ s → st .gone ≡ 0 → Keeps (callRequest (st .marks) (c .0)) (c .1) → isAccepted c ≡ true → After (removes N ((c .0) .change)) (after st c)
+  first-made st c e w z keep a =
+      subst (λ (d : Call). After (removes N ((c .0) .change)) (after st (d, c .1))) e
+      (after-first st ((c .0) .supports) ((c .0) .change) (c .1) w z (subst (λ (d : Call). Keeps (callRequest (st .marks) d) (c .1)) (sym e) keep) a)
 
   removed-cons : (x s r : Bool) → x ≡ true → (s || r) ≡ (x && s || r)
   removed-cons true s r e = refl
@@ -160,89 +171,69 @@ module _ (I : Instance) (ws : List ℕ) where
   removed-skip false s r e = refl
 
   -- calls after some accepted call
-  Later : List Call → Type 0
-  Later calls = Proper I ws calls → (t : ℕ → Bool) (st : State) → After t st → After (λ (g : ℕ). t g || removedBy I ws calls g) (makeAll st calls)
+  Later : List Made → Type 0
+  Later made = Proper I made → (t : ℕ → Bool) (st : State) → After t st → AllKeep st made → After (λ (g : ℕ). t g || removedBy I made g) (afterAll st made)
 
-  later-cons : (c : Call) (calls : List Call) → Later calls → (x : Bool) → accepts (callRequest ws c) ≡ x → Later (c ∷ calls)
+  later-cons : (c : Made) (made : List Made) → Later made → (x : Bool) → isAccepted c ≡ x → Later (c ∷ made)
   unfolding Later removedBy
-  later-cons c calls f true e proper t st after =
-      subst (λ (v : ℕ → Bool). After v (makeAll (make st c) calls))
-      (fun-ext (λ g. or-assoc (t g) (removes N (c .change) g) (removedBy I ws calls g) ∙ ap (λ (x : Bool). t g || x) (removed-cons (accepts (callRequest ws c)) (removes N (c .change) g) (removedBy I ws calls g) e)))
-      (f (λ d m. proper d (List·Memᴰ·tail m)) (λ (g : ℕ). t g || removes N (c .change) g) (make st c) (next-call t st c (on-shared c e (proper c here)) after e))
-  later-cons c calls f false e proper t st after =
-      let a = accepts-length (st .words) ws c (words-length t st after) ∙ e in
-      subst (λ (v : ℕ → Bool). After v (makeAll (make st c) calls))
-      (fun-ext (λ g. ap (λ (x : Bool). t g || x) (removed-skip (accepts (callRequest ws c)) (removes N (c .change) g) (removedBy I ws calls g) e)))
-      (f (λ d m. proper d (List·Memᴰ·tail m)) t (make st c) (subst (After t) (sym (make-refused st c a)) after))
+  later-cons c made f true e proper t st so-far keep =
+      subst (λ (v : ℕ → Bool). After v (afterAll (after st c) made))
+      (fun-ext (λ g. or-assoc (t g) (removes N ((c .0) .change) g) (removedBy I made g) ∙ ap (λ (x : Bool). t g || x) (removed-cons (isAccepted c) (removes N ((c .0) .change) g) (removedBy I made g) e)))
+      (f (λ d m. proper d (List·Memᴰ·tail m)) (λ (g : ℕ). t g || removes N ((c .0) .change) g) (after st c) (next-made t st c (on-shared c e (proper c here)) so-far (keep .0) e) (keep .1))
+  later-cons c made f false e proper t st so-far keep =
+      subst (λ (v : ℕ → Bool). After v (afterAll (after st c) made))
+      (fun-ext (λ g. ap (λ (x : Bool). t g || x) (removed-skip (isAccepted c) (removes N ((c .0) .change) g) (removedBy I made g) e)))
+      (f (λ d m. proper d (List·Memᴰ·tail m)) t (after st c) (subst (After t) (sym (after-refused st c (keep .0) e)) so-far) (keep .1))
 
-  later-all : (calls : List Call) → Later calls
+  later-all : (made : List Made) → Later made
   unfolding Later removedBy
-  later-all [] = λ _ t st after. subst (λ (v : ℕ → Bool). After v st) (fun-ext (λ g. sym (or-false (t g)))) after
-  later-all (c ∷ calls) = later-cons c calls (later-all calls) (accepts (callRequest ws c)) refl
+  later-all [] = λ _ t st so-far _. subst (λ (v : ℕ → Bool). After v st) (fun-ext (λ g. sym (or-false (t g)))) so-far
+  later-all (c ∷ made) = later-cons c made (later-all made) (isAccepted c) refl
 
   -- calls of which the first accepted one is still to come
-  Sooner : List Call → Type 0
-  Sooner calls = Proper I ws calls → (st : State) → st .words ≡ ws → st .gone ≡ 0 → anyAccepted ws calls ≡ true → After (removedBy I ws calls) (makeAll st calls)
+  Sooner : List Made → Type 0
+  Sooner made = Proper I made → (st : State) → st .marks ≡ s → st .gone ≡ 0 → AllKeep st made → anyAccepted made ≡ true → After (removedBy I made) (afterAll st made)
 
-  sooner-cons : (c : Call) (calls : List Call) → Sooner calls → (x : Bool) → accepts (callRequest ws c) ≡ x → Sooner (c ∷ calls)
+  sooner-cons : (c : Made) (made : List Made) → Sooner made → (x : Bool) → isAccepted c ≡ x → Sooner (c ∷ made)
   unfolding Sooner Later removedBy anyAccepted
-  sooner-cons c calls f true e proper st w z h =
-      subst (λ (v : ℕ → Bool). After v (makeAll (make st c) calls))
-      (fun-ext (λ g. removed-cons (accepts (callRequest ws c)) (removes N (c .change) g) (removedBy I ws calls g) e))
-      (later-all calls (λ d m. proper d (List·Memᴰ·tail m)) (removes N (c .change)) (make st c) (first-call st c (on-shared c e (proper c here)) w z e))
-  sooner-cons c calls f false e proper st w z h =
-      let same = make-refused st c (ap (λ (v : List ℕ). accepts (callRequest v c)) w ∙ e) in
-      subst (λ (v : ℕ → Bool). After v (makeAll (make st c) calls))
-      (fun-ext (λ g. removed-skip (accepts (callRequest ws c)) (removes N (c .change) g) (removedBy I ws calls g) e))
-      (f (λ d m. proper d (List·Memᴰ·tail m)) (make st c) (ap (λ (s : State). s .words) same ∙ w) (ap (λ (s : State). s .gone) same ∙ z) (subst (λ (x : Bool). (x || anyAccepted ws calls) ≡ true) e h))
+  sooner-cons c made f true e proper st w z keep h =
+      subst (λ (v : ℕ → Bool). After v (afterAll (after st c) made))
+      (fun-ext (λ g. removed-cons (isAccepted c) (removes N ((c .0) .change) g) (removedBy I made g) e))
+      (later-all made (λ d m. proper d (List·Memᴰ·tail m)) (removes N ((c .0) .change)) (after st c) (first-made st c (on-shared c e (proper c here)) w z (keep .0) e) (keep .1))
+  sooner-cons c made f false e proper st w z keep h =
+      let same = after-refused st c (keep .0) e in
+      subst (λ (v : ℕ → Bool). After v (afterAll (after st c) made))
+      (fun-ext (λ g. removed-skip (isAccepted c) (removes N ((c .0) .change) g) (removedBy I made g) e))
+      (f (λ d m. proper d (List·Memᴰ·tail m)) (after st c) (ap (λ (s : State). s .marks) same ∙ w) (ap (λ (s : State). s .gone) same ∙ z) (keep .1) (subst (λ (x : Bool). (x || anyAccepted made) ≡ true) e h))
 
-  sooner-all : (calls : List Call) → Sooner calls
+  sooner-all : (made : List Made) → Sooner made
   unfolding Sooner anyAccepted
-  sooner-all [] = λ _ st w z h. absurd (false≢true h)
-  sooner-all (c ∷ calls) = sooner-cons c calls (sooner-all calls) (accepts (callRequest ws c)) refl
+  sooner-all [] = λ _ st w z _ h. absurd (false≢true h)
+  sooner-all (c ∷ made) = sooner-cons c made (sooner-all made) (isAccepted c) refl
 
-  pub makeAll-accepted : (calls : List Call) → Proper I ws calls → anyAccepted ws calls ≡ true → After (removedBy I ws calls) (makeAll (start ws) calls)
+  -- a list with an accepted call
+  pub all-accepted : (made : List Made) → Proper I made → AllKeep (start s) made → anyAccepted made ≡ true → After (removedBy I made) (afterAll (start s) made)
   unfolding Sooner
-  makeAll-accepted calls proper h = sooner-all calls proper (start ws) refl refl h
+  all-accepted made proper keep h = sooner-all made proper (start s) refl refl keep h
 
-none-cons : (ws : List ℕ) (c : Call) (calls : List Call) → ((st : State) → st .words ≡ ws → anyAccepted ws calls ≡ false → makeAll st calls ≡ st) → (x : Bool) → accepts (callRequest ws c) ≡ x → (st : State) → st .words ≡ ws → (x || anyAccepted ws calls) ≡ false → makeAll (make st c) calls ≡ st
-none-cons ws c calls f true e st w h = absurd (true≢false h)
-none-cons ws c calls f false e st w h =
-    ap (λ (s : State). makeAll s calls) (make-refused st c (ap (λ (v : List ℕ). accepts (callRequest v c)) w ∙ e)) ∙ f st w h
+-- ---- A list with no accepted call changes nothing
 
-makeAll-still : (ws : List ℕ) (calls : List Call) (st : State) → st .words ≡ ws → anyAccepted ws calls ≡ false → makeAll st calls ≡ st
+pub all-refused : (st : State) (made : List Made) → AllKeep st made → anyAccepted made ≡ false → afterAll st made ≡ st
 unfolding anyAccepted
-makeAll-still ws [] st w h = refl
-makeAll-still ws (c ∷ calls) st w h = none-cons ws c calls (makeAll-still ws calls) (accepts (callRequest ws c)) refl st w h
+all-refused st [] keep h = refl
+all-refused st (c ∷ made) keep h =
+    let same = after-refused st c (keep .0) (or-false-left (isAccepted c) (anyAccepted made) h) in
+    all-refused (after st c) made (keep .1) (or-false-right (isAccepted c) (anyAccepted made) h) ∙ same
 
--- a list with no accepted call changes nothing
-pub makeAll-none : (ws : List ℕ) (calls : List Call) → anyAccepted ws calls ≡ false → makeAll (start ws) calls ≡ start ws
-makeAll-none ws calls h = makeAll-still ws calls (start ws) refl h
-
--- ---- Calls that keep their contracts
-
--- they leave what the definition leaves
-pub afterAll-makeAll : (st : State) (made : List Made) → AllKeep st made → afterAll st made ≡ makeAll st (callsOf made)
-unfolding make
-afterAll-makeAll st [] keep = refl
-afterAll-makeAll st (c ∷ made) keep =
-    afterAll-makeAll (after st c) made (keep .1)
-    ∙ ap (λ (p : Reply). makeAll (after st (c .0, p)) (callsOf made)) (keep .0)
-
--- a refused call leaves the words and the supports lent to it
-kept : (ws : List ℕ) (st : State) (c : Made) → st .words ≡ ws → Keeps (callRequest (st .words) (c .0)) (c .1) → accepts (callRequest ws (c .0)) ≡ false → ((c .1) .words ≡ lentWords ((c .0) .own) ws) × ((c .1) .supports ≡ (c .0) .supports)
-kept ws st c w keep e =
-    let r = keep ∙ ap (λ (v : List ℕ). reply (callRequest v (c .0))) w ∙ reply-refused (callRequest ws (c .0)) e .1 in
-    (ap (λ (p : Reply). p .words) r, ap (λ (p : Reply). p .supports) r)
-
--- .. and so does every call of a list with none that is accepted
-pub lists-kept : (ws : List ℕ) (st : State) (made : List Made) → st .words ≡ ws → AllKeep st made → anyAccepted ws (callsOf made) ≡ false → (c : Made) → List·Memᴰ c made → ((c .1) .words ≡ lentWords ((c .0) .own) ws) × ((c .1) .supports ≡ (c .0) .supports)
+-- .. and each call leaves the lists lent to it
+pub lists-kept : (s : Marks) (st : State) (made : List Made) → st .marks ≡ s → AllKeep st made → anyAccepted made ≡ false → (c : Made) → List·Memᴰ c made → (marksIn (c .1) ≡ lentMarks ((c .0) .own) s) × ((c .1) .supports ≡ (c .0) .supports)
 unfolding anyAccepted
-lists-kept ws st [] w keep h c m = absurd (List·Memᴰ·not-nil m)
-lists-kept ws st (d ∷ made) w keep h c m =
-    let this = kept ws st d w (keep .0) (or-false-left (accepts (callRequest ws (d .0))) (anyAccepted ws (callsOf made)) h) in
-    let still = ap (sharedAfter ((d .0) .own) (st .words)) (this .0) ∙ ap (λ (v : List ℕ). sharedAfter ((d .0) .own) v (lentWords ((d .0) .own) ws)) w ∙ shared-lent ((d .0) .own) ws in
+lists-kept s st [] w keep h c m = absurd (List·Memᴰ·not-nil m)
+lists-kept s st (d ∷ made) w keep h c m =
+    let refused-it = or-false-left (isAccepted d) (anyAccepted made) h in
+    let r = refused-leaves (callRequest (st .marks) (d .0)) (d .0) (d .1) (keep .0) refused-it .1 in
+    let this : (marksIn (d .1) ≡ lentMarks ((d .0) .own) s) × ((d .1) .supports ≡ (d .0) .supports) = (ap marksIn r ∙ ap (lentMarks ((d .0) .own)) w, ap (λ (p : Reply). p .supports) r) in
     ⊎-elim
-    (λ e. subst (λ (x : Made). ((x .1) .words ≡ lentWords ((x .0) .own) ws) × ((x .1) .supports ≡ (x .0) .supports)) (sym e) this)
-    (λ n. lists-kept ws (after st d) made still (keep .1) (or-false-right (accepts (callRequest ws (d .0))) (anyAccepted ws (callsOf made)) h) c n)
+    (λ e. subst (λ (x : Made). (marksIn (x .1) ≡ lentMarks ((x .0) .own) s) × ((x .1) .supports ≡ (x .0) .supports)) (sym e) this)
+    (λ n. lists-kept s (after st d) made (ap (λ (s : State). s .marks) (after-refused st d (keep .0) refused-it) ∙ w) (keep .1) (or-false-right (isAccepted d) (anyAccepted made) h) c n)
     (List·Memᴰ·cases-cons m)

@@ -22,10 +22,11 @@ use Rattle.model.specs.Network.{Network, total, variablesIn, tuplesIn, v
 use Rattle.model.specs.Agreement.{firstClash}
 use Rattle.model.specs.Combination.{Combination, connected}
 use Rattle.model.specs.Support.{candidates, isSupport, supports, firstSupport}
+use Rattle.model.specs.LiveCounts.{liveCounts}
 use Rattle.model.specs.Consistency.{isConsistent, supportList, needed}
 use Rattle.model.specs.LiveWords.{living, written}
 use Rattle.model.specs.Request.{Change, Instance, combinationsOf, Request}
-use Rattle.model.specs.Fault.{Fault, firstFault, within, properWidth, properScope, properLengths, properList, properMembers, networkFaults, combinationFaults, instanceFaults, wordsFault, supportsFault, changeFaults, idsFault, faultsOn, faults, testFaults, compareFaults, accepts}
+use Rattle.model.specs.Fault.{Fault, firstFault, within, properWidth, properScope, properLengths, properList, properMembers, networkFaults, combinationFaults, instanceFaults, wordsFault, supportsFault, changeFaults, idsFault, untrue, listFaults, faultsOn, faults, testFaults, compareFaults, accepts}
 use Rattle.model.specs.Reply.{answerNumbers, verdictNumbers, verdictFor, comparisonNumbers, comparisonFor, answerFor, remainder, leaving, accepted, refused, replyTo, reply, testReply, compareReply, request}
 use Rattle.model.specs.Edges.{maxVariables, maxValues, maxMemberList, cutNetwork, cutInstance, restored}
 use Rattle.model.proofs.Bools.{and-left, and-right, false-intro}
@@ -44,12 +45,12 @@ pub data Alike {A : Type 0} (tests : A → List Fault) (x y : A) : Type 0 where
   faulty : (f : ℕ) → firstFault (tests x) ≡ some f → firstFault (tests y) ≡ some f → Alike tests x y
 
 module _ (I : Instance) (f : ℕ) (e : firstFault (instanceFaults I) ≡ some f) where
-  reply-faulty : (ws ss : List ℕ) (change : Change) → reply (request I ws ss change) ≡ refused f (request I ws ss change)
-  unfolding reply faults faultsOn
-  reply-faulty ws ss change =
-      ap (λ (o : Option ℕ). replyTo o (request I ws ss change))
+  reply-faulty : (ws ss cs : List ℕ) (change : Change) → reply (request I ws ss cs change) ≡ refused f (request I ws ss cs change)
+  unfolding reply faults faultsOn listFaults
+  reply-faulty ws ss cs change =
+      ap (λ (o : Option ℕ). replyTo o (request I ws ss cs change))
       (firstFault-append-some (instanceFaults I)
-      (wordsFault (I .network) (length ws) ∷ supportsFault I (length ss) ∷ changeFaults (I .network) change) f e)
+      (wordsFault (I .network) (length ws) ∷ supportsFault I (length ss) ∷ (18, untrue (I .network) ws cs) ∷ changeFaults (I .network) change) f e)
 
   testReply-faulty : (ws : List ℕ) → testReply I ws ≡ (2, f)
   unfolding testReply testFaults
@@ -64,9 +65,9 @@ compareReply-faulty N f e g h =
     (firstFault-append-some (networkFaults N) (idsFault N (g ∷ h ∷ []) ∷ []) f e)
 
 module _ {I J : Instance} where
-  pub reply-alike : Alike instanceFaults I J → (ws ss : List ℕ) (change : Change) → reply (request I ws ss change) ≡ reply (request J ws ss change)
-  reply-alike (same e) ws ss change = ap (λ (K : Instance). reply (request K ws ss change)) e
-  reply-alike (faulty f e d) ws ss change = reply-faulty I f e ws ss change ∙ sym (reply-faulty J f d ws ss change)
+  pub reply-alike : Alike instanceFaults I J → (ws ss cs : List ℕ) (change : Change) → reply (request I ws ss cs change) ≡ reply (request J ws ss cs change)
+  reply-alike (same e) ws ss cs change = ap (λ (K : Instance). reply (request K ws ss cs change)) e
+  reply-alike (faulty f e d) ws ss cs change = reply-faulty I f e ws ss cs change ∙ sym (reply-faulty J f d ws ss cs change)
 
   pub testReply-alike : Alike instanceFaults I J → (ws : List ℕ) → testReply I ws ≡ testReply J ws
   testReply-alike (same e) ws = ap (λ (K : Instance). testReply K ws) e
@@ -226,8 +227,8 @@ module _ (I : Instance) where
   cut-then : Alike instanceFaults (instance (cutNetwork N) (I .m) (I .members)) (cutInstance I)
   cut-then = members-alike (cutNetwork N) (I .m) (I .members) (decLt maxMemberList (length (I .members)))
 
-  pub reply-cut : (ws ss : List ℕ) (change : Change) → reply (request I ws ss change) ≡ reply (request (cutInstance I) ws ss change)
-  reply-cut ws ss change = reply-alike cut-first ws ss change ∙ reply-alike cut-then ws ss change
+  pub reply-cut : (ws ss cs : List ℕ) (change : Change) → reply (request I ws ss cs change) ≡ reply (request (cutInstance I) ws ss cs change)
+  reply-cut ws ss cs change = reply-alike cut-first ws ss cs change ∙ reply-alike cut-then ws ss cs change
 
   pub testReply-cut : (ws : List ℕ) → testReply I ws ≡ testReply (cutInstance I) ws
   testReply-cut ws = testReply-alike cut-first ws ∙ testReply-alike cut-then ws
@@ -249,6 +250,7 @@ leaving-needed I L k words ws ss zs small enough long =
       answer = answerNumbers (answerFor (I .network) L k);
       words = written-take (total (I .network)) words L ws small enough i;
       supports = numbers i;
+      counts = liveCounts (I .network) L;
     }
 
 -- ---- Lengths never change

@@ -21,7 +21,7 @@ use Rattle.model.proofs.Mission.{filtering}
 
 -- row i of what the table's requests show
 row : ℕ → List Seen → Seen
-row i rows = getD rows i (record { kind = 0; subject = 0; left = 0; withdrawn = 0; deleted = 0 }, [], [])
+row i rows = getD rows i (record { kind = 0; subject = 0; left = 0; withdrawn = 0; deleted = 0 }, [], [], [])
 
 pub p6-settled : ((reply p6) .answer) .kind ≡ 0
 unfolding table given said row numbers

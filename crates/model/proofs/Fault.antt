@@ -19,7 +19,7 @@ use Rattle.model.specs.Network.{Network, total, variablesIn, tuplesIn, v
 use Rattle.model.specs.Combination.{Combination}
 use Rattle.model.specs.Consistency.{needed}
 use Rattle.model.specs.Request.{Change, filter, withdraw, choose, Instance, combinationsOf, Request}
-use Rattle.model.specs.Fault.{Fault, firstFault, refusal, within, properWidth, different, properScope, properLengths, networkFaults, combinationFaults, wordsFault, supportsFault, changeFaults, properMembers, faultsOn, faults, accepts}
+use Rattle.model.specs.Fault.{published, Fault, listFaults, untrue, firstFault, refusal, within, properWidth, different, properScope, properLengths, networkFaults, combinationFaults, wordsFault, supportsFault, changeFaults, properMembers, faultsOn, faults, accepts}
 use Rattle.model.proofs.Bools.{and-left, and-right, or-false-left, or-false-right}
 use Rattle.model.proofs.Lists.{here, all-at, pairwise-getD, isNone-none}
 
@@ -126,58 +126,62 @@ refusal-back fs gs h e = sym (ap refusal (firstFault-append-none fs gs (refusal-
 
 -- ---- The faults of a change call, from those that all change calls test and its own
 
-module _ (I : Instance) (words numbers : ℕ) where
-  pub faultsOn-change : (change : Change) → faultsOn I words numbers change ≡ faultsOn I words numbers filter ++ changeFaults (I .network) change
-  unfolding faultsOn
+pub numbered-lists : (I : Instance) (words numbers : ℕ) → numbered (listFaults I words numbers) ≡ true
+unfolding listFaults
+numbered-lists I words numbers = refl
+
+module _ (I : Instance) (words numbers : ℕ) (wrong : Bool) where
+  pub faultsOn-change : (change : Change) → faultsOn I words numbers wrong change ≡ faultsOn I words numbers wrong filter ++ changeFaults (I .network) change
+  unfolding faultsOn listFaults
   faultsOn-change change = refl
 
-  numbered-filter : numbered (faultsOn I words numbers filter) ≡ true
-  unfolding faultsOn
-  numbered-filter = refl
+  pub numbered-shared : numbered (faultsOn I words numbers wrong filter) ≡ true
+  unfolding faultsOn listFaults
+  numbered-shared = refl
 
   numbered-change : (change : Change) → numbered (changeFaults (I .network) change) ≡ true
   numbered-change filter = refl
   numbered-change (withdraw ids) = refl
   numbered-change (choose x v) = refl
 
-  numbered-all : (change : Change) → numbered (faultsOn I words numbers change) ≡ true
-  unfolding faultsOn
+  numbered-all : (change : Change) → numbered (faultsOn I words numbers wrong change) ≡ true
+  unfolding faultsOn listFaults
   numbered-all filter = refl
   numbered-all (withdraw ids) = refl
   numbered-all (choose x v) = refl
 
-  -- the numbers are 2 to 14
-  numbers-all : (change : Change) → all (λ (f : Fault). within 2 14 (f .0)) (faultsOn I words numbers change) ≡ true
-  unfolding faultsOn
+  -- the numbers are 2 to 14 and 18
+  numbers-all : (change : Change) → all (λ (f : Fault). published (f .0)) (faultsOn I words numbers wrong change) ≡ true
+  unfolding faultsOn listFaults
   numbers-all filter = refl
   numbers-all (withdraw ids) = refl
   numbers-all (choose x v) = refl
 
-  pub refusal-within : (change : Change) (k : ℕ) → firstFault (faultsOn I words numbers change) ≡ some k → within 2 14 k ≡ true
-  refusal-within change k e = firstFault-number (within 2 14) (faultsOn I words numbers change) k (numbers-all change) e
+  pub refusal-within : (change : Change) (k : ℕ) → firstFault (faultsOn I words numbers wrong change) ≡ some k → published k ≡ true
+  refusal-within change k e = firstFault-number published (faultsOn I words numbers wrong change) k (numbers-all change) e
 
-  pub refusal-all : (change : Change) → refusal (firstFault (faultsOn I words numbers change)) ≡ 0 → firstFault (faultsOn I words numbers change) ≡ none
-  refusal-all change e = refusal-none (faultsOn I words numbers change) (numbered-all change) e
+  pub refusal-all : (change : Change) → refusal (firstFault (faultsOn I words numbers wrong change)) ≡ 0 → firstFault (faultsOn I words numbers wrong change) ≡ none
+  refusal-all change e = refusal-none (faultsOn I words numbers wrong change) (numbered-all change) e
 
   -- a fault that all change calls test is the call's
-  pub refusal-shared : (change : Change) (k : ℕ) → k ≡ refusal (firstFault (faultsOn I words numbers filter)) → (k ≡ 0 → ⊥) → firstFault (faultsOn I words numbers change) ≡ some k
+  pub refusal-shared : (change : Change) (k : ℕ) → k ≡ refusal (firstFault (faultsOn I words numbers wrong filter)) → (k ≡ 0 → ⊥) → firstFault (faultsOn I words numbers wrong change) ≡ some k
   refusal-shared change k e d =
       ap firstFault (faultsOn-change change)
-      ∙ firstFault-append-some (faultsOn I words numbers filter) (changeFaults (I .network) change) k
-      (refusal-some (firstFault (faultsOn I words numbers filter)) k (sym e) d)
+      ∙ firstFault-append-some (faultsOn I words numbers wrong filter) (changeFaults (I .network) change) k
+      (refusal-some (firstFault (faultsOn I words numbers wrong filter)) k (sym e) d)
 
-  module _ (change : Change) (shared : 0 ≡ refusal (firstFault (faultsOn I words numbers filter))) where
-    behind : firstFault (faultsOn I words numbers change) ≡ firstFault (changeFaults (I .network) change)
+  module _ (change : Change) (shared : 0 ≡ refusal (firstFault (faultsOn I words numbers wrong filter))) where
+    behind : firstFault (faultsOn I words numbers wrong change) ≡ firstFault (changeFaults (I .network) change)
     behind =
         ap firstFault (faultsOn-change change)
-        ∙ firstFault-append-none (faultsOn I words numbers filter) (changeFaults (I .network) change)
-        (refusal-none (faultsOn I words numbers filter) numbered-filter (sym shared))
+        ∙ firstFault-append-none (faultsOn I words numbers wrong filter) (changeFaults (I .network) change)
+        (refusal-none (faultsOn I words numbers wrong filter) numbered-shared (sym shared))
 
     -- where it has none of them, its own fault is the call's, if it has one
-    pub refusal-own : (k : ℕ) → k ≡ refusal (firstFault (changeFaults (I .network) change)) → (k ≡ 0 → ⊥) → firstFault (faultsOn I words numbers change) ≡ some k
+    pub refusal-own : (k : ℕ) → k ≡ refusal (firstFault (changeFaults (I .network) change)) → (k ≡ 0 → ⊥) → firstFault (faultsOn I words numbers wrong change) ≡ some k
     refusal-own k e d = behind ∙ refusal-some (firstFault (changeFaults (I .network) change)) k (sym e) d
 
-    pub refusal-neither : 0 ≡ refusal (firstFault (changeFaults (I .network) change)) → firstFault (faultsOn I words numbers change) ≡ none
+    pub refusal-neither : 0 ≡ refusal (firstFault (changeFaults (I .network) change)) → firstFault (faultsOn I words numbers wrong change) ≡ none
     refusal-neither e = behind ∙ refusal-none (changeFaults (I .network) change) (numbered-change change) (sym e)
 
 -- ---- Relation records of proper width
@@ -256,15 +260,30 @@ module _ (q : Request) (e : accepts q ≡ true) where
   unfolding accepts
   absent m = no-fault-at (faults q) (isNone-none (firstFault (faults q)) e) m
 
+  -- those of the words and of the supports
+  abbrev lent : List Fault
+  lent = wordsFault N (length (q .words)) ∷ supportsFault I (length (q .supports)) ∷ []
+
+  -- it has none of 2 to 12
+  listed : {f : Fault} → List·Memᴰ f (listFaults I (length (q .words)) (length (q .supports))) → f .1 ≡ false
+  unfolding faults faultsOn
+  listed m = absent (Memᴰ·append-left ((18, untrue N (q .words) (q .counts)) ∷ changeFaults N (q .change)) m)
+
   -- its network has no fault
   pub accepts-network : firstFault (networkFaults N) ≡ none
-  unfolding faults faultsOn
-  accepts-network = none-firstFault (networkFaults N) (λ f m. absent (Memᴰ·append-left _ (Memᴰ·append-left (combinationFaults I) m)))
+  unfolding listFaults
+  accepts-network =
+      none-firstFault (networkFaults N) (λ f m. listed (Memᴰ·append-left lent (Memᴰ·append-left (combinationFaults I) m)))
 
   -- its lists' faults stand behind those of the network and the combinations
-  lists : {f : Fault} → List·Memᴰ f (wordsFault N (length (q .words)) ∷ supportsFault I (length (q .supports)) ∷ changeFaults N (q .change)) → f .1 ≡ false
+  lists : {f : Fault} → List·Memᴰ f lent → f .1 ≡ false
+  unfolding listFaults
+  lists m = listed (Memᴰ·append-right (networkFaults N ++ combinationFaults I) m)
+
+  -- its counts are true
+  pub accepts-true : untrue N (q .words) (q .counts) ≡ false
   unfolding faults faultsOn
-  lists m = absent (Memᴰ·append-right (networkFaults N ++ combinationFaults I) m)
+  accepts-true = absent (Memᴰ·append-right (listFaults I (length (q .words)) (length (q .supports))) here)
 
   pub accepts-words : total N ≤ wordBits * length (q .words)
   accepts-words = omega (arith, ltb-false (length (q .words) * wordBits) (total N) (lists here))
@@ -277,8 +296,8 @@ module _ (q : Request) (e : accepts q ≡ true) where
       (ltb-false maxSupportNumbers k (or-false-left (ltb maxSupportNumbers k) (ltb (length (q .supports)) k) none-found), ltb-false (length (q .supports)) k (or-false-right (ltb maxSupportNumbers k) (ltb (length (q .supports)) k) none-found))
 
   combination-fault : {f : Fault} → List·Memᴰ f (combinationFaults I) → f .1 ≡ false
-  unfolding faults faultsOn
-  combination-fault m = absent (Memᴰ·append-left _ (Memᴰ·append-right (networkFaults N) m))
+  unfolding listFaults
+  combination-fault m = listed (Memᴰ·append-left lent (Memᴰ·append-right (networkFaults N) m))
 
   proper : {c : Combination} → List·Memᴰ c (combinationsOf I) → properMembers N c ≡ true
   proper m = all-at (properMembers N) (combinationsOf I) (not-false (all (properMembers N) (combinationsOf I)) (combination-fault (List·Memᴰ·tail (List·Memᴰ·tail here)))) m

@@ -8,6 +8,7 @@ pub mod Request
 pub mod Fault
 pub mod Combination
 pub mod LiveWords
+pub mod LiveCounts
 pub mod Support
 pub mod Search
 pub mod Narrowing

@@ -11,7 +11,7 @@ use native.Mathlib.Decide.{ℕ-discrete, decLt}
 use native.Mathlib.Nat.{add-zero, zero-add, add-suc, suc-add, zero-mul, suc-mul, add-mul, mul-le-mul-right, le-of-suc-le-suc}
 use lib.Dec.{ltb, eqb}
 use lib.ListN.{length, getD, set, take, drop, length-map, length-drop}
-use lib.Seq.{take-at, drop-append-add, drop-append-le, take-append-le, drop-cons}
+use lib.Seq.{getD-set-same, getD-set-other, take-at, drop-append-add, drop-append-le, take-append-le, drop-cons}
 use borrow.Author.Tests.{eqb-true, eq-eqb, ltb-true, lt-ltb, ne-eqb, le-ltb}
 use Rattle.model.specs.Lists.{all, any, elem, from, sum, select, keepIf, firstOr, pairwise, choices, prefixed, earlier, each, isNone, lesser, least}
 use Rattle.model.proofs.Bools.{and-left, and-right, and-intro, or-left, or-right, or-cases, iff-eq, not-both}
@@ -594,6 +594,14 @@ map-places {A = A} f xs (suc n) i h =
     ∙ ap (λ (t : List ℕ). map f (take (suc n) t)) (sym (drop-cons xs i 0 (omega arith)))
 
 -- ---- An element put at a place
+
+-- what holds of the first i numbers of a list holds of one more, which is stored
+pub first-set : (P : ℕ → ℕ → Type 0) (xs : List ℕ) (i v : ℕ) → i < length xs → ((j : ℕ) → j < i → P j (getD xs j 0)) → P i v → (j : ℕ) → j < i + 1 → P j (getD (set xs i v) j 0)
+first-set P xs i v h f p j l = go (ℕ-discrete j i)
+  where
+    go : Dec (j ≡ i) → P j (getD (set xs i v) j 0)
+    go (yes e) = subst (λ (k : ℕ). P k (getD (set xs i v) k 0)) (sym e) (subst (P i) (sym (getD-set-same xs i v 0 h)) p)
+    go (no d) = subst (P j) (sym (getD-set-other xs i j v 0 d)) (f j (omega arith))
 
 module _ {ℓ} {A : Type ℓ} where
   pub set-mem : (xs : List A) (j : ℕ) (a : A) → j < length xs → List·Memᴰ a (set xs j a)

@@ -115,7 +115,7 @@ count-cons false S = omega arith
 pub count-from-le : (f : ℕ → Bool) (i n : ℕ) → count (map f (from i n)) ≤ n
 count-from-le f i n = omega (arith, count-length (map f (from i n)), length-map (from i n) f, length-from i n)
 
-count-add : (f : ℕ → Bool) (i m n : ℕ) → count (map f (from i (m + n))) ≡ count (map f (from i m)) + count (map f (from (i + m) n))
+pub count-add : (f : ℕ → Bool) (i m n : ℕ) → count (map f (from i (m + n))) ≡ count (map f (from i m)) + count (map f (from (i + m) n))
 count-add f i zero n = simp (zero-add, add-zero)
 count-add f i (suc m) n =
     let e : suc i + m ≡ i + suc m = omega arith in

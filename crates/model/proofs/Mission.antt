@@ -9,7 +9,7 @@ use Prim.Native.Nat.{ℕ, _+_, _≤_, _<_}
 use native.Mathlib.Omega.{arith}
 use native.Mathlib.Decide.{decLt}
 use lib.Dec.{leb, ltb}
-use lib.ListN.{length, drop}
+use lib.ListN.{length, getD, drop, List·getD-eq-default}
 use borrow.Author.Tests.{lt-ltb, ltb-true, leb-true, not-true, not-false}
 use Rattle.model.specs.declared.Counts.{Counts}
 use Rattle.model.specs.Limits.{variableCount, noVariable}
@@ -18,43 +18,45 @@ use Rattle.model.specs.TupleSet.{TupleSet, has, count, restrict, without
 use Rattle.model.specs.Network.{Network, total, idsOf, relationOf}
 use Rattle.model.specs.Agreement.{clashes, cellsOf, firstClash}
 use Rattle.model.specs.Combination.{Combination, Chain}
+use Rattle.model.specs.LiveCounts.{liveCounts}
 use Rattle.model.specs.Consistency.{supported, isConsistent, filtered, supportList, needed}
 use Rattle.model.specs.Solution.{Assignment, isSolution}
 use Rattle.model.specs.LiveWords.{isLive, living, written}
 use Rattle.model.specs.Request.{Change, filter, withdraw, choose, Instance, combinationsOf, Request, removes}
-use Rattle.model.specs.Fault.{Fault, firstFault, networkFaults, idsFault, faultsOn, faults, testFaults, compareFaults, accepts}
+use Rattle.model.specs.Fault.{Fault, firstFault, networkFaults, idsFault, listFaults, faultsOn, faults, testFaults, compareFaults, accepts}
 use Rattle.model.specs.Reply.{Reply, lowestEmpty, answerFor, answerNumbers, remainder, countsFor, leaving, accepted, replyTo, reply, verdictNumbers, comparisonNumbers, verdictFor, comparisonFor, testReply, compareReply}
-use Rattle.model.specs.Calls.{Call, Proper, Made, callsOf, State, start, AllKeep, makeAll, anyAccepted, removedBy, starting, remaining}
-use Rattle.model.specs.Promises.{Tells, Marked, Supports, NoFault, FirstFault, Answered, givenTuples, leftTuples, Spares, Filtered, StrikeRule, Apart, Local, Claim, TestAnswered, ClashUnder, FirstClash, NoClash, CompareAnswered}
+use Rattle.model.specs.Calls.{Marks, Proper, Made, State, start, afterAll, AllKeep, anyAccepted, removedBy, starting, remaining}
+use Rattle.model.specs.Promises.{Tells, Marked, Supports, Counted, NoFault, FirstFault, Answered, givenTuples, leftTuples, Spares, Filtered, StrikeRule, Apart, Local, Claim, TestAnswered, ClashUnder, FirstClash, NoClash, CompareAnswered}
 use Rattle.model.proofs.Bools.{and-left, false-intro}
 use Rattle.model.proofs.Lists.{here, least-mem, least-none, least-below, least-is, none-least}
 use Rattle.model.proofs.TupleSet.{has-below, without-length, without-cong, without-none, without-stays, without-count}
 use Rattle.model.proofs.Network.{relationOf-ids, ids-below}
 use Rattle.model.proofs.Agreement.{clash-unfit, clash-is, mem-clashes, clashes-mem, firstClash-low}
 use Rattle.model.proofs.Support.{firstSupport-dead, firstSupport-least}
-use Rattle.model.proofs.Consistency.{supported-at, isConsistent-iff, filtered-largest, filtered-unique, filtered-alone, supportList-length}
+use Rattle.model.proofs.Consistency.{supported-at, isConsistent-iff, filtered-largest, filtered-unique, filtered-alone, filtered-length, supportList-length}
 use Rattle.model.proofs.Solution.{isSolution-filtered, isSolution-empty}
 use Rattle.model.proofs.Locality.{filtered-far}
 use Rattle.model.proofs.LiveWords.{written-isLive, written-length, living-written, living-length, living-has}
 use Rattle.model.proofs.Request.{choose-any, choose-spares}
 use Rattle.model.proofs.Fault.{no-fault-at, none-firstFault, firstFault-front, firstFault-back, firstFault-some, firstFault-number, faultless, accepts-network, accepts-words, accepts-exist}
-use Rattle.model.proofs.Reply.{reply-accepted, lowestEmpty-first, answerFor-tells, answerFor-kind, emptied-low, remainder-length, leaving-sum, leaving-withdrawn}
-use Rattle.model.proofs.Calls.{afterAll-makeAll, makeAll-accepted, makeAll-none, lists-kept}
+use Rattle.model.proofs.Reply.{reply-accepted, lowestEmpty-first, answerFor-tells, answerFor-kind, emptied-low, remainder-length, leaving-sum, leaving-left, leaving-withdrawn}
+use Rattle.model.proofs.LiveCounts.{counts-length, counts-at, counts-sum, count-same, true-counts}
+use Rattle.model.proofs.Calls.{all-accepted, all-refused, lists-kept}
 
 -- ---- The calls' faults, in checking order
 
--- filter uses 2 to 12, withdraw adds 13, choose 14; test uses 2 to 11, compare 2 to 6 and 13
-pub filter-checks : (I : Instance) (n k : ℕ) → map (λ (f : Fault). f .0) (faultsOn I n k filter) ≡ from 2 11
-unfolding faultsOn
-filter-checks I n k = refl
+-- filter uses 2 to 12 and 18, withdraw adds 13, choose 14; test uses 2 to 11, compare 2 to 6 and 13
+pub filter-checks : (I : Instance) (n k : ℕ) (b : Bool) → map (λ (f : Fault). f .0) (faultsOn I n k b filter) ≡ from 2 11 ++ (18 ∷ [])
+unfolding faultsOn listFaults
+filter-checks I n k b = refl
 
-pub withdraw-checks : (I : Instance) (n k : ℕ) (ids : List ℕ) → map (λ (f : Fault). f .0) (faultsOn I n k (withdraw ids)) ≡ from 2 11 ++ (13 ∷ [])
-unfolding faultsOn
-withdraw-checks I n k ids = refl
+pub withdraw-checks : (I : Instance) (n k : ℕ) (b : Bool) (ids : List ℕ) → map (λ (f : Fault). f .0) (faultsOn I n k b (withdraw ids)) ≡ from 2 11 ++ (18 ∷ 13 ∷ [])
+unfolding faultsOn listFaults
+withdraw-checks I n k b ids = refl
 
-pub choose-checks : (I : Instance) (n k x v : ℕ) → map (λ (f : Fault). f .0) (faultsOn I n k (choose x v)) ≡ from 2 11 ++ (14 ∷ [])
-unfolding faultsOn
-choose-checks I n k x v = refl
+pub choose-checks : (I : Instance) (n k : ℕ) (b : Bool) (x v : ℕ) → map (λ (f : Fault). f .0) (faultsOn I n k b (choose x v)) ≡ from 2 11 ++ (18 ∷ 14 ∷ [])
+unfolding faultsOn listFaults
+choose-checks I n k b x v = refl
 
 pub test-checks : (I : Instance) (ws : List ℕ) → map (λ (f : Fault). f .0) (testFaults I ws) ≡ from 2 10
 unfolding testFaults
@@ -83,6 +85,10 @@ supports-consistent I L lent consistent =
         live = λ e. firstSupport-least (I .network) L c g (supported-at (I .network) (combinationsOf I) L g c (consistent g e) m n);
       };
     }
+
+-- the counts of what is left
+counted-left : (N : Network) (L : TupleSet) → length L ≡ total N → (left : ℕ) → left ≡ count L → Counted N L left (liveCounts N L)
+counted-left N L long left e = record { long = counts-length N L; each = counts-at N L; together = counts-sum N L long ∙ sym e }
 
 module _ (q : Request) where
   abbrev I : Instance
@@ -189,57 +195,89 @@ module _ (q : Request) where
           marked = subst (λ (p : Reply). Marked N (leftTuples q (reply q)) (q .words) (p .words)) (sym (reply-accepted q e)) (subst (λ (X : TupleSet). Marked N X (q .words) (written (total N) left (q .words))) (sym leftTuples-is) (marked-written N left (q .words)));
           supports = subst (λ (p : Reply). Supports I (leftTuples q (reply q)) (q .supports) (p .supports)) (sym (reply-accepted q e)) (subst (λ (X : TupleSet). Supports I X (q .supports) ((accepted q) .supports)) (sym leftTuples-is) (supports-consistent I left (q .supports) (largest-left .consistent)));
           sum = subst (λ (p : Reply). (p .answer) .left + (p .answer) .withdrawn + (p .answer) .deleted ≡ count entry) (sym (reply-accepted q e)) (leaving-sum I (q .change) entry left (q .words) (q .supports));
+          counted = subst (λ (p : Reply). Counted N (leftTuples q (reply q)) ((p .answer) .left) (p .counts)) (sym (reply-accepted q e)) (subst (λ (X : TupleSet). Counted N X (((accepted q) .answer) .left) (liveCounts N left)) (sym leftTuples-is) (counted-left N left (remainder-length I (q .change) entry ∙ living-length (total N) (q .words)) (((accepted q) .answer) .left) (leaving-left I left counts (q .words) (q .supports))));
           choice = spares;
         }
 
 -- ---- Point 3
 
-module _ (I : Instance) (ws : List ℕ) (calls : List Call) (proper : Proper I ws calls) where
+module _ (I : Instance) (s : Marks) (made : List Made) (proper : Proper I made) (keep : AllKeep (start s) made) where
+  abbrev L : TupleSet
+  L = filtered (I .network) (combinationsOf I) (without (removedBy I made) (starting I (s .words)))
+
+  left-length : length L ≡ total (I .network)
+  left-length =
+      filtered-length (I .network) (combinationsOf I) (without (removedBy I made) (starting I (s .words)))
+      ∙ without-length (removedBy I made) (starting I (s .words))
+      ∙ living-length (total (I .network)) (s .words)
+
   -- the strike rule
-  strike-rule : anyAccepted ws calls ≡ true → StrikeRule I ws calls (makeAll (start ws) calls)
+  strike-rule : anyAccepted made ≡ true → StrikeRule I s made (afterAll (start s) made)
   unfolding remaining leaving
   strike-rule h =
-      let after = makeAll-accepted I ws calls proper h in
-      let L = filtered (I .network) (combinationsOf I) (without (removedBy I ws calls) (starting I ws)) in
-      let largest = filtered-largest (I .network) (combinationsOf I) (without (removedBy I ws calls) (starting I ws)) in
+      let after = all-accepted I s made proper keep h in
+      let largest = filtered-largest (I .network) (combinationsOf I) (without (removedBy I made) (starting I (s .words))) in
       let tells = answerFor-tells (I .network) L (after .counts) (after .left) in
       record {
+        true-counts = true-counts (I .network) (s .words) (s .counts) (after .truth);
         largest = largest;
-        marked = subst (Marked (I .network) L ws) (sym (after .words)) (marked-written (I .network) L ws);
+        marked = subst (λ (m : Marks). Marked (I .network) L (s .words) (m .words)) (sym (after .marks)) (marked-written (I .network) L (s .words));
         call = after .call;
-        reply = leaving I L (after .counts) ws ((after .call) .supports);
+        reply = leaving I L (after .counts) (s .words) ((after .call) .supports);
         last = after .last;
         supports = supports-consistent I L ((after .call) .supports) (largest .consistent);
         tells = tells;
+        counted = subst (λ (m : Marks). Counted (I .network) L (answerNumbers (answerFor (I .network) L (after .counts)) .left) (m .counts)) (sym (after .marks)) (counted-left (I .network) L left-length _ (tells .left));
+        counts = sym (ap (λ (m : Marks). m .counts) (after .marks));
         sum = omega (arith, after .sum, tells .left);
       }
 
   -- locality: what is far from every removed tuple stays
-  local-case : Consistent (supported (I .network) (combinationsOf I)) (starting I ws) → (r : ℕ) → Apart I ws calls r → (g : ℕ) → List·Memᴰ g (idsOf (I .network) r) → (x : Bool) → anyAccepted ws calls ≡ x → isLive ((makeAll (start ws) calls) .words) g ≡ isLive ws g
-  local-case consistent r apart g m false e = ap (λ (s : State). isLive (s .words) g) (makeAll-none ws calls e)
-  local-case consistent r apart g m true e =
-      let after = makeAll-accepted I ws calls proper e in
-      let n = total (I .network) in
-      let below = ids-below (I .network) r m in
-      let L = filtered (I .network) (combinationsOf I) (without (removedBy I ws calls) (starting I ws)) in
-      ap (λ (v : List ℕ). isLive v g) (after .words)
-      ∙ written-isLive n L ws g (omega (arith, after .enough))
-      ∙ ap (λ (x : Bool). cond x (has L g) (isLive ws g)) (lt-ltb g n below)
-      ∙ filtered-far (I .network) (combinationsOf I) (starting I ws) consistent (removedBy I ws calls) g
-      (λ h lives removed chain. apart h lives removed (subst (λ (s : ℕ). Chain (combinationsOf I) s (relationOf (I .network) h)) (relationOf-ids (I .network) r m) chain))
-      ∙ living-has n ws g below
+  module _ (consistent : Consistent (supported (I .network) (combinationsOf I)) (starting I (s .words))) (r : ℕ) (apart : Apart I (s .words) made r) where
+    far : (g : ℕ) → List·Memᴰ g (idsOf (I .network) r) → has L g ≡ has (starting I (s .words)) g
+    far g m =
+        filtered-far (I .network) (combinationsOf I) (starting I (s .words)) consistent (removedBy I made) g
+        (λ h lives removed chain. apart h lives removed (subst (λ (s : ℕ). Chain (combinationsOf I) s (relationOf (I .network) h)) (relationOf-ids (I .network) r m) chain))
 
-  local : Local I ws calls (makeAll (start ws) calls)
-  local consistent r apart g m = local-case consistent r apart g m (anyAccepted ws calls) refl
+    abbrev Kept : Type 0
+    Kept =
+        ((g : ℕ) → List·Memᴰ g (idsOf (I .network) r) → isLive ((afterAll (start s) made) .marks .words) g ≡ isLive (s .words) g)
+        × (getD ((afterAll (start s) made) .marks .counts) r 0 ≡ getD (s .counts) r 0)
+
+    same-count : (C : List ℕ) → C ≡ liveCounts (I .network) (starting I (s .words)) → Dec (r < length (I .network .relations)) → getD (liveCounts (I .network) L) r 0 ≡ getD C r 0
+    same-count C e (yes h) =
+        counts-at (I .network) L r h ∙ count-same (I .network) L (starting I (s .words)) r far ∙ sym (ap (λ (c : List ℕ). getD c r 0) e ∙ counts-at (I .network) (starting I (s .words)) r h)
+    same-count C e (no d) =
+        List·getD-eq-default (liveCounts (I .network) L) 0 {n = r} (omega (arith, counts-length (I .network) L))
+        ∙ sym (List·getD-eq-default C 0 {n = r} (omega (arith, ap length e, counts-length (I .network) (starting I (s .words)))))
+
+    local-case : (x : Bool) → anyAccepted made ≡ x → Kept
+    local-case false e =
+        let same = all-refused (start s) made keep e in
+        (λ g m. ap (λ (st : State). isLive (st .marks .words) g) same, ap (λ (st : State). getD (st .marks .counts) r 0) same)
+    local-case true e =
+        let after = all-accepted I s made proper keep e in
+        let n = total (I .network) in (
+          λ g m.
+              let below = ids-below (I .network) r m in
+              ap (λ (m : Marks). isLive (m .words) g) (after .marks)
+              ∙ written-isLive n L (s .words) g (omega (arith, after .enough))
+              ∙ ap (λ (x : Bool). cond x (has L g) (isLive (s .words) g)) (lt-ltb g n below)
+              ∙ far g m
+              ∙ living-has n (s .words) g below,
+          ap (λ (m : Marks). getD (m .counts) r 0) (after .marks) ∙ same-count (s .counts) (true-counts (I .network) (s .words) (s .counts) (after .truth)) (decLt r (length (I .network .relations))),
+        )
+
+  local : Local I s made (afterAll (start s) made)
+  local consistent r apart = local-case consistent r apart (anyAccepted made) refl
 
 -- the single claim, of calls that keep their contracts
-pub claim : (I : Instance) (ws : List ℕ) (made : List Made) → Proper I ws (callsOf made) → AllKeep (start ws) made → Claim I ws made
-claim I ws made proper keep =
-    let same = afterAll-makeAll (start ws) made keep in
+pub claim : (I : Instance) (s : Marks) (made : List Made) → Proper I made → AllKeep (start s) made → Claim I s made
+claim I s made proper keep =
     record {
-      rule = λ e. subst (StrikeRule I ws (callsOf made)) (sym same) (strike-rule I ws (callsOf made) proper e);
-      nothing = λ e. record { state = same ∙ makeAll-none ws (callsOf made) e; lists = lists-kept ws (start ws) made refl keep e };
-      local = subst (Local I ws (callsOf made)) (sym same) (local I ws (callsOf made) proper);
+      rule = strike-rule I s made proper keep;
+      nothing = λ e. record { state = all-refused (start s) made keep e; lists = lists-kept s (start s) made refl keep e };
+      local = local I s made proper keep;
     }
 
 -- ---- Test and compare

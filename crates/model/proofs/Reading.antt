@@ -350,6 +350,12 @@ read-sound t I e =
     (in-writable I (r .0) (subst (λ (u : List ℕ). length u ≤ maxText) (sym text) (leb-true (length t) maxText (h .0))), text)
 
 -- The text of every instance in range is read, as that instance.
+-- a text that is read has at most 64 relations
+pub read-few : (t : List ℕ) (I : Instance) → read t ≡ some I → length (I .network .relations) ≤ maxRelations
+read-few t I e =
+    let n = length (I .network .relations) in
+    leb-true n maxRelations (and-right (leb 1 n) (leb n maxRelations) (writable-in I (read-sound t I e .0) .0 .relations))
+
 pub read-complete : (I : Instance) → writable I ≡ true → read (instanceText I) ≡ some I
 unfolding read
 read-complete I e =

@@ -15,10 +15,11 @@ use Rattle.model.specs.declared.Counts.{Counts}
 use Rattle.model.specs.declared.Answer.the-variants.{Settled, Emptied}
 use Rattle.model.specs.TupleSet.{TupleSet, has, count, restrict, without}
 use Rattle.model.specs.Network.{Network, total, size, firstId}
+use Rattle.model.specs.LiveCounts.{liveCounts}
 use Rattle.model.specs.Consistency.{isConsistent, supportList, needed}
 use Rattle.model.specs.LiveWords.{isLive, living, nextLive, written}
 use Rattle.model.specs.Request.{Change, Instance, combinationsOf, Request, removes}
-use Rattle.model.specs.Fault.{firstFault, refusal, within, faultsOn, faults, testFaults, accepts}
+use Rattle.model.specs.Fault.{published, firstFault, refusal, untrue, faultsOn, faults, testFaults, accepts}
 use Rattle.model.specs.Reply.{Numbers, answerNumbers, verdictNumbers, verdictFor, Reply, isEmptied, lowestEmpty, answerFor, remainder, countsFor, leaving, accepted, refused, replyTo, reply, testReply}
 use Rattle.model.specs.Promises.{Tells}
 use Rattle.model.proofs.Bools.{not-both}
@@ -41,7 +42,7 @@ reply-refused q e = let k = isNone-some (firstFault (faults q)) e in (k .0, ap (
 -- the reply from the number of its first fault
 module _ (q : Request) where
   abbrev number : ℕ
-  number = refusal (firstFault (faultsOn (q .given) (length (q .words)) (length (q .supports)) (q .change)))
+  number = refusal (firstFault (faultsOn (q .given) (length (q .words)) (length (q .supports)) (untrue (q .given .network) (q .words) (q .counts)) (q .change)))
 
   pub reply-fault : (k : ℕ) → k ≡ number → (k ≡ 0 → ⊥) → reply q ≡ refused k q
   unfolding reply faults
@@ -49,7 +50,7 @@ module _ (q : Request) where
 
   pub accepts-none : 0 ≡ number → accepts q ≡ true
   unfolding accepts faults
-  accepts-none e = ap isNone (refusal-all (q .given) (length (q .words)) (length (q .supports)) (q .change) (sym e))
+  accepts-none e = ap isNone (refusal-all (q .given) (length (q .words)) (length (q .supports)) (untrue (q .given .network) (q .words) (q .counts)) (q .change) (sym e))
 
 -- test's answer from the number of its first fault
 module _ (I : Instance) (ws : List ℕ) where
@@ -181,7 +182,7 @@ module _ (I : Instance) where
   pub leaving-written : (L R : TupleSet) (k : Counts) (words supports : List ℕ) → leaving I L k (written (total (I .network)) R words) supports ≡ leaving I L k words supports
   unfolding leaving
   leaving-written L R k words supports =
-      ap (λ (x : List ℕ). record { answer = answerNumbers (answerFor (I .network) L k); words = x; supports = supportList (I .network) (combinationsOf I) L ++ drop (needed (I .network) (combinationsOf I)) supports })
+      ap (λ (x : List ℕ). record { answer = answerNumbers (answerFor (I .network) L k); words = x; supports = supportList (I .network) (combinationsOf I) L ++ drop (needed (I .network) (combinationsOf I)) supports; counts = liveCounts (I .network) L })
       (written-written (total (I .network)) L R words)
 
 -- ---- A refusal
@@ -197,13 +198,14 @@ module _ (q : Request) where
       ⊎-elim (λ h. omega (arith, e, h)) (λ h. omega (arith, e, h))
       (answerFor-kind (I .network) L (countsFor I (q .change) S) (decLt (lowestEmpty (I .network) L) (length (I .network .relations))))
 
-  kept-of : (o : Option ℕ) → firstFault (faults q) ≡ o → ((replyTo o q) .answer) .kind ≡ 2 → ((replyTo o q) .words ≡ q .words) × ((replyTo o q) .supports ≡ q .supports) × (within 2 14 (((replyTo o q) .answer) .subject) ≡ true)
+  kept-of : (o : Option ℕ) → firstFault (faults q) ≡ o → ((replyTo o q) .answer) .kind ≡ 2 → ((replyTo o q) .words ≡ q .words) × ((replyTo o q) .supports ≡ q .supports) × ((replyTo o q) .counts ≡ q .counts) × (published (((replyTo o q) .answer) .subject) ≡ true)
   unfolding faults
-  kept-of (some f) e k = (refl, refl, refusal-within (q .given) (length (q .words)) (length (q .supports)) (q .change) f e)
+  kept-of (some f) e k =
+      (refl, refl, refl, refusal-within (q .given) (length (q .words)) (length (q .supports)) (untrue (q .given .network) (q .words) (q .counts)) (q .change) f e)
   kept-of none e k = absurd (accepted-kind k)
 
   -- it leaves the lists as lent, and its number is one of the published
-  pub reply-kept : ((reply q) .answer) .kind ≡ 2 → ((reply q) .words ≡ q .words) × ((reply q) .supports ≡ q .supports) × (within 2 14 (((reply q) .answer) .subject) ≡ true)
+  pub reply-kept : ((reply q) .answer) .kind ≡ 2 → ((reply q) .words ≡ q .words) × ((reply q) .supports ≡ q .supports) × ((reply q) .counts ≡ q .counts) × (published (((reply q) .answer) .subject) ≡ true)
   unfolding reply
   reply-kept k = kept-of (firstFault (faults q)) refl k
 

@@ -37,4 +37,4 @@ cutInstance I = record { network = cutNetwork (I .network); m = I .m; members = 
 -- the reply with the words and the numbers that were cut off
 abbrev pub restored : List ℕ → List ℕ → Reply → Reply
 restored words supports r =
-    record { answer = r .answer; words = r .words ++ words; supports = r .supports ++ supports }
+    record { answer = r .answer; words = r .words ++ words; supports = r .supports ++ supports; counts = r .counts }

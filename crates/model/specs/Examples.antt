@@ -12,6 +12,8 @@ use Rattle.model.specs.TupleSet
 use Rattle.model.specs.Network
 use Rattle.model.specs.Network.{Network}
 use Rattle.model.specs.Agreement
+use Rattle.model.specs.LiveCounts
+use Rattle.model.specs.LiveCounts.{liveCounts}
 use Rattle.model.specs.Combination
 use Rattle.model.specs.Support
 use Rattle.model.specs.Consistency
@@ -70,20 +72,28 @@ vague =
 unfoldable pub pairs : List ℕ
 pairs = 0 ∷ 1 ∷ 0 ∷ 2 ∷ 1 ∷ 2 ∷ []
 
--- a request with room for 40 support numbers, each of them 7 at entry
+-- a request with true counts and room for 40 support numbers, each of them 7 at entry
 unfoldable pub asked : Network → ℕ → List ℕ → List ℕ → Change → Request
 asked N m members words change =
-    record { given = record { network = N; m = m; members = members }; words = words; supports = replicate 40 7; change = change }
+    record {
+      given = record { network = N; m = m; members = members };
+      words = words;
+      supports = replicate 40 7;
+      counts = liveCounts N (LiveWords.living (Network.total N) words);
+      change = change;
+    }
 
 -- the next request on the lists that q leaves
 unfoldable pub next : Request → Change → Request
-next q change = record { given = q .given; words = (reply q) .words; supports = (reply q) .supports; change = change }
+next q change =
+    record { given = q .given; words = (reply q) .words; supports = (reply q) .supports; counts = (reply q) .counts; change = change }
 
--- A request, the numbers of its answer, the words that it leaves, and what the support list holds from a place on.
+-- A request, the numbers of its answer, the words and the counts that it leaves, and what the support list holds from a place on.
 pub record Example : Type 0 where
   pub request : Request
   pub answer : Numbers
   pub words : List ℕ
+  pub counts : List ℕ
   pub place : ℕ
   pub supports : List ℕ
 
@@ -106,47 +116,49 @@ p7 = asked triangle 3 (0 ∷ 1 ∷ 2 ∷ []) (63 ∷ []) filter
 unfoldable pub table : List Example
 table =
     -- P1: tuple 2 of relation 0 falls, no other
-    record { request = p1; answer = numbers 0 64 6 0 1; words = 123 ∷ []; place = 0; supports = [] }
+    record { request = p1; answer = numbers 0 64 6 0 1; words = 123 ∷ []; counts = 2 ∷ 2 ∷ 2 ∷ []; place = 0; supports = [] }
     -- P2: the first combination's support of relation 1, tuple 1
-    ∷ record { request = p1; answer = numbers 0 64 6 0 1; words = 123 ∷ []; place = 8; supports = 1 ∷ 1 ∷ [] }
+    ∷ record { request = p1; answer = numbers 0 64 6 0 1; words = 123 ∷ []; counts = 2 ∷ 2 ∷ 2 ∷ []; place = 8; supports = 1 ∷ 1 ∷ [] }
     -- P3: ids 0 and 3 fall
-    ∷ record { request = p3; answer = numbers 0 64 3 1 2; words = 82 ∷ []; place = 0; supports = 65535 ∷ 65535 ∷ 1 ∷ 1 ∷ 65535 ∷ 65535 ∷ [] }
+    ∷ record { request = p3; answer = numbers 0 64 3 1 2; words = 82 ∷ []; counts = 1 ∷ 1 ∷ 1 ∷ []; place = 0; supports = 65535 ∷ 65535 ∷ 1 ∷ 1 ∷ 65535 ∷ 65535 ∷ [] }
     -- P4, and the numbers past the needed 28 are untouched
-    ∷ record { request = next p3 (withdraw (6 ∷ [])); answer = numbers 1 0 0 1 2; words = 0 ∷ []; place = 26; supports = 65535 ∷ 65535 ∷ 7 ∷ [] }
+    ∷ record { request = next p3 (withdraw (6 ∷ [])); answer = numbers 1 0 0 1 2; words = 0 ∷ []; counts = 0 ∷ 0 ∷ 0 ∷ []; place = 26; supports = 65535 ∷ 65535 ∷ 7 ∷ [] }
     -- P5: P3's words
-    ∷ record { request = asked networkA 2 pairs (127 ∷ []) (withdraw (5 ∷ [])); answer = numbers 0 64 3 1 3; words = 82 ∷ []; place = 0; supports = [] }
+    ∷ record { request = asked networkA 2 pairs (127 ∷ []) (withdraw (5 ∷ [])); answer = numbers 0 64 3 1 3; words = 82 ∷ []; counts = 1 ∷ 1 ∷ 1 ∷ []; place = 0; supports = [] }
     -- P6
-    ∷ record { request = p6; answer = numbers 0 64 6 0 0; words = 63 ∷ []; place = 0; supports = 0 ∷ 1 ∷ [] }
+    ∷ record { request = p6; answer = numbers 0 64 6 0 0; words = 63 ∷ []; counts = 2 ∷ 2 ∷ 2 ∷ []; place = 0; supports = 0 ∷ 1 ∷ [] }
     -- P7
-    ∷ record { request = p7; answer = numbers 1 0 0 0 6; words = 0 ∷ []; place = 0; supports = 65535 ∷ [] }
+    ∷ record { request = p7; answer = numbers 1 0 0 0 6; words = 0 ∷ []; counts = 0 ∷ 0 ∷ 0 ∷ []; place = 0; supports = 65535 ∷ [] }
     -- P8, with spare bits and a spare word set
-    ∷ record { request = asked lone 2 [] (5 ∷ 7 ∷ []) filter; answer = numbers 1 1 1 0 0; words = 5 ∷ 7 ∷ []; place = 0; supports = 7 ∷ [] }
+    ∷ record { request = asked lone 2 [] (5 ∷ 7 ∷ []) filter; answer = numbers 1 1 1 0 0; words = 5 ∷ 7 ∷ []; counts = 1 ∷ 0 ∷ []; place = 0; supports = 7 ∷ [] }
     -- P9
-    ∷ record { request = asked networkA 2 pairs (127 ∷ []) (choose 2 6); answer = numbers 0 64 3 2 2; words = 82 ∷ []; place = 0; supports = [] }
+    ∷ record { request = asked networkA 2 pairs (127 ∷ []) (choose 2 6); answer = numbers 0 64 3 2 2; words = 82 ∷ []; counts = 1 ∷ 1 ∷ 1 ∷ []; place = 0; supports = [] }
     -- A1 (card 4): in pairs of neighbours any agrees with both
-    ∷ record { request = asked chain 2 (0 ∷ 1 ∷ 1 ∷ 2 ∷ []) (7 ∷ []) filter; answer = numbers 0 64 3 0 0; words = 7 ∷ []; place = 0; supports = 0 ∷ 0 ∷ 0 ∷ 0 ∷ [] }
+    ∷ record { request = asked chain 2 (0 ∷ 1 ∷ 1 ∷ 2 ∷ []) (7 ∷ []) filter; answer = numbers 0 64 3 0 0; words = 7 ∷ []; counts = 1 ∷ 1 ∷ 1 ∷ []; place = 0; supports = 0 ∷ 0 ∷ 0 ∷ 0 ∷ [] }
     -- A2: a chain of pairs through an any is not a support
-    ∷ record { request = asked chain 3 (0 ∷ 1 ∷ 2 ∷ []) (7 ∷ []) filter; answer = numbers 1 0 0 0 3; words = 0 ∷ []; place = 0; supports = 65535 ∷ [] }
+    ∷ record { request = asked chain 3 (0 ∷ 1 ∷ 2 ∷ []) (7 ∷ []) filter; answer = numbers 1 0 0 0 3; words = 0 ∷ []; counts = 0 ∷ 0 ∷ 0 ∷ []; place = 0; supports = 65535 ∷ [] }
     -- A3: a choice does not remove the tuple with any under its variable
-    ∷ record { request = asked vague 2 (0 ∷ 1 ∷ []) (15 ∷ []) (choose 0 4); answer = numbers 0 64 2 1 1; words = 5 ∷ []; place = 0; supports = 0 ∷ 0 ∷ 65535 ∷ [] }
+    ∷ record { request = asked vague 2 (0 ∷ 1 ∷ []) (15 ∷ []) (choose 0 4); answer = numbers 0 64 2 1 1; words = 5 ∷ []; counts = 1 ∷ 1 ∷ []; place = 0; supports = 0 ∷ 0 ∷ 65535 ∷ [] }
     -- A4: choosing any removes nothing
-    ∷ record { request = asked vague 2 (0 ∷ 1 ∷ []) (15 ∷ []) (choose 0 anyValue); answer = numbers 0 64 4 0 0; words = 15 ∷ []; place = 0; supports = 0 ∷ 0 ∷ 1 ∷ 1 ∷ [] }
+    ∷ record { request = asked vague 2 (0 ∷ 1 ∷ []) (15 ∷ []) (choose 0 anyValue); answer = numbers 0 64 4 0 0; words = 15 ∷ []; counts = 2 ∷ 2 ∷ []; place = 0; supports = 0 ∷ 0 ∷ 1 ∷ 1 ∷ [] }
     ∷ []
 
 abbrev pub Seen : Type 0
-Seen = Numbers × List ℕ × List ℕ
+Seen = Numbers × List ℕ × List ℕ × List ℕ
 
 -- what the request's reply shows of an example
 unfoldable pub given : Example → Seen
-given e = ((reply (e .request)) .answer, (reply (e .request)) .words, take (length (e .supports)) (drop (e .place) ((reply (e .request)) .supports)))
+given e =
+    let p = reply (e .request) in
+    (p .answer, p .words, p .counts, take (length (e .supports)) (drop (e .place) (p .supports)))
 
 -- what the paper says of it
 unfoldable pub said : Example → Seen
-said e = (e .answer, e .words, e .supports)
+said e = (e .answer, e .words, e .counts, e .supports)
 
 -- P1 to P9, A1 to A4
 pub examples : map given table ≡ map said table
-unfolding table given said relation networkA triangle lone chain vague pairs asked next numbers p1 p3 p6 p7 TupleSet.closure Network.relationOf Network.indexOf Network.scopeOf Network.valuesAt Network.tupleOf Agreement.isAny Agreement.fit Agreement.clash Agreement.clashes Agreement.cellsOf Agreement.firstClash Agreement.agree Agreement.share Combination.combinations Combination.connected Support.candidates Support.isSupport Support.supports Support.firstSupport Consistency.supported Consistency.filtered Consistency.supportList Consistency.needed LiveWords.bit LiveWords.isSet LiveWords.isLive LiveWords.living LiveWords.word LiveWords.written Request.removes Fault.faultsOn Fault.faults Reply.lowestEmpty Reply.answerFor Reply.remainder Reply.countsFor Reply.leaving Reply.accepted Reply.reply
+unfolding table given said relation networkA triangle lone chain vague pairs asked next numbers p1 p3 p6 p7 TupleSet.closure Network.relationOf Network.indexOf Network.scopeOf Network.valuesAt Network.tupleOf Agreement.isAny Agreement.fit Agreement.clash Agreement.clashes Agreement.cellsOf Agreement.firstClash Agreement.agree Agreement.share Combination.combinations Combination.connected Support.candidates Support.isSupport Support.supports Support.firstSupport Consistency.supported Consistency.filtered Consistency.supportList Consistency.needed LiveWords.bit LiveWords.isSet LiveWords.isLive LiveWords.living LiveWords.word LiveWords.written Request.removes LiveCounts.liveCounts Fault.untrue Fault.listFaults Fault.faultsOn Fault.faults Reply.lowestEmpty Reply.answerFor Reply.remainder Reply.countsFor Reply.leaving Reply.accepted Reply.reply
 examples = refl
 
 -- ---- The first fault wins
@@ -158,14 +170,25 @@ twins variables = record { relations = relation 1 1 ∷ relation 1 1 ∷ []; var
 sized : List Relation → Network
 sized Rs = record { relations = Rs; variables = 64 ∷ []; values = [] }
 
--- a request whose list of supports is empty
+-- a request whose lists of supports and of counts are empty
 bare : Network → ℕ → List ℕ → List ℕ → Request
 bare N m members words =
-    record { given = record { network = N; m = m; members = members }; words = words; supports = []; change = withdraw (2 ∷ []) }
+    record { given = record { network = N; m = m; members = members }; words = words; supports = []; counts = []; change = withdraw (2 ∷ []) }
 
--- Requests with the faults 2 to 14: each has its own fault and nearly all later ones.
+-- a request with the counts 1 and k, on twins
+tallied : ℕ → Change → Request
+tallied k change =
+    record {
+      given = record { network = twins (0 ∷ 0 ∷ []); m = 2; members = 0 ∷ 1 ∷ [] };
+      words = 3 ∷ [];
+      supports = replicate 4 7;
+      counts = 1 ∷ k ∷ [];
+      change = change;
+    }
+
+-- Requests with the faults 2 to 12, 18, 13 and 14: each has its own fault and nearly all later ones.
 damaged : List Request
-unfolding twins sized bare
+unfolding twins sized bare tallied
 damaged =
     bare (sized (replicate 65 (relation 0 65535))) 5 (9 ∷ []) []
     ∷ bare (sized (relation 1 65535 ∷ relation 9 65535 ∷ [])) 5 (9 ∷ []) []
@@ -178,13 +201,15 @@ damaged =
     ∷ bare (twins (0 ∷ 1 ∷ [])) 2 (0 ∷ 1 ∷ []) []
     ∷ bare (twins (0 ∷ 0 ∷ [])) 2 (0 ∷ 1 ∷ []) []
     ∷ bare (twins (0 ∷ 0 ∷ [])) 2 (0 ∷ 1 ∷ []) (3 ∷ [])
-    ∷ asked (twins (0 ∷ 0 ∷ [])) 2 (0 ∷ 1 ∷ []) (3 ∷ []) (withdraw (0 ∷ 2 ∷ []))
-    ∷ asked (twins (0 ∷ 0 ∷ [])) 2 (0 ∷ 1 ∷ []) (3 ∷ []) (choose 64 0)
+    ∷ tallied 2 (withdraw (2 ∷ []))
+    ∷ tallied 0 (choose 64 0)
+    ∷ tallied 1 (withdraw (0 ∷ 2 ∷ []))
+    ∷ tallied 1 (choose 64 0)
     ∷ []
 
 -- each is refused with the number of its first fault
-first-fault-wins : map (λ (q : Request). (reply q) .answer) damaged ≡ map (λ (n : ℕ). numbers 2 n 0 0 0) (from 2 13)
-unfolding damaged twins sized bare relation asked numbers TupleSet.closure Network.relationOf Network.indexOf Network.scopeOf Network.valuesAt Network.tupleOf Agreement.isAny Agreement.fit Agreement.clash Agreement.clashes Agreement.cellsOf Agreement.firstClash Agreement.agree Agreement.share Combination.combinations Combination.connected Support.candidates Support.isSupport Support.supports Support.firstSupport Consistency.supported Consistency.filtered Consistency.supportList Consistency.needed LiveWords.bit LiveWords.isSet LiveWords.isLive LiveWords.living LiveWords.word LiveWords.written Request.removes Fault.faultsOn Fault.faults Reply.lowestEmpty Reply.answerFor Reply.remainder Reply.countsFor Reply.leaving Reply.accepted Reply.reply
+first-fault-wins : map (λ (q : Request). (reply q) .answer) damaged ≡ map (λ (n : ℕ). numbers 2 n 0 0 0) (from 2 11 ++ (18 ∷ 18 ∷ 13 ∷ 14 ∷ []))
+unfolding damaged twins sized bare tallied relation asked numbers TupleSet.closure Network.relationOf Network.indexOf Network.scopeOf Network.valuesAt Network.tupleOf Agreement.isAny Agreement.fit Agreement.clash Agreement.clashes Agreement.cellsOf Agreement.firstClash Agreement.agree Agreement.share Combination.combinations Combination.connected Support.candidates Support.isSupport Support.supports Support.firstSupport Consistency.supported Consistency.filtered Consistency.supportList Consistency.needed LiveWords.bit LiveWords.isSet LiveWords.isLive LiveWords.living LiveWords.word LiveWords.written Request.removes LiveCounts.liveCounts Fault.untrue Fault.listFaults Fault.faultsOn Fault.faults Reply.lowestEmpty Reply.answerFor Reply.remainder Reply.countsFor Reply.leaving Reply.accepted Reply.reply
 first-fault-wins = refl
 
 -- ---- Where two tuples clash
@@ -250,7 +275,7 @@ listedA =
     ∷ []
 
 input-A : listing (textOf linesA) ≡ textOf listedA
-unfolding linesA listedA Text.decimal Text.textOf Reading.readField Reading.readInstance Reading.read Listing.allLive Listing.fresh Listing.tupleLines Listing.replyLines Listing.listing relation asked numbers TupleSet.closure Network.relationOf Network.indexOf Network.scopeOf Network.valuesAt Network.tupleOf Agreement.isAny Agreement.fit Agreement.clash Agreement.clashes Agreement.cellsOf Agreement.firstClash Agreement.agree Agreement.share Combination.combinations Combination.connected Support.candidates Support.isSupport Support.supports Support.firstSupport Consistency.supported Consistency.filtered Consistency.supportList Consistency.needed LiveWords.bit LiveWords.isSet LiveWords.isLive LiveWords.living LiveWords.word LiveWords.written Request.removes Fault.faultsOn Fault.faults Reply.lowestEmpty Reply.answerFor Reply.remainder Reply.countsFor Reply.leaving Reply.accepted Reply.reply
+unfolding linesA listedA Text.decimal Text.textOf Reading.readField Reading.readInstance Reading.read Listing.allLive Listing.fresh Listing.tupleLines Listing.replyLines Listing.listing relation asked numbers TupleSet.closure Network.relationOf Network.indexOf Network.scopeOf Network.valuesAt Network.tupleOf Agreement.isAny Agreement.fit Agreement.clash Agreement.clashes Agreement.cellsOf Agreement.firstClash Agreement.agree Agreement.share Combination.combinations Combination.connected Support.candidates Support.isSupport Support.supports Support.firstSupport Consistency.supported Consistency.filtered Consistency.supportList Consistency.needed LiveWords.bit LiveWords.isSet LiveWords.isLive LiveWords.living LiveWords.word LiveWords.written Request.removes LiveCounts.liveCounts Fault.untrue Fault.listFaults Fault.faultsOn Fault.faults Reply.lowestEmpty Reply.answerFor Reply.remainder Reply.countsFor Reply.leaving Reply.accepted Reply.reply
 input-A = refl
 
 -- the text of n relations of w variables and h tuples, whose values are all v, and of k combinations of m

@@ -7,11 +7,17 @@ use lib.Dec.{leb, ltb, eqb}
 use lib.ListN.{length}
 use Rattle.model.specs.declared.Relation.{Relation}
 use Rattle.model.specs.Limits.{maxRelations, maxWidth, maxTuples, variableCount, minMembers, maxMembers, maxCombinations, maxSupportNumbers, wordBits}
-use Rattle.model.specs.Lists.{from, sum, all, pairwise, isNone}
+use Rattle.model.specs.Lists.{from, sum, all, pairwise, equal, isNone}
 use Rattle.model.specs.Network.{Network, total, variablesIn, valuesIn, scopeOf}
 use Rattle.model.specs.Combination.{Combination, connected}
+use Rattle.model.specs.LiveCounts.{liveCounts}
 use Rattle.model.specs.Consistency.{needed}
+use Rattle.model.specs.LiveWords.{living}
 use Rattle.model.specs.Request.{Change, filter, withdraw, choose, Instance, combinationsOf, Request}
+
+-- the refusal numbers of the change calls, but for number 1 at the C boundary
+abbrev pub published : ℕ → Bool
+published n = leb 2 n && leb n 14 || eqb n 18
 
 -- A refusal number, and whether the request has that fault.
 abbrev pub Fault : Type 0
@@ -95,13 +101,22 @@ changeFaults N filter = []
 changeFaults N (withdraw ids) = idsFault N ids ∷ []
 changeFaults N (choose x v) = (14, not (ltb x variableCount)) ∷ []
 
--- of filter, withdraw and choose, on so many words and support numbers
-unfoldable pub faultsOn : Instance → ℕ → ℕ → Change → List Fault
-faultsOn I words numbers change =
-    instanceFaults I ++ (wordsFault (I .network) words ∷ supportsFault I numbers ∷ changeFaults (I .network) change)
+-- the counts are not those of the live tuples (card 6)
+unfoldable pub untrue : Network → List ℕ → List ℕ → Bool
+untrue N words counts = not (equal counts (liveCounts N (living (total N) words)))
+
+-- the faults 2 to 12, on so many words and support numbers
+unfoldable pub listFaults : Instance → ℕ → ℕ → List Fault
+listFaults I words numbers = instanceFaults I ++ (wordsFault (I .network) words ∷ supportsFault I numbers ∷ [])
+
+-- of filter, withdraw and choose, on so many words and support numbers, with counts that are untrue or not
+unfoldable pub faultsOn : Instance → ℕ → ℕ → Bool → Change → List Fault
+faultsOn I words numbers wrong change =
+    listFaults I words numbers ++ ((18, wrong) ∷ changeFaults (I .network) change)
 
 unfoldable pub faults : Request → List Fault
-faults q = faultsOn (q .given) (length (q .words)) (length (q .supports)) (q .change)
+faults q =
+    faultsOn (q .given) (length (q .words)) (length (q .supports)) (untrue (q .given .network) (q .words) (q .counts)) (q .change)
 
 -- of test
 unfoldable pub testFaults : Instance → List ℕ → List Fault

@@ -4,6 +4,7 @@ pub mod Lists
 pub mod Network
 pub mod Agreement
 pub mod TupleSet
+pub mod LiveCounts
 pub mod Combination
 pub mod Support
 pub mod Consistency

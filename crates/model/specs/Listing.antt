@@ -7,7 +7,7 @@ use lib.Dec.{eqb}
 use lib.ListN.{replicate}
 use Rattle.model.specs.Limits.{maxSupportNumbers, wordBits}
 use Rattle.model.specs.Lists.{from, select}
-use Rattle.model.specs.Network.{Network, total, relationOf, indexOf, tupleOf}
+use Rattle.model.specs.Network.{Network, tuplesIn, total, relationOf, indexOf, tupleOf}
 use Rattle.model.specs.LiveWords.{isLive}
 use Rattle.model.specs.Request.{filter, Instance, Request}
 use Rattle.model.specs.Reply.{Numbers, Reply, reply}
@@ -18,9 +18,16 @@ use Rattle.model.specs.Reading.{read}
 unfoldable pub allLive : List ℕ
 allLive = replicate 64 (2 ^ wordBits - 1)
 
--- filter, with every tuple live and a support list of any length that may be needed
+-- filter, with every tuple live and counted, and a support list of any length that may be needed
 unfoldable pub fresh : Instance → Request
-fresh I = record { given = I; words = allLive; supports = replicate maxSupportNumbers 0; change = filter }
+fresh I =
+    record {
+      given = I;
+      words = allLive;
+      supports = replicate maxSupportNumbers 0;
+      counts = map tuplesIn (I .network .relations);
+      change = filter;
+    }
 
 -- kind, sheet or refusal number, left, deleted
 abbrev pub answerLine : Numbers → List ℕ

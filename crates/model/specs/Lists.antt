@@ -72,6 +72,13 @@ earlier (x ∷ xs) (y ∷ ys) = ltb x y || (eqb x y && earlier xs ys)
 abbrev pub elem : ℕ → List ℕ → Bool
 elem x = any (eqb x)
 
+-- the lists have the same elements
+abbrev pub equal : List ℕ → List ℕ → Bool
+equal [] [] = true
+equal [] (y ∷ ys) = false
+equal (x ∷ xs) [] = false
+equal (x ∷ xs) (y ∷ ys) = eqb x y && equal xs ys
+
 abbrev pub isNone : Option ℕ → Bool
 isNone none = true
 isNone (some x) = false

@@ -7,21 +7,22 @@ use mathlib.Core.Logic.{_⊎_}
 use mathlib.Core.List.{List, _∷_, _++_, map, List·Memᴰ}
 use Prim.Native.Nat.{ℕ, _+_, _*_, _≤_, _<_}
 use lib.Dec.{ltb}
-use lib.ListN.{length, drop, replicate}
+use lib.ListN.{length, getD, drop, replicate}
 use Rattle.model.specs.Limits.{maxRelations, noVariable, noSupport, wordBits}
-use Rattle.model.specs.Lists.{earlier}
+use Rattle.model.specs.Lists.{sum, earlier}
 use Rattle.model.specs.TupleSet.{TupleSet, has, count, without, Largest, Consistent}
 use Rattle.model.specs.Network.{Network, total, idsOf, relationOf, indexOf}
 use Rattle.model.specs.Agreement.{isAny, fit, cellsOf}
 use Rattle.model.specs.Combination.{Combination, Chain}
 use Rattle.model.specs.Support.{candidates, isSupport, firstSupport}
+use Rattle.model.specs.LiveCounts.{liveCount, liveCounts}
 use Rattle.model.specs.Consistency.{supported, supportList, needed}
 use Rattle.model.specs.Solution.{Assignment, isSolution}
 use Rattle.model.specs.LiveWords.{isLive, living}
 use Rattle.model.specs.Request.{choose, Instance, combinationsOf, Request, removes}
 use Rattle.model.specs.Fault.{Fault, faults, testFaults, compareFaults}
 use Rattle.model.specs.Reply.{Numbers, Reply, isEmptied, refused}
-use Rattle.model.specs.Calls.{Call, lentWords, Made, callsOf, State, start, afterAll, anyAccepted, removedBy, starting, remaining}
+use Rattle.model.specs.Calls.{Marks, Call, lentMarks, marksIn, Made, State, start, afterAll, anyAccepted, removedBy, starting, remaining}
 
 -- ---- What an accepted call says and leaves of the tuples L
 
@@ -48,6 +49,12 @@ pub record Supports (I : Instance) (L : TupleSet) (lent after : List ℕ) : Type
   pub list : after ≡ supportList (I .network) (combinationsOf I) L ++ drop (needed (I .network) (combinationsOf I)) lent
   pub long : length (supportList (I .network) (combinationsOf I) L) ≡ needed (I .network) (combinationsOf I)
   pub numbered : (c : Combination) → List·Memᴰ c (combinationsOf I) → (g : ℕ) → List·Memᴰ (relationOf (I .network) g) c → Numbered (I .network) L c g
+
+-- The counts are those of L: for each relation the number of its tuples in L, and together the tuples left (card 6).
+pub record Counted (N : Network) (L : TupleSet) (left : ℕ) (counts : List ℕ) : Type 0 where
+  pub long : length counts ≡ length (N .relations)
+  pub each : (r : ℕ) → r < length (N .relations) → getD counts r 0 ≡ liveCount N L r
+  pub together : sum counts ≡ left
 
 -- ---- Mission point 1
 
@@ -96,50 +103,54 @@ pub record Filtered (q : Request) (p : Reply) : Type 0 where
   pub tells : Tells (q .given .network) (leftTuples q p) (p .answer)
   pub marked : Marked (q .given .network) (leftTuples q p) (q .words) (p .words)
   pub supports : Supports (q .given) (leftTuples q p) (q .supports) (p .supports)
+  pub counted : Counted (q .given .network) (leftTuples q p) ((p .answer) .left) (p .counts)
   pub sum : (p .answer) .left + (p .answer) .withdrawn + (p .answer) .deleted ≡ count (entryTuples q)
   pub choice : (x v : ℕ) → q .change ≡ choose x v → Spares q p x v
 
 -- ---- Mission point 3
 
--- The strike rule, of a list with an accepted call and the state after it. The tuples that remain are the largest consistent set of
--- the starting tuples without all that accepted calls removed. They are marked in the words; the last accepted call's supports,
--- answer and tuples left are theirs; and the number of starting tuples is those left and all withdrawn and deleted.
-pub record StrikeRule (I : Instance) (ws : List ℕ) (calls : List Call) (after : State) : Type 0 where
-  pub largest : Largest (supported (I .network) (combinationsOf I)) (without (removedBy I ws calls) (starting I ws)) (remaining I ws calls)
-  pub marked : Marked (I .network) (remaining I ws calls) ws (after .words)
+-- The strike rule, of a list with an accepted call and the state after it. The counts at the start were those of the starting tuples. The
+-- tuples that remain are the largest consistent set of the starting tuples without all that accepted calls removed. They are marked in the
+-- words and counted in the counts; the last accepted call's supports, counts, answer and tuples left are theirs; and the number of starting
+-- tuples is those left and all withdrawn and deleted.
+pub record StrikeRule (I : Instance) (s : Marks) (made : List Made) (after : State) : Type 0 where
+  pub true-counts : s .counts ≡ liveCounts (I .network) (starting I (s .words))
+  pub largest : Largest (supported (I .network) (combinationsOf I)) (without (removedBy I made) (starting I (s .words))) (remaining I (s .words) made)
+  pub marked : Marked (I .network) (remaining I (s .words) made) (s .words) (after .marks .words)
   pub call : Call
   pub reply : Reply
   pub last : after .last ≡ some (call, reply)
-  pub supports : Supports I (remaining I ws calls) (call .supports) (reply .supports)
-  pub tells : Tells (I .network) (remaining I ws calls) (reply .answer)
-  pub sum : (reply .answer) .left + after .gone ≡ count (starting I ws)
+  pub supports : Supports I (remaining I (s .words) made) (call .supports) (reply .supports)
+  pub tells : Tells (I .network) (remaining I (s .words) made) (reply .answer)
+  pub counted : Counted (I .network) (remaining I (s .words) made) ((reply .answer) .left) (after .marks .counts)
+  pub counts : reply .counts ≡ after .marks .counts
+  pub sum : (reply .answer) .left + after .gone ≡ count (starting I (s .words))
 
 -- Relation r is apart from the calls: no chain of combinations joins it to a relation that holds a starting tuple which an
 -- accepted call removed, itself included.
-abbrev pub Apart : Instance → List ℕ → List Call → ℕ → Type 0
-Apart I ws calls r =
-    (g : ℕ) → has (starting I ws) g ≡ true → removedBy I ws calls g ≡ true → Chain (combinationsOf I) r (relationOf (I .network) g) → ⊥
+abbrev pub Apart : Instance → List ℕ → List Made → ℕ → Type 0
+Apart I ws made r =
+    (g : ℕ) → has (starting I ws) g ≡ true → removedBy I made g ≡ true → Chain (combinationsOf I) r (relationOf (I .network) g) → ⊥
 
--- From a consistent start, a relation apart from the calls keeps exactly its tuples.
-abbrev pub Local : Instance → List ℕ → List Call → State → Type 0
-Local I ws calls after =
-    Consistent (supported (I .network) (combinationsOf I)) (starting I ws)
+-- From a consistent start, a relation apart from the calls keeps exactly its tuples, and its count.
+abbrev pub Local : Instance → Marks → List Made → State → Type 0
+Local I s made after =
+    Consistent (supported (I .network) (combinationsOf I)) (starting I (s .words))
     → (r : ℕ)
-    → Apart I ws calls r
-    → (g : ℕ)
-    → List·Memᴰ g (idsOf (I .network) r)
-    → isLive (after .words) g ≡ isLive ws g
+    → Apart I (s .words) made r
+    → ((g : ℕ) → List·Memᴰ g (idsOf (I .network) r) → isLive (after .marks .words) g ≡ isLive (s .words) g)
+    × (getD (after .marks .counts) r 0 ≡ getD (s .counts) r 0)
 
--- A list of calls wrote nothing: the shared words are as at the start, and every call left the words and the supports lent to it.
-pub record NothingWritten (ws : List ℕ) (made : List Made) : Type 0 where
-  pub state : afterAll (start ws) made ≡ start ws
-  pub lists : (c : Made) → List·Memᴰ c made → ((c .1) .words ≡ lentWords ((c .0) .own) ws) × ((c .1) .supports ≡ (c .0) .supports)
+-- A list of calls wrote nothing: the shared marks are as at the start, and every call left the lists lent to it.
+pub record NothingWritten (s : Marks) (made : List Made) : Type 0 where
+  pub state : afterAll (start s) made ≡ start s
+  pub lists : (c : Made) → List·Memᴰ c made → (marksIn (c .1) ≡ lentMarks ((c .0) .own) s) × ((c .1) .supports ≡ (c .0) .supports)
 
--- The single claim about a list of calls made on one instance and its words.
-pub record Claim (I : Instance) (ws : List ℕ) (made : List Made) : Type 0 where
-  pub rule : anyAccepted ws (callsOf made) ≡ true → StrikeRule I ws (callsOf made) (afterAll (start ws) made)
-  pub nothing : anyAccepted ws (callsOf made) ≡ false → NothingWritten ws made
-  pub local : Local I ws (callsOf made) (afterAll (start ws) made)
+-- The single claim about a list of calls made on one instance and its marks.
+pub record Claim (I : Instance) (s : Marks) (made : List Made) : Type 0 where
+  pub rule : anyAccepted made ≡ true → StrikeRule I s made (afterAll (start s) made)
+  pub nothing : anyAccepted made ≡ false → NothingWritten s made
+  pub local : Local I s made (afterAll (start s) made)
 
 -- ---- Test and compare, which are lent nothing that they could write
 

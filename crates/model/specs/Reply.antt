@@ -18,6 +18,7 @@ use Rattle.model.specs.Lists.{from, any, select, firstOr}
 use Rattle.model.specs.TupleSet.{TupleSet, has, count, restrict, without}
 use Rattle.model.specs.Network.{Network, total, idsOf}
 use Rattle.model.specs.Agreement.{firstClash}
+use Rattle.model.specs.LiveCounts.{liveCounts}
 use Rattle.model.specs.Consistency.{filtered, isConsistent, supportList, needed}
 use Rattle.model.specs.LiveWords.{living, written}
 use Rattle.model.specs.Request.{Change, Instance, combinationsOf, Request, removes}
@@ -42,19 +43,21 @@ answerNumbers (Settled k) = withCounts 0 maxRelations k
 answerNumbers (Emptied r k) = withCounts 1 r k
 answerNumbers (Refused f) = withCounts 2 f (record { left = 0; withdrawn = 0; deleted = 0 })
 
--- What a change call answers, and what the live words and the support list hold at its end.
+-- What a change call answers, and what the live words, the support list and the live counts hold at its end.
 pub record Reply : Type 0 where
   pub answer : Numbers
   pub words : List ℕ
   pub supports : List ℕ
+  pub counts : List ℕ
 
 -- the request of these lists and this change
-abbrev pub request : Instance → List ℕ → List ℕ → Change → Request
-request I words supports change = record { given = I; words = words; supports = supports; change = change }
+abbrev pub request : Instance → List ℕ → List ℕ → List ℕ → Change → Request
+request I words supports counts change =
+    record { given = I; words = words; supports = supports; counts = counts; change = change }
 
--- the reply of an answer, and of the live words and the support list at the end
-abbrev pub replied : Answer → List ℕ → List ℕ → Reply
-replied a words supports = record { answer = answerNumbers a; words = words; supports = supports }
+-- the reply of an answer, and of the live words, the support list and the live counts at the end
+abbrev pub replied : Answer → List ℕ → List ℕ → List ℕ → Reply
+replied a words supports counts = record { answer = answerNumbers a; words = words; supports = supports; counts = counts }
 
 -- relation r has no tuple in S
 abbrev pub isEmptied : Network → TupleSet → ℕ → Bool
@@ -81,14 +84,15 @@ countsFor I change S =
       deleted = count (without (removes (I .network) change) S) - count (remainder I change S);
     }
 
--- the reply of a call that leaves the tuples L: the first supports in L, and the words with L; every other bit and number
--- as lent
+-- the reply of a call that leaves the tuples L: the first supports in L, the words with L, and its counts; every other bit and
+-- number as lent
 unfoldable pub leaving : Instance → TupleSet → Counts → List ℕ → List ℕ → Reply
 leaving I L k words supports =
     record {
       answer = answerNumbers (answerFor (I .network) L k);
       words = written (total (I .network)) L words;
       supports = supportList (I .network) (combinationsOf I) L ++ drop (needed (I .network) (combinationsOf I)) supports;
+      counts = liveCounts (I .network) L;
     }
 
 unfoldable pub accepted : Request → Reply
@@ -99,7 +103,7 @@ accepted q =
 
 -- a refusal gives its number and leaves every list as lent
 abbrev pub refused : ℕ → Request → Reply
-refused f q = record { answer = answerNumbers (Refused f); words = q .words; supports = q .supports }
+refused f q = record { answer = answerNumbers (Refused f); words = q .words; supports = q .supports; counts = q .counts }
 
 abbrev pub replyTo : Option ℕ → Request → Reply
 replyTo none q = accepted q

@@ -23,11 +23,12 @@ pub record Instance : Type 0 where
 abbrev pub combinationsOf : Instance → List Combination
 combinationsOf I = combinations (I .m) (I .members)
 
--- A request: an instance, the live words and the support list lent, and the change.
+-- A request: an instance, the live words, the support list and the live counts lent, and the change.
 pub record Request : Type 0 where
   pub given : Instance
   pub words : List ℕ
   pub supports : List ℕ
+  pub counts : List ℕ
   pub change : Change
 
 -- the change removes tuple g (document 01: strikes), live or dead: withdraw what it lists, choose every tuple with

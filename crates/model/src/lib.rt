@@ -31,12 +31,19 @@ pub const NO_SUPPORT: u16 = 65535;
 
 pub const WORD_BITS: usize = 64;
 
-// A relation record (document 01: sheet record): how many variables its scope has, and how many tuples it holds. A C program may
-// lend a list of them.
-#[repr(C)]
+// A relation: how many variables its scope has, and how many tuples it holds.
 pub struct Relation {
     pub width: u16,
     pub tuples: u16,
+}
+
+// A relation record as it is lent (document 01: sheet record): how many variables its scope has, how many tuples it holds, and how
+// many of its tuples live (card 6). A C program may lend a list of them.
+#[repr(C)]
+pub struct Record {
+    pub width: u16,
+    pub tuples: u16,
+    pub live: u16,
 }
 
 // How many tuples are left, were withdrawn by the call, and were deleted by the filter.

@@ -1,4 +1,4 @@
-// Document 01's refusal numbers, in checking order.
+// The papers' refusal numbers, in checking order.
 
 // The text, or a list of bytes, is not in its form.
 pub const FORM: u8 = 1;
@@ -35,6 +35,9 @@ pub const WORDS: u8 = 11;
 
 // The supports need over 32,768 numbers or more than those lent.
 pub const SUPPORTS: u8 = 12;
+
+// A relation's count differs from its live tuples (card 6).
+pub const COUNT: u8 = 18;
 
 // An id given is not below the number of tuples.
 pub const ID: u8 = 13;

@@ -19,7 +19,7 @@ use Rattle.model.specs.Network.{Network, width, size, firstId, valuesIn, before
 use Rattle.model.specs.Agreement.{fit, cells, agreeing, agree}
 use Rattle.model.specs.LiveWords.{isSet, isLive}
 use Rattle.model.proofs.Bools.{and-intro, not-both, iff-eq}
-use Rattle.model.proofs.Lists.{all-at, all-intro, from-mem, mem-from, from-append, all-of-append}
+use Rattle.model.proofs.Lists.{all-at, all-intro, from-mem, mem-from, from-append, all-of-append, first-set}
 use Rattle.model.proofs.LiveWords.{isLive-at}
 use Rattle.model.proofs.Agreement.{cellAt, agreeing-clash, clash-unfit, agree-at}
 use Rattle.live.proofs.Bits.{isSet-nought, isSet-and}
@@ -34,14 +34,6 @@ use Rattle.narrowing.specs.Narrows.{isBetween, BitsBetween}
 use Rattle.narrowing.specs.declared.rows.Four.{Four}
 use Rattle.narrowing.specs.TupleRows.{Shares, HasRows, ValueRow, Adds, FirstRows, RowOf, SharedRow, RowFor, InEvery, rowOrLast, FourOf, Within, both, four, inRows, BitsInRows, Apart, LiveBetween}
 use Rattle.narrowing.proofs.Words.{row-at}
-
--- what holds of the first i numbers of a list holds of one more, which is stored
-pub first-set : (P : ℕ → ℕ → Type 0) (xs : List ℕ) (i v : ℕ) → i < length xs → ((j : ℕ) → j < i → P j (getD xs j 0)) → P i v → (j : ℕ) → j < i + 1 → P j (getD (set xs i v) j 0)
-first-set P xs i v h f p j l = go (ℕ-discrete j i)
-  where
-    go : Dec (j ≡ i) → P j (getD (set xs i v) j 0)
-    go (yes e) = subst (λ (k : ℕ). P k (getD (set xs i v) k 0)) (sym e) (subst (P i) (sym (getD-set-same xs i v 0 h)) p)
-    go (no d) = subst (P j) (sym (getD-set-other xs i j v 0 d)) (f j (omega arith))
 
 -- ---- Where rows lie
 

@@ -61,7 +61,7 @@ pub record Accepted (N : Network) (words : List ℕ) : Type 0 where
   pub faultless : firstFault (networkFaults N) ≡ none
   pub enough : total N ≤ wordBits * length words
 
--- the text of the reply that has this answer and leaves these words, with any supports, is at the front of the buffer `after`
+-- the text of the reply that has this answer and leaves these words, with any supports and counts, is at the front of the buffer `after`
 abbrev pub Printed : Network → Answer → List ℕ → List ℕ → List ℕ → ℕ → Type 0
 Printed N answer words before after n =
-    (supports : List ℕ) → Appended (textOf (replyLines N (replied answer words supports))) before 0 after n
+    (supports counts : List ℕ) → Appended (textOf (replyLines N (replied answer words supports counts))) before 0 after n

@@ -13,8 +13,8 @@ pub use contract.Monad.{Fun}
 pub use contract.Running.{givenOf, tables}
 unfoldable pub use contract.Running.{tablesOf}
 pub use types.Kit.{Given, ‵, raw, _⊛_, _$_, _∵_, !, qed, move}
-pub use types.Part.{whole, sub, look-in, agg}
-pub use types.Run.{look, init, stop, hop, fld, from, load, addr, and-then, no-more, assigns, land, enter, params1, pass1, pass0}
+pub use types.Part.{whole, sub, look-in}
+pub use types.Run.{look, init, stop, hop, fld, from, load, and-then, no-more, assigns, land, enter, params1, pass1, pass0}
 pub use sound.WpLaws.{fmOf}
 pub use denote.RattleType.{owns, flat}
 pub use denote.Laws.{Are, Ises}

@@ -1,34 +1,77 @@
-// The five calls on the records' shape, with their answers as one number.
+// The five calls on the records' parts, with their answers as one number.
+ghost use mathlib.Core.Path.{_≡_};
+ghost use Prim.Native.Nat.{_<_};
 ghost use Rattle.model.specs.Request.{filter, withdraw, choose};
-ghost use Rattle.model.specs.Reply.{Tested, Compared};
+ghost use Rattle.model.specs.Reply.{answerNumbers, Tested, Compared};
 ghost use Rattle.layout.specs.Loan.{entry};
 ghost use Rattle.layout.specs.Shape.{networkOf, instanceOf};
 ghost use Rattle.encoding.specs.Packed.{pairIn};
-ghost use Rattle.records.specs.Packed.{RepliesIn};
+ghost use Rattle.records.specs.Packed.{RepliesDone, writtenFor, doneWith};
+use super::Done;
+use super::Parts;
+use super::at_most_64;
 use encoding::packing::pack;
 use encoding::packing::pack_comparison;
 use encoding::packing::pack_verdict;
-use layout::Shape;
+use model::Answer;
 use model::Value;
+
+// Of how many relations the live counts are to be written: of all n, or of none after a refusal.
+fn written_for(a: Answer, n: usize) -> usize
+    ensures { λ r. ⌜ r ≡ writtenFor (answerNumbers a) n ⌝ }
+{
+    match a {
+        Answer::Settled(k) => n,
+        Answer::Emptied(r, k) => n,
+        Answer::Refused(f) => 0,
+    }
+}
+
+// The answer packed, with the live counts of n relations.
+fn done(a: Answer, n: usize, live: [u16; 64]) -> Done
+    requires { ⌜ answerNumbers a .subject < 256 ⌝ }
+    ensures { λ d. ⌜ d ≡ doneWith a n live ⌝ }
+{
+    let answer = pack(a);
+    let written = written_for(a, n);
+    Done {
+        answer,
+        written,
+        live,
+    }
+}
 
 // Filters what lives.
 pub fn filter(
-    shape: Shape,
+    parts: Parts,
     variables: &[u16],
     values: &[Value],
     m: u16,
     members: &[u16],
     words: &mut [u64],
     supports: &mut [u16],
-) -> u64
-    ensures { λ n. ⌜ RepliesIn n (instanceOf shape (entry variables) (entry values) m (entry members)) words supports filter ⌝ }
+) -> Done
+    ensures { λ d. ⌜ RepliesDone d parts (instanceOf (parts .shape) (entry variables) (entry values) m (entry members)) words supports filter ⌝ }
 {
-    pack(changes::filter(shape, variables, values, m, members, words, supports))
+    let shape = parts.shape;
+    let n = at_most_64(shape.count);
+    let mut live = parts.live;
+    let a = changes::filter(
+        shape,
+        variables,
+        values,
+        m,
+        members,
+        words,
+        supports,
+        &mut live[..n],
+    );
+    done(a, n, live)
 }
 
 // Withdraws the tuples listed, live or dead, and filters what then lives.
 pub fn withdraw(
-    shape: Shape,
+    parts: Parts,
     variables: &[u16],
     values: &[Value],
     m: u16,
@@ -36,15 +79,29 @@ pub fn withdraw(
     words: &mut [u64],
     supports: &mut [u16],
     ids: &[u16],
-) -> u64
-    ensures { λ n. ⌜ RepliesIn n (instanceOf shape (entry variables) (entry values) m (entry members)) words supports (withdraw (entry ids)) ⌝ }
+) -> Done
+    ensures { λ d. ⌜ RepliesDone d parts (instanceOf (parts .shape) (entry variables) (entry values) m (entry members)) words supports (withdraw (entry ids)) ⌝ }
 {
-    pack(changes::withdraw(shape, variables, values, m, members, words, supports, ids))
+    let shape = parts.shape;
+    let n = at_most_64(shape.count);
+    let mut live = parts.live;
+    let a = changes::withdraw(
+        shape,
+        variables,
+        values,
+        m,
+        members,
+        words,
+        supports,
+        &mut live[..n],
+        ids,
+    );
+    done(a, n, live)
 }
 
 // Withdraws every tuple that has another value than v under variable x, and filters what then lives.
 pub fn choose(
-    shape: Shape,
+    parts: Parts,
     variables: &[u16],
     values: &[Value],
     m: u16,
@@ -53,29 +110,44 @@ pub fn choose(
     supports: &mut [u16],
     x: u16,
     v: Value,
-) -> u64
-    ensures { λ n. ⌜ RepliesIn n (instanceOf shape (entry variables) (entry values) m (entry members)) words supports (choose x v) ⌝ }
+) -> Done
+    ensures { λ d. ⌜ RepliesDone d parts (instanceOf (parts .shape) (entry variables) (entry values) m (entry members)) words supports (choose x v) ⌝ }
 {
-    pack(changes::choose(shape, variables, values, m, members, words, supports, x, v))
+    let shape = parts.shape;
+    let n = at_most_64(shape.count);
+    let mut live = parts.live;
+    let a = changes::choose(
+        shape,
+        variables,
+        values,
+        m,
+        members,
+        words,
+        supports,
+        &mut live[..n],
+        x,
+        v,
+    );
+    done(a, n, live)
 }
 
 // Whether the live tuples are consistent.
 pub fn test(
-    shape: Shape,
+    parts: Parts,
     variables: &[u16],
     values: &[Value],
     m: u16,
     members: &[u16],
     words: &[u64],
 ) -> u64
-    ensures { λ n. ⌜ Tested (instanceOf shape (entry variables) (entry values) m (entry members)) (entry words) (pairIn n) ⌝ }
+    ensures { λ n. ⌜ Tested (instanceOf (parts .shape) (entry variables) (entry values) m (entry members)) (entry words) (pairIn n) ⌝ }
 {
-    pack_verdict(consistency::test(shape, variables, values, m, members, words))
+    pack_verdict(consistency::test(parts.shape, variables, values, m, members, words))
 }
 
 // Compares the tuples with ids g and h.
-pub fn compare(shape: Shape, variables: &[u16], values: &[Value], g: u16, h: u16) -> u64
-    ensures { λ n. ⌜ Compared (networkOf shape (entry variables) (entry values)) g h (pairIn n) ⌝ }
+pub fn compare(parts: Parts, variables: &[u16], values: &[Value], g: u16, h: u16) -> u64
+    ensures { λ n. ⌜ Compared (networkOf (parts .shape) (entry variables) (entry values)) g h (pairIn n) ⌝ }
 {
-    pack_comparison(network::comparison::compare(shape, variables, values, g, h))
+    pack_comparison(network::comparison::compare(parts.shape, variables, values, g, h))
 }

@@ -5,6 +5,7 @@ use mathlib.Core.Bool.{Bool, true, false, not, _&&_}
 use mathlib.Core.Option.{none}
 use mathlib.Core.List.{List, [], _∷_, _++_}
 use Prim.Native.Nat.{ℕ, _*_, _≤_}
+use native.Mathlib.Decide.{ℕ-discrete}
 use native.Mathlib.Omega.{arith}
 use borrow.Author.Tests.{ltb-true, ltb-false, le-leb, lt-leb}
 use lib.Dec.{leb, ltb}
@@ -13,19 +14,23 @@ use Rattle.model.specs.declared.Relation.{Relation}
 use Rattle.model.specs.Limits.{wordBits, maxSupportNumbers}
 use Rattle.model.specs.Network.{Network, total}
 use Rattle.model.specs.Consistency.{needed}
-use Rattle.model.specs.Request.{Instance, combinationsOf, filter, withdraw, choose, removes}
-use Rattle.model.specs.Fault.{Fault, firstFault, refusal, networkFaults, combinationFaults, instanceFaults, wordsFault, supportsFault, changeFaults, faultsOn, testFaults}
+use Rattle.model.specs.Request.{Instance, combinationsOf, withdraw, choose, removes}
+use Rattle.model.specs.Fault.{Fault, firstFault, refusal, networkFaults, combinationFaults, instanceFaults, wordsFault, supportsFault, changeFaults, untrue, listFaults, faultsOn, testFaults}
 use Rattle.model.proofs.Bools.{or-false-left, or-false-right}
-use Rattle.model.proofs.Fault.{numbered, refusal-none, refusal-front, refusal-back, no-fault-here, firstFault-front, firstFault-back}
+use Rattle.model.proofs.Fault.{numbered, numbered-lists, refusal-none, refusal-front, refusal-back, no-fault-here, firstFault-front, firstFault-back}
 use Rattle.layout.specs.declared.Shape.{Shape}
-use Rattle.layout.specs.Shape.{relationsOf, instanceOf}
+use Rattle.layout.specs.Shape.{relationsOf, networkOf, instanceOf}
 use Rattle.layout.specs.Setting.{Setting, network, instanceIn, listed, Sound}
 use Rattle.combination.specs.Proper.{below}
 use Rattle.request.specs.declared.checks.Opening.{Opening}
 use Rattle.request.specs.declared.removal.Ids.{Ids}
 use Rattle.request.specs.Removal.{IdsOf, Holds}
 use Rattle.request.proofs.Removed.{withdraw-holds}
-use Rattle.request.specs.Checks.{testFaultsOn, Opened, idsRefusal, variableRefusal}
+use Rattle.request.specs.Checks.{testFaultsOn, Opened, CountsChecked, idsRefusal, variableRefusal}
+use Rattle.request.specs.Answer.{Covered}
+use Rattle.request.specs.Plan.{Opens}
+use Rattle.layout.specs.Starts.{outline}
+use Rattle.layout.proofs.Outline.{untrue-outline}
 use Rattle.layout.proofs.Checked.{opened-instance, opened-sound}
 
 -- ---- Tables
@@ -110,10 +115,10 @@ module _ (S : Shape) (variables values : List ℕ) (m : ℕ) (members : List ℕ
         subst (λ (J : Instance). total (J .network) ≤ wordBits * words) (sym tested-instance) (omega arith)
 
   -- of a change call, which has what test has
-  module _ (numbers : ℕ) (w : Opened o (faultsOn I words numbers filter) (relationsOf S)) where
+  module _ (numbers : ℕ) (w : Opened o (listFaults I words numbers) (relationsOf S)) where
     no-fault : firstFault (testFaultsOn I words ++ (supportsFault I numbers ∷ [])) ≡ none
-    unfolding faultsOn
-    no-fault = opened-none o (faultsOn I words numbers filter) (relationsOf S) w refl z
+    unfolding listFaults
+    no-fault = opened-none o (listFaults I words numbers) (relationsOf S) w refl z
 
     pub checked-tested : Opened o (testFaultsOn I words) (relationsOf S)
     checked-tested =
@@ -126,3 +131,36 @@ module _ (S : Shape) (variables values : List ℕ) (m : ℕ) (members : List ℕ
         let none-many = no-fault-here (supportsFault I numbers) [] (firstFault-back (testFaultsOn I words) (supportsFault I numbers ∷ []) no-fault) in
         subst (λ (J : Instance). (needed (J .network) (combinationsOf J) ≤ maxSupportNumbers) × (needed (J .network) (combinationsOf J) ≤ numbers)) (sym (tested-instance checked-tested))
         (ltb-false maxSupportNumbers k (or-false-left (ltb maxSupportNumbers k) (ltb numbers k) none-many), ltb-false numbers k (or-false-right (ltb maxSupportNumbers k) (ltb numbers k) none-many))
+
+-- ---- The counts checked too
+
+module _ (S : Shape) (variables values : List ℕ) (m : ℕ) (members : List ℕ) (words : ℕ) (o : Opening) (numbers : ℕ) (w : Opened o (listFaults (instanceOf S variables values m members) words numbers) (relationsOf S)) where
+  -- what they ask
+  pub listed-covered : o .fault ≡ 0 → (ws : List ℕ) → words ≤ length ws → Covered (o .starts) ws
+  listed-covered z ws long =
+      let tested = checked-tested S variables values m members words o z numbers w in
+      record {
+        framed = tested-sound S variables values m members words o z tested .laid .framed;
+        enough = omega (arith, tested-enough S variables values m members words o z tested);
+      }
+
+  -- what they give
+  pub counted-opened : (ws counts : List ℕ) (n : Opening) → CountsChecked o ws counts n → Opens n S variables values m members words numbers (untrue (networkOf S variables values) ws counts)
+  unfolding faultsOn
+  counted-opened ws counts n c = go (ℕ-discrete (o .fault) 0)
+    where
+      N : Network
+      N = networkOf S variables values
+
+      fs : List Fault
+      fs = listFaults (instanceOf S variables values m members) words numbers
+
+      go : Dec (o .fault ≡ 0) → Opened n (fs ++ ((18, untrue N ws counts) ∷ [])) (relationsOf S)
+      go (yes z) =
+          let tested = checked-tested S variables values m members words o z numbers w in
+          let same : untrue (outline (o .starts)) ws counts ≡ untrue N ws counts = untrue-outline (asked S variables values m members words o z .lists) ws counts ∙ ap (λ (J : Instance). untrue (J .network) ws counts) (tested-instance S variables values m members words o z tested) in
+          let b = opened-back o fs (relationsOf S) w ((18, untrue N ws counts) ∷ []) (n .fault) (numbered-lists (instanceOf S variables values m members) words numbers) z (c .none z ∙ ap (λ (x : Bool). refusal (firstFault ((18, x) ∷ []))) same) in
+          record { fault = b .fault; starts = λ y. c .starts ∙ b .starts y }
+      go (no d) =
+          let f = opened-front o fs (relationsOf S) w ((18, untrue N ws counts) ∷ []) d in
+          record { fault = c .faulty d ∙ f .fault; starts = λ y. absurd (d (sym (c .faulty d) ∙ y)) }

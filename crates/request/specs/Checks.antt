@@ -6,9 +6,10 @@ use Prim.Native.Nat.{ℕ}
 use lib.Dec.{ltb}
 use Rattle.model.specs.declared.Relation.{Relation}
 use Rattle.model.specs.Limits.{variableCount}
+use Rattle.model.specs.Network.{Network}
 use Rattle.model.specs.Request.{Instance}
-use Rattle.model.specs.Fault.{Fault, firstFault, refusal, instanceFaults, wordsFault}
-use Rattle.layout.specs.Starts.{startsOf}
+use Rattle.model.specs.Fault.{Fault, firstFault, refusal, instanceFaults, wordsFault, untrue}
+use Rattle.layout.specs.Starts.{startsOf, outline}
 use Rattle.request.specs.declared.checks.Opening.{Opening}
 
 -- the faults 2 to 11: of test, on so many live words
@@ -19,6 +20,16 @@ testFaultsOn I words = instanceFaults I ++ (wordsFault (I .network) words ∷ []
 pub record Opened (o : Opening) (faults : List Fault) (Rs : List Relation) : Type 0 where
   pub fault : o .fault ≡ refusal (firstFault faults)
   pub starts : o .fault ≡ 0 → o .starts ≡ startsOf Rs
+
+-- the number of the fault 18, or 0: the counts are not those of the live tuples
+abbrev pub countsRefusal : Network → List ℕ → List ℕ → ℕ
+countsRefusal N words counts = refusal (firstFault ((18, untrue N words counts) ∷ []))
+
+-- n is the opening o once the counts are checked too.
+pub record CountsChecked (o : Opening) (words counts : List ℕ) (n : Opening) : Type 0 where
+  pub starts : n .starts ≡ o .starts
+  pub faulty : (o .fault ≡ 0 → ⊥) → n .fault ≡ o .fault
+  pub none : o .fault ≡ 0 → n .fault ≡ countsRefusal (outline (o .starts)) words counts
 
 -- the number of the fault 13, or 0: the ids are not all below the number of tuples, where bound is the least number above all
 abbrev pub idsRefusal : ℕ → ℕ → ℕ

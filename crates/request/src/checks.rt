@@ -1,7 +1,6 @@
 // The faults of a request, in checking order, and where each relation begins in lists without fault.
 ghost use mathlib.Core.Path.{_≡_};
-ghost use Rattle.model.specs.Request.{filter};
-ghost use Rattle.model.specs.Fault.{networkFaults, instanceFaults, faultsOn};
+ghost use Rattle.model.specs.Fault.{networkFaults, instanceFaults, listFaults};
 ghost use Rattle.layout.specs.Loan.{entry};
 ghost use Rattle.layout.specs.Shape.{relationsOf, networkOf, instanceOf};
 ghost use Rattle.request.specs.Checks.{Opened, testFaultsOn, idsRefusal, variableRefusal};
@@ -90,7 +89,7 @@ pub fn checked(
     words: usize,
     numbers: usize,
 ) -> Opening
-    ensures { λ o. ⌜ Opened o (faultsOn (instanceOf shape (entry variables) (entry values) m (entry members)) words numbers filter) (relationsOf shape) ⌝ }
+    ensures { λ o. ⌜ Opened o (listFaults (instanceOf shape (entry variables) (entry values) m (entry members)) words numbers) (relationsOf shape) ⌝ }
 {
     let opening = test_checked(shape, variables, values, m, members, words);
     if opening.fault != 0 {

@@ -1,14 +1,14 @@
 // What a change call is to do, found before any list that it may write is touched.
+ghost use mathlib.Core.Path.{_≡_};
 ghost use Rattle.model.specs.Request.{filter, choose};
 ghost use Rattle.layout.specs.Loan.{entry};
-ghost use Rattle.layout.specs.Shape.{instanceOf};
-ghost use Rattle.request.specs.Plan.{Planned, PlannedIds};
-use super::checks::checked;
+ghost use Rattle.layout.specs.Setting.{SoundLists};
+ghost use Rattle.request.specs.Plan.{listsFrom, PlansFrom, PlansIds, PlansOn};
+use super::checks::Opening;
 use super::checks::ids_fault;
 use super::checks::variable_fault;
 use super::removal::Ids;
 use super::removal::unlike;
-use layout::Shape;
 use layout::Starts;
 use layout::tuple_count;
 use live::WORDS;
@@ -22,19 +22,10 @@ pub struct Plan {
     pub removed: Words,
 }
 
-// Filter, with so many live words and support numbers.
-pub fn plan_filter(
-    shape: Shape,
-    variables: &[u16],
-    values: &[Value],
-    m: u16,
-    members: &[u16],
-    words: usize,
-    numbers: usize,
-) -> Plan
-    ensures { λ p. ⌜ Planned p (instanceOf shape (entry variables) (entry values) m (entry members)) words numbers filter ⌝ }
+// Filter.
+pub fn plan_filter(opening: Opening) -> Plan
+    ensures { λ p. ⌜ PlansFrom p opening filter ⌝ }
 {
-    let opening = checked(shape, variables, values, m, members, words, numbers);
     let fault = opening.fault;
     let starts = opening.starts;
     let removed = [0; WORDS];
@@ -46,19 +37,9 @@ pub fn plan_filter(
 }
 
 // Withdraw, of the ids gathered.
-pub fn plan_withdraw(
-    shape: Shape,
-    variables: &[u16],
-    values: &[Value],
-    m: u16,
-    members: &[u16],
-    words: usize,
-    numbers: usize,
-    ids: Ids,
-) -> Plan
-    ensures { λ p. ⌜ PlannedIds p (instanceOf shape (entry variables) (entry values) m (entry members)) words numbers ids ⌝ }
+pub fn plan_withdraw(opening: Opening, ids: Ids) -> Plan
+    ensures { λ p. ⌜ PlansIds p opening ids ⌝ }
 {
-    let opening = checked(shape, variables, values, m, members, words, numbers);
     let fault = opening.fault;
     let starts = opening.starts;
     let removed = ids.words;
@@ -78,20 +59,10 @@ pub fn plan_withdraw(
 }
 
 // Choose, of value v under variable x.
-pub fn plan_choose(
-    shape: Shape,
-    variables: &[u16],
-    values: &[Value],
-    m: u16,
-    members: &[u16],
-    words: usize,
-    numbers: usize,
-    x: u16,
-    v: Value,
-) -> Plan
-    ensures { λ p. ⌜ Planned p (instanceOf shape (entry variables) (entry values) m (entry members)) words numbers (choose x v) ⌝ }
+pub fn plan_choose(opening: Opening, variables: &[u16], values: &[Value], x: u16, v: Value) -> Plan
+    requires { ⌜ (opening .fault ≡ 0 → SoundLists (listsFrom opening (now variables) (now values))) ⌝ }
+    ensures { λ p. ⌜ PlansOn p opening (entry variables) (entry values) (choose x v) ⌝ }
 {
-    let opening = checked(shape, variables, values, m, members, words, numbers);
     let fault = opening.fault;
     let starts = opening.starts;
     if fault != 0 {

@@ -2,6 +2,7 @@
 use layout::Shape;
 use model::Value;
 use request::checks::checked;
+use request::counts::opened;
 
 // So many relations, all with this width and tuple count.
 fn uniform(count: usize, width: u16, tuples: u16) -> Shape {
@@ -48,6 +49,24 @@ fn combination(m: u16, members: &[u16]) -> u8 {
     checked(uniform(5, 1, 1), &variables, &values, m, members, 1, 25).fault
 }
 
+// Two relations of two tuples each, of which three live; these counts.
+fn counts(counts: &[u16]) -> u8 {
+    let variables = [0u16; 2];
+    let values = [0u16; 4];
+    let members = [0u16; 0];
+    let words = [11u64; 1];
+    opened(
+        uniform(2, 1, 2),
+        &variables,
+        &values,
+        2,
+        &members,
+        &words,
+        0,
+        counts,
+    ).fault
+}
+
 // A line with the refusal number, 0 where there is none.
 fn say(what: &[u8], fault: u8) {
     io::write_all(1, what);
@@ -67,4 +86,10 @@ fn main() {
     say(b"m = 1: ", combination(1, &[0u16]));
     say(b"m = 4: ", combination(4, &[0u16, 1, 2, 3]));
     say(b"m = 5: ", combination(5, &[0u16, 1, 2, 3, 4]));
+    say(b"2 and 1 living, counted 2 and 1: ", counts(&[2u16, 1]));
+    say(b"2 and 1 living, counted 2 and 0: ", counts(&[2u16, 0]));
+    say(b"2 and 1 living, counted 2 and 2: ", counts(&[2u16, 2]));
+    say(b"2 and 1 living, counted 1 and 2: ", counts(&[1u16, 2]));
+    say(b"2 and 1 living, one count: ", counts(&[2u16]));
+    say(b"2 and 1 living, three counts: ", counts(&[2u16, 1, 0]));
 }

@@ -50,6 +50,7 @@ pub extern "C" fn plain_filter(
     members: &[u16],
     words: &mut [u64],
     supports: &mut [u16],
+    counts: &mut [u16],
     out: &mut [u16; 5],
 ) {
     let answer = filter(
@@ -60,6 +61,7 @@ pub extern "C" fn plain_filter(
         members,
         words,
         supports,
+        counts,
     );
     put(answer, out);
 }
@@ -73,6 +75,7 @@ pub extern "C" fn plain_withdraw(
     members: &[u16],
     words: &mut [u64],
     supports: &mut [u16],
+    counts: &mut [u16],
     ids: &[u16],
     out: &mut [u16; 5],
 ) {
@@ -84,6 +87,7 @@ pub extern "C" fn plain_withdraw(
         members,
         words,
         supports,
+        counts,
         ids,
     );
     put(answer, out);
@@ -99,6 +103,7 @@ pub extern "C" fn plain_choose(
     members: &[u16],
     words: &mut [u64],
     supports: &mut [u16],
+    counts: &mut [u16],
     choice: &[u16; 2],
     out: &mut [u16; 5],
 ) {
@@ -110,6 +115,7 @@ pub extern "C" fn plain_choose(
         members,
         words,
         supports,
+        counts,
         choice[0],
         choice[1],
     );

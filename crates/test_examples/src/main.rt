@@ -37,15 +37,22 @@ fn put_counts(kind: u64, subject: u64, k: Counts) {
     put(k.deleted as u64, b"; marks ");
 }
 
-// A line with the answer's numbers and the first word of the marks.
-fn say(what: &[u8], answer: Answer, word: u64) {
+// A line's beginning: the answer's numbers and the first word of the marks; the counts are to follow.
+fn say_answer(what: &[u8], answer: Answer, word: u64) {
     io::write_all(1, what);
     match answer {
         Answer::Settled(k) => put_counts(0, 64, k),
         Answer::Emptied(r, k) => put_counts(1, r as u64, k),
         Answer::Refused(f) => put(f as u64, b" refused; marks "),
     }
-    put(word, b"\n");
+    put(word, b"; counts ");
+}
+
+// The rest of it, with the counts of three relations.
+fn say_counts(first: u16, second: u16, third: u16) {
+    put(first as u64, b",");
+    put(second as u64, b",");
+    put(third as u64, b"\n");
 }
 
 fn say_verdict(what: &[u8], verdict: Verdict) {
@@ -75,15 +82,22 @@ fn say_numbers(what: &[u8], first: u16, second: u16) {
 }
 
 // P1 and P2: book A filtered, and tested before and after.
-fn filtered(variables: &[u16], values: &[Value], words: &mut [u64; 1], supports: &mut [u16; 40]) {
+fn filtered(
+    variables: &[u16],
+    values: &[Value],
+    words: &mut [u64; 1],
+    supports: &mut [u16; 40],
+    counts: &mut [u16; 3],
+) {
     let shape = triangle(3, 2, 2);
     let pairs = [0u16, 1, 0, 2, 1, 2];
     say_verdict(
         b"fresh A settled: ",
         test(shape, variables, values, 2, &pairs, words),
     );
-    let p1 = filter(shape, variables, values, 2, &pairs, words, supports);
-    say(b"P1: ", p1, words[0]);
+    let p1 = filter(shape, variables, values, 2, &pairs, words, supports, counts);
+    say_answer(b"P1: ", p1, words[0]);
+    say_counts(counts[0], counts[1], counts[2]);
     say_numbers(b"P2: ", supports[8], supports[9]);
     say_verdict(
         b"filtered A settled: ",
@@ -98,6 +112,7 @@ fn withdrawn(
     values: &[Value],
     words: &mut [u64; 1],
     supports: &mut [u16; 40],
+    counts: &mut [u16; 3],
     id: u16,
 ) {
     let pairs = [0u16, 1, 0, 2, 1, 2];
@@ -110,35 +125,91 @@ fn withdrawn(
         &pairs,
         words,
         supports,
+        counts,
         &ids,
     );
-    say(what, answer, words[0]);
+    say_answer(what, answer, words[0]);
+    say_counts(counts[0], counts[1], counts[2]);
 }
 
 // P9: fresh A with value 6 chosen under variable 2; and three comparisons.
-fn chosen(variables: &[u16], values: &[Value], words: &mut [u64; 1], supports: &mut [u16; 40]) {
+fn chosen(
+    variables: &[u16],
+    values: &[Value],
+    words: &mut [u64; 1],
+    supports: &mut [u16; 40],
+    counts: &mut [u16; 3],
+) {
     let shape = triangle(3, 2, 2);
     let pairs = [0u16, 1, 0, 2, 1, 2];
-    let p9 = choose(shape, variables, values, 2, &pairs, words, supports, 2, 6);
-    say(b"P9: ", p9, words[0]);
+    let p9 = choose(
+        shape,
+        variables,
+        values,
+        2,
+        &pairs,
+        words,
+        supports,
+        counts,
+        2,
+        6,
+    );
+    say_answer(b"P9: ", p9, words[0]);
+    say_counts(counts[0], counts[1], counts[2]);
     say_comparison(b"rows 0 and 3: ", compare(shape, variables, values, 0, 3));
     say_comparison(b"rows 2 and 3: ", compare(shape, variables, values, 2, 3));
     say_comparison(b"rows 0 and 2: ", compare(shape, variables, values, 0, 2));
 }
 
-// P1 to P5 and P9, on book A.
+// P1 to P5 and P9, on book A; and its withdrawal with a count that is untrue.
 fn book_a() {
     let variables = [0u16, 1, 1, 2, 2, 0];
     let values = [1u16, 1, 1, 2, 2, 2, 1, 5, 2, 6, 5, 1, 6, 1];
     let mut words = [127u64; 1];
     let mut supports = [7u16; 40];
-    filtered(&variables, &values, &mut words, &mut supports);
-    withdrawn(b"P3: ", &variables, &values, &mut words, &mut supports, 5);
-    withdrawn(b"P4: ", &variables, &values, &mut words, &mut supports, 6);
+    let mut counts = [3u16, 2, 2];
+    filtered(&variables, &values, &mut words, &mut supports, &mut counts);
+    withdrawn(
+        b"P3: ",
+        &variables,
+        &values,
+        &mut words,
+        &mut supports,
+        &mut counts,
+        5,
+    );
+    withdrawn(
+        b"P4: ",
+        &variables,
+        &values,
+        &mut words,
+        &mut supports,
+        &mut counts,
+        6,
+    );
     words[0] = 127;
-    withdrawn(b"P5: ", &variables, &values, &mut words, &mut supports, 5);
+    withdrawn(
+        b"an old count: ",
+        &variables,
+        &values,
+        &mut words,
+        &mut supports,
+        &mut counts,
+        5,
+    );
+    counts = [3u16, 2, 2];
+    withdrawn(
+        b"P5: ",
+        &variables,
+        &values,
+        &mut words,
+        &mut supports,
+        &mut counts,
+        5,
+    );
     words[0] = 127;
-    chosen(&variables, &values, &mut words, &mut supports);
+    counts = [3u16, 2, 2];
+    chosen(&variables, &values, &mut words, &mut supports, &mut counts);
 }
 
 // P6 and P7.
@@ -148,6 +219,7 @@ fn triples() {
     let values = [0u16, 1, 1, 0, 0, 1, 1, 0, 0, 1, 1, 0];
     let mut words = [63u64; 1];
     let mut supports = [7u16; 40];
+    let mut counts = [2u16; 3];
     let p6 = filter(
         shape,
         &variables,
@@ -156,8 +228,10 @@ fn triples() {
         &[0u16, 1, 0, 2, 1, 2],
         &mut words,
         &mut supports,
+        &mut counts,
     );
-    say(b"P6: ", p6, words[0]);
+    say_answer(b"P6: ", p6, words[0]);
+    say_counts(counts[0], counts[1], counts[2]);
     let p7 = filter(
         shape,
         &variables,
@@ -166,8 +240,10 @@ fn triples() {
         &[0u16, 1, 2],
         &mut words,
         &mut supports,
+        &mut counts,
     );
-    say(b"P7: ", p7, words[0]);
+    say_answer(b"P7: ", p7, words[0]);
+    say_counts(counts[0], counts[1], counts[2]);
 }
 
 // P8.
@@ -182,6 +258,7 @@ fn empty_sheet() {
     let none = [0u16; 0];
     let mut words = [1u64; 1];
     let mut supports = [7u16; 1];
+    let mut counts = [1u16, 0];
     let p8 = filter(
         shape,
         &[0u16, 0],
@@ -190,8 +267,10 @@ fn empty_sheet() {
         &none,
         &mut words,
         &mut supports,
+        &mut counts,
     );
-    say(b"P8: ", p8, words[0]);
+    say_answer(b"P8: ", p8, words[0]);
+    say_numbers(b"", counts[0], counts[1]);
 }
 
 fn main() {

@@ -20,13 +20,13 @@ use Rattle.capi.proofs.wakhvosi_compare.Reads as wakhvosi-compare
 
 -- ---- On lists
 
-pub filter-keeps : (κs : _) (a : _) (r : _) (s : _) → changes-filter.Post κs a r s → Keeps (request (instanceOf (a .0) (now (a .1 .0)) (now (a .1 .1 .0)) (a .1 .1 .1 .0) (now (a .1 .1 .1 .1 .0))) (now (a .1 .1 .1 .1 .1 .0)) (now (a .1 .1 .1 .1 .1 .1 .0)) filter) (replied r (now (s .1 .1 .1 .1 .1 .0)) (now (s .1 .1 .1 .1 .1 .1 .0)))
+pub filter-keeps : (κs : _) (a : _) (r : _) (s : _) → changes-filter.Post κs a r s → Keeps (request (instanceOf (a .0) (now (a .1 .0)) (now (a .1 .1 .0)) (a .1 .1 .1 .0) (now (a .1 .1 .1 .1 .0))) (now (a .1 .1 .1 .1 .1 .0)) (now (a .1 .1 .1 .1 .1 .1 .0)) (now (a .1 .1 .1 .1 .1 .1 .1 .0)) filter) (replied r (now (s .1 .1 .1 .1 .1 .0)) (now (s .1 .1 .1 .1 .1 .1 .0)) (now (s .1 .1 .1 .1 .1 .1 .1 .0)))
 filter-keeps κs a r s kept = kept
 
-pub withdraw-keeps : (κs : _) (a : _) (r : _) (s : _) → changes-withdraw.Post κs a r s → Keeps (request (instanceOf (a .0) (now (a .1 .0)) (now (a .1 .1 .0)) (a .1 .1 .1 .0) (now (a .1 .1 .1 .1 .0))) (now (a .1 .1 .1 .1 .1 .0)) (now (a .1 .1 .1 .1 .1 .1 .0)) (withdraw (now (a .1 .1 .1 .1 .1 .1 .1 .0)))) (replied r (now (s .1 .1 .1 .1 .1 .0)) (now (s .1 .1 .1 .1 .1 .1 .0)))
+pub withdraw-keeps : (κs : _) (a : _) (r : _) (s : _) → changes-withdraw.Post κs a r s → Keeps (request (instanceOf (a .0) (now (a .1 .0)) (now (a .1 .1 .0)) (a .1 .1 .1 .0) (now (a .1 .1 .1 .1 .0))) (now (a .1 .1 .1 .1 .1 .0)) (now (a .1 .1 .1 .1 .1 .1 .0)) (now (a .1 .1 .1 .1 .1 .1 .1 .0)) (withdraw (now (a .1 .1 .1 .1 .1 .1 .1 .1 .0)))) (replied r (now (s .1 .1 .1 .1 .1 .0)) (now (s .1 .1 .1 .1 .1 .1 .0)) (now (s .1 .1 .1 .1 .1 .1 .1 .0)))
 withdraw-keeps κs a r s kept = kept
 
-pub choose-keeps : (κs : _) (a : _) (r : _) (s : _) → changes-choose.Post κs a r s → Keeps (request (instanceOf (a .0) (now (a .1 .0)) (now (a .1 .1 .0)) (a .1 .1 .1 .0) (now (a .1 .1 .1 .1 .0))) (now (a .1 .1 .1 .1 .1 .0)) (now (a .1 .1 .1 .1 .1 .1 .0)) (choose (a .1 .1 .1 .1 .1 .1 .1 .0) (a .1 .1 .1 .1 .1 .1 .1 .1 .0))) (replied r (now (s .1 .1 .1 .1 .1 .0)) (now (s .1 .1 .1 .1 .1 .1 .0)))
+pub choose-keeps : (κs : _) (a : _) (r : _) (s : _) → changes-choose.Post κs a r s → Keeps (request (instanceOf (a .0) (now (a .1 .0)) (now (a .1 .1 .0)) (a .1 .1 .1 .0) (now (a .1 .1 .1 .1 .0))) (now (a .1 .1 .1 .1 .1 .0)) (now (a .1 .1 .1 .1 .1 .1 .0)) (now (a .1 .1 .1 .1 .1 .1 .1 .0)) (choose (a .1 .1 .1 .1 .1 .1 .1 .1 .0) (a .1 .1 .1 .1 .1 .1 .1 .1 .1 .0))) (replied r (now (s .1 .1 .1 .1 .1 .0)) (now (s .1 .1 .1 .1 .1 .1 .0)) (now (s .1 .1 .1 .1 .1 .1 .1 .0)))
 choose-keeps κs a r s kept = kept
 
 pub test-tested : (κs : _) (a : _) (r : _) (s : _) → test.Post κs a r s → Tested (instanceOf (a .0) (now (a .1 .0)) (now (a .1 .1 .0)) (a .1 .1 .1 .0) (now (a .1 .1 .1 .1 .0))) (now (a .1 .1 .1 .1 .1 .0)) (verdictNumbers r)
@@ -37,13 +37,13 @@ compare-compared κs a r s kept = kept
 
 -- ---- On bytes
 
-pub filter-keeps-bytes : (κs : _) (a : _) (r : _) (s : _) → wakhvosi-filter.Post κs a r s → KeepsBytes (byteRequest (byteBook now (a .0) (a .1 .0) (a .1 .1 .0) (a .1 .1 .1 .0) (a .1 .1 .1 .1 .0)) (now (a .1 .1 .1 .1 .1 .0)) (now (a .1 .1 .1 .1 .1 .1 .0)) filter) (outcome r (now (s .1 .1 .1 .1 .1 .0)) (now (s .1 .1 .1 .1 .1 .1 .0)))
+pub filter-keeps-bytes : (κs : _) (a : _) (r : _) (s : _) → wakhvosi-filter.Post κs a r s → KeepsBytes (byteRequest (byteBook now (a .0) (a .1 .0) (a .1 .1 .0) (a .1 .1 .1 .0) (a .1 .1 .1 .1 .0)) (now (a .1 .1 .1 .1 .1 .0)) (now (a .1 .1 .1 .1 .1 .1 .0)) filter) (outcome r (now (s .0)) (now (s .1 .1 .1 .1 .1 .0)) (now (s .1 .1 .1 .1 .1 .1 .0)))
 filter-keeps-bytes κs a r s kept = kept
 
-pub withdraw-keeps-bytes : (κs : _) (a : _) (r : _) (s : _) → wakhvosi-withdraw.Post κs a r s → KeepsBytes (byteRequest (byteBook now (a .0) (a .1 .0) (a .1 .1 .0) (a .1 .1 .1 .0) (a .1 .1 .1 .1 .0)) (now (a .1 .1 .1 .1 .1 .0)) (now (a .1 .1 .1 .1 .1 .1 .0)) (withdraw (now (a .1 .1 .1 .1 .1 .1 .1 .0)))) (outcome r (now (s .1 .1 .1 .1 .1 .0)) (now (s .1 .1 .1 .1 .1 .1 .0)))
+pub withdraw-keeps-bytes : (κs : _) (a : _) (r : _) (s : _) → wakhvosi-withdraw.Post κs a r s → KeepsBytes (byteRequest (byteBook now (a .0) (a .1 .0) (a .1 .1 .0) (a .1 .1 .1 .0) (a .1 .1 .1 .1 .0)) (now (a .1 .1 .1 .1 .1 .0)) (now (a .1 .1 .1 .1 .1 .1 .0)) (withdraw (now (a .1 .1 .1 .1 .1 .1 .1 .0)))) (outcome r (now (s .0)) (now (s .1 .1 .1 .1 .1 .0)) (now (s .1 .1 .1 .1 .1 .1 .0)))
 withdraw-keeps-bytes κs a r s kept = kept
 
-pub choose-keeps-bytes : (κs : _) (a : _) (r : _) (s : _) → wakhvosi-choose.Post κs a r s → KeepsBytes (byteRequest (byteBook now (a .0) (a .1 .0) (a .1 .1 .0) (a .1 .1 .1 .0) (a .1 .1 .1 .1 .0)) (now (a .1 .1 .1 .1 .1 .0)) (now (a .1 .1 .1 .1 .1 .1 .0)) (choose (a .1 .1 .1 .1 .1 .1 .1 .0) (a .1 .1 .1 .1 .1 .1 .1 .1 .0))) (outcome r (now (s .1 .1 .1 .1 .1 .0)) (now (s .1 .1 .1 .1 .1 .1 .0)))
+pub choose-keeps-bytes : (κs : _) (a : _) (r : _) (s : _) → wakhvosi-choose.Post κs a r s → KeepsBytes (byteRequest (byteBook now (a .0) (a .1 .0) (a .1 .1 .0) (a .1 .1 .1 .0) (a .1 .1 .1 .1 .0)) (now (a .1 .1 .1 .1 .1 .0)) (now (a .1 .1 .1 .1 .1 .1 .0)) (choose (a .1 .1 .1 .1 .1 .1 .1 .0) (a .1 .1 .1 .1 .1 .1 .1 .1 .0))) (outcome r (now (s .0)) (now (s .1 .1 .1 .1 .1 .0)) (now (s .1 .1 .1 .1 .1 .1 .0)))
 choose-keeps-bytes κs a r s kept = kept
 
 pub test-tested-bytes : (κs : _) (a : _) (r : _) (s : _) → wakhvosi-test.Post κs a r s → TestedBytes (byteBook now (a .0) (a .1 .0) (a .1 .1 .0) (a .1 .1 .1 .0) (a .1 .1 .1 .1 .0)) (now (a .1 .1 .1 .1 .1 .0)) r

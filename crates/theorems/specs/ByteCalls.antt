@@ -1,138 +1,200 @@
 -- Lists of change calls from C on one book's bytes and the bytes of its marks, and what is promised of them.
 --
--- The promises are those of the model, of what the bytes hold: a list of bytes is read as words or numbers by `entries64` and
--- `entries16`, and a packed answer by `unpacked`.
+-- The promises are those of the model, of what the bytes hold: a list of bytes is read as words, numbers or counts by `entries64`,
+-- `entries16` and `countsIn`, and a packed answer by `unpacked`.
 use mathlib.Core.Path.{_≡_}
-use mathlib.Core.Bool.{Bool, true, false, cond}
+use mathlib.Core.Bool.{Bool, true, false, not, cond}
 use mathlib.Core.Option.{Option, none, some}
 use mathlib.Core.Logic.{_⊎_}
 use mathlib.Core.List.{List, [], _∷_, List·Memᴰ}
-use Prim.Native.Nat.{ℕ, _+_, _≤_}
+use Prim.Native.Nat.{ℕ, _+_}
+use lib.Dec.{eqb}
 use lib.ListN.{length}
 use Rattle.model.specs.Lists.{any}
-use Rattle.model.specs.Request.{Change}
+use Rattle.model.specs.Request.{Change, Instance}
+use Rattle.model.specs.Fault.{published}
 use Rattle.model.specs.Reply.{Reply}
-use Rattle.model.specs.Calls.{Call, lentWords, sharedAfter, Made, callsOf, State}
+use Rattle.model.specs.Calls.{Marks, Call, Made, State}
 use Rattle.model.specs.Promises.{Answered, Filtered, StrikeRule, Local, TestAnswered, CompareAnswered}
 use Rattle.wire.specs.Entries.{Bytes, entries16, entries64, bytes}
+use Rattle.encoding.specs.Records.{countsIn, withCounts}
 use Rattle.encoding.specs.Packed.{unpacked, repliedIn, pairIn, Outcome, outcome}
 use Rattle.encoding.specs.Call.{ByteBook, byteNetwork, byteInstance, wholeTest, wholeBook, ByteRequest, byteRequest, isWhole, notWhole, decodedChange, decoded, acceptsBytes, KeepsBytes}
 
 -- ---- What the bytes hold
 
 abbrev pub decodedOutcome : Outcome → Reply
-decodedOutcome o = repliedIn (o .answer) (entries64 (o .marks)) (entries16 (o .supports))
+decodedOutcome o = repliedIn (o .answer) (entries64 (o .marks)) (entries16 (o .supports)) (countsIn (o .sheets))
+
+-- Of the records' bytes, which are as many as lent, only those of the counts may differ.
+pub record OnlyCounts (lent after : List ℕ) : Type 0 where
+  pub long : length after ≡ length lent
+  pub same : after ≡ withCounts lent (countsIn after)
+  pub are-bytes : Bytes after
 
 -- ---- One call
 
 -- Every byte is as lent.
 abbrev pub Untouched : ByteRequest → Outcome → Type 0
-Untouched q o = (o .marks ≡ q .marks) × (o .supports ≡ q .supports)
+Untouched q o = (o .sheets ≡ q .book .sheets) × (o .marks ≡ q .marks) × (o .supports ≡ q .supports)
+
+-- a refusal number of the calls from C: 1, or one of those on lists
+abbrev pub PublishedByte : ℕ → Type 0
+PublishedByte n = (n ≡ 1) ⊎ (published n ≡ true)
 
 -- Mission points 1 and 2, of a request q and its outcome o.
 pub record ByteAnswered (q : ByteRequest) (o : Outcome) : Type 0 where
   -- number 1 comes before all others
-  pub not-whole : isWhole q ≡ false → o ≡ outcome notWhole (q .marks) (q .supports)
+  pub not-whole : isWhole q ≡ false → o ≡ outcome notWhole (q .book .sheets) (q .marks) (q .supports)
   pub whole : isWhole q ≡ true → Answered (decoded q) (decodedOutcome o)
-  -- a refusal has one of the numbers 1 to 14 and changes no lent byte
-  pub refused : (unpacked (o .answer)) .kind ≡ 2 → Untouched q o × (1 ≤ (unpacked (o .answer)) .subject) × ((unpacked (o .answer)) .subject ≤ 14)
+  -- a refusal has one of the numbers 1 to 14 and 18, and changes no lent byte
+  pub refused : (unpacked (o .answer)) .kind ≡ 2 → Untouched q o × PublishedByte ((unpacked (o .answer)) .subject)
   pub filtered : acceptsBytes q ≡ true → Filtered (decoded q) (decodedOutcome o)
-  -- the bytes are those of the words and the numbers that they hold
-  pub bytes-left : acceptsBytes q ≡ true → (o .marks ≡ bytes 8 (entries64 (o .marks))) × (o .supports ≡ bytes 2 (entries16 (o .supports)))
+  -- the bytes are those of the counts, the words and the numbers that they hold, and every other byte of the records is as lent
+  pub bytes-left : acceptsBytes q ≡ true → OnlyCounts (q .book .sheets) (o .sheets) × (o .marks ≡ bytes 8 (entries64 (o .marks))) × (o .supports ≡ bytes 2 (entries16 (o .supports)))
 
 -- ---- Lists of calls
 
--- One call: a book, marks of its own or else the shared ones, a support list and a change, all as bytes.
+-- The bytes that are handed from call to call: the records, which hold the live counts, and the marks.
+pub record ByteMarks : Type 0 where
+  pub sheets : List ℕ
+  pub marks : List ℕ
+
+-- The rest of a book, which is only read.
+pub record ByteRest : Type 0 where
+  pub questions : List ℕ
+  pub codes : List ℕ
+  pub m : ℕ
+  pub combinations : List ℕ
+
+-- the book of both
+abbrev pub bookOf : ByteRest → List ℕ → ByteBook
+bookOf R sheets =
+    record { sheets = sheets; questions = R .questions; codes = R .codes; m = R .m; combinations = R .combinations }
+
+-- One call: records and marks of its own or else the shared ones, the rest of a book, a support list and a change, all as bytes.
 pub record ByteCall : Type 0 where
-  pub book : ByteBook
-  pub own : Option (List ℕ)
+  pub rest : ByteRest
+  pub own : Option ByteMarks
   pub supports : List ℕ
   pub change : Change
 
--- the call's request while the shared marks are these
-abbrev pub requestOf : List ℕ → ByteCall → ByteRequest
-requestOf marks c = byteRequest (c .book) (lentWords (c .own) marks) (c .supports) (c .change)
+abbrev pub lentBytes : Option ByteMarks → ByteMarks → ByteMarks
+lentBytes none shared = shared
+lentBytes (some own) shared = own
+
+-- the call's request while the shared bytes are these
+abbrev pub requestOf : ByteMarks → ByteCall → ByteRequest
+requestOf s c =
+    let lent = lentBytes (c .own) s in
+    byteRequest (bookOf (c .rest) (lent .sheets)) (lent .marks) (c .supports) (c .change)
+
+-- what the shared bytes are after a call that leaves `after` in those lent to it
+abbrev pub sharedBytes : Option ByteMarks → ByteMarks → ByteMarks → ByteMarks
+sharedBytes none shared after = after
+sharedBytes (some own) shared after = shared
+
+-- the records and marks that an outcome leaves
+abbrev pub leftIn : Outcome → ByteMarks
+leftIn o = record { sheets = o .sheets; marks = o .marks }
 
 -- A call that was made, with its outcome.
 abbrev pub ByteMade : Type 0
 ByteMade = ByteCall × Outcome
 
--- The shared marks, how many tuples were withdrawn and deleted so far, and the last accepted call with its outcome.
+-- it was accepted, which is to say that it was not refused
+abbrev pub isAcceptedByte : ByteMade → Bool
+isAcceptedByte c = not (eqb ((unpacked ((c .1) .answer)) .kind) 2)
+
+-- The shared bytes, how many tuples were withdrawn and deleted so far, and the last accepted call with its outcome.
 pub record ByteState : Type 0 where
-  pub marks : List ℕ
+  pub shared : ByteMarks
   pub gone : ℕ
   pub last : Option ByteMade
 
-abbrev pub startBytes : List ℕ → ByteState
-startBytes marks = record { marks = marks; gone = 0; last = none }
+abbrev pub startBytes : ByteMarks → ByteState
+startBytes s = record { shared = s; gone = 0; last = none }
 
 abbrev pub afterBytes : ByteState → ByteMade → ByteState
 afterBytes st c =
     record {
-      marks = sharedAfter ((c .0) .own) (st .marks) ((c .1) .marks);
+      shared = sharedBytes ((c .0) .own) (st .shared) (leftIn (c .1));
       gone = st .gone + ((unpacked ((c .1) .answer)) .withdrawn + (unpacked ((c .1) .answer)) .deleted);
-      last = cond (acceptsBytes (requestOf (st .marks) (c .0))) (some c) (st .last);
+      last = cond (isAcceptedByte c) (some c) (st .last);
     }
 
 abbrev pub afterAllBytes : ByteState → List ByteMade → ByteState
 afterAllBytes st [] = st
 afterAllBytes st (c ∷ cs) = afterAllBytes (afterBytes st c) cs
 
--- each call is given the marks that the last one left, and keeps its contract
+-- each call is given the bytes that the last one left, and keeps its contract
 abbrev pub AllKeepBytes : ByteState → List ByteMade → Type 0
 AllKeepBytes st [] = Unit {0}
-AllKeepBytes st (c ∷ cs) = KeepsBytes (requestOf (st .marks) (c .0)) (c .1) × AllKeepBytes (afterBytes st c) cs
+AllKeepBytes st (c ∷ cs) = KeepsBytes (requestOf (st .shared) (c .0)) (c .1) × AllKeepBytes (afterBytes st c) cs
 
--- The calls are on the shared bytes, but a call that is refused may be on others: other bytes of the book, or marks of its own.
-abbrev pub ProperBytes : ByteBook → List ℕ → List ByteMade → Type 0
-ProperBytes B marks made =
-    (c : ByteMade) → List·Memᴰ c made → (((c .0) .book ≡ B) × ((c .0) .own ≡ none)) ⊎ (acceptsBytes (requestOf marks (c .0)) ≡ false)
+-- The calls are on the shared bytes, but a call that was refused may be on others: another book, or records and marks of its own.
+abbrev pub ProperBytes : ByteRest → List ByteMade → Type 0
+ProperBytes R made =
+    (c : ByteMade) → List·Memᴰ c made → (((c .0) .rest ≡ R) × ((c .0) .own ≡ none)) ⊎ (isAcceptedByte c ≡ false)
+
+abbrev pub AreBytes : ByteMarks → Type 0
+AreBytes s = Bytes (s .sheets) × Bytes (s .marks)
 
 -- the lists that the calls may write are lists of bytes
-abbrev pub AllBytes : List ℕ → List ByteMade → Type 0
-AllBytes marks made = (c : ByteMade) → List·Memᴰ c made → Bytes (lentWords ((c .0) .own) marks) × Bytes ((c .0) .supports)
+abbrev pub AllBytes : ByteMarks → List ByteMade → Type 0
+AllBytes s made = (c : ByteMade) → List·Memᴰ c made → AreBytes (lentBytes ((c .0) .own) s) × Bytes ((c .0) .supports)
 
-abbrev pub anyAcceptedBytes : List ℕ → List ByteMade → Bool
-anyAcceptedBytes marks made = any (λ (c : ByteMade). acceptsBytes (requestOf marks (c .0))) made
+-- some call of the list was accepted
+abbrev pub anyAcceptedBytes : List ByteMade → Bool
+anyAcceptedBytes made = any isAcceptedByte made
 
 -- ---- .. and what their bytes hold
 
-abbrev pub decodedMarks : Option (List ℕ) → Option (List ℕ)
-decodedMarks none = none
-decodedMarks (some marks) = some (entries64 marks)
+abbrev pub decodedMarks : ByteMarks → Marks
+decodedMarks s = record { words = entries64 (s .marks); counts = countsIn (s .sheets) }
 
-abbrev pub decodedCall : ByteCall → Call
-decodedCall c =
+abbrev pub decodedOwn : Option ByteMarks → Option Marks
+decodedOwn none = none
+decodedOwn (some own) = some (decodedMarks own)
+
+-- the instance of a call while the shared bytes are these
+abbrev pub instanceOn : ByteMarks → ByteCall → Instance
+instanceOn s c = byteInstance (requestOf s c .book)
+
+-- the shared bytes at the start say which relations there are, for all calls
+abbrev pub decodedCall : ByteMarks → ByteCall → Call
+decodedCall s c =
     record {
-      given = byteInstance (c .book);
-      own = decodedMarks (c .own);
+      given = instanceOn s c;
+      own = decodedOwn (c .own);
       supports = entries16 (c .supports);
       change = decodedChange (c .change);
     }
 
-abbrev pub decodedMade : ByteMade → Made
-decodedMade c = (decodedCall (c .0), decodedOutcome (c .1))
+abbrev pub decodedMade : ByteMarks → ByteMade → Made
+decodedMade s c = (decodedCall s (c .0), decodedOutcome (c .1))
 
 -- the calls whose lists are all whole; the others are refused with number 1
-abbrev pub decodedAll : List ℕ → List ByteMade → List Made
-decodedAll marks [] = []
-decodedAll marks (c ∷ cs) = cond (isWhole (requestOf marks (c .0))) (decodedMade c ∷ decodedAll marks cs) (decodedAll marks cs)
+abbrev pub decodedAll : ByteMarks → List ByteMade → List Made
+decodedAll s [] = []
+decodedAll s (c ∷ cs) = cond (isWhole (requestOf s (c .0))) (decodedMade s c ∷ decodedAll s cs) (decodedAll s cs)
 
-abbrev pub decodedLast : Option ByteMade → Option Made
-decodedLast none = none
-decodedLast (some c) = some (decodedMade c)
+abbrev pub decodedLast : ByteMarks → Option ByteMade → Option Made
+decodedLast s none = none
+decodedLast s (some c) = some (decodedMade s c)
 
-abbrev pub decodedState : ByteState → State
-decodedState st = record { words = entries64 (st .marks); gone = st .gone; last = decodedLast (st .last) }
+abbrev pub decodedState : ByteMarks → ByteState → State
+decodedState s st = record { marks = decodedMarks (st .shared); gone = st .gone; last = decodedLast s (st .last) }
 
 -- Mission point 3 as a single claim about a list of calls made on one book's bytes and the bytes of its marks.
-pub record ByteClaim (B : ByteBook) (marks : List ℕ) (made : List ByteMade) : Type 0 where
-  pub rule : anyAcceptedBytes marks made ≡ true → StrikeRule (byteInstance B) (entries64 marks) (callsOf (decodedAll marks made)) (decodedState (afterAllBytes (startBytes marks) made))
+pub record ByteClaim (R : ByteRest) (s : ByteMarks) (made : List ByteMade) : Type 0 where
+  pub rule : anyAcceptedBytes made ≡ true → StrikeRule (byteInstance (bookOf R (s .sheets))) (decodedMarks s) (decodedAll s made) (decodedState s (afterAllBytes (startBytes s) made))
   -- no accepted call: every byte of every call is as lent
-  pub nothing : anyAcceptedBytes marks made ≡ false → (afterAllBytes (startBytes marks) made ≡ startBytes marks) × ((c : ByteMade) → List·Memᴰ c made → Untouched (requestOf marks (c .0)) (c .1))
-  pub local : Local (byteInstance B) (entries64 marks) (callsOf (decodedAll marks made)) (decodedState (afterAllBytes (startBytes marks) made))
-  -- as many marks as at the start, and bytes
-  pub bytes-left : (length ((afterAllBytes (startBytes marks) made) .marks) ≡ length marks) × Bytes ((afterAllBytes (startBytes marks) made) .marks)
+  pub nothing : anyAcceptedBytes made ≡ false → (afterAllBytes (startBytes s) made ≡ startBytes s) × ((c : ByteMade) → List·Memᴰ c made → Untouched (requestOf s (c .0)) (c .1))
+  pub local : Local (byteInstance (bookOf R (s .sheets))) (decodedMarks s) (decodedAll s made) (decodedState s (afterAllBytes (startBytes s) made))
+  -- the records but for their counts as at the start, as many marks, and all bytes
+  pub sheets-left : OnlyCounts (s .sheets) ((afterAllBytes (startBytes s) made) .shared .sheets)
+  pub marks-left : (length ((afterAllBytes (startBytes s) made) .shared .marks) ≡ length (s .marks)) × Bytes ((afterAllBytes (startBytes s) made) .shared .marks)
 
 -- ---- Test and compare
 

@@ -30,6 +30,7 @@ use Rattle.model.specs.Network.{Network}
 use Rattle.model.specs.Agreement
 use Rattle.model.specs.Combination
 use Rattle.model.specs.Support
+use Rattle.model.specs.LiveCounts
 use Rattle.model.specs.Consistency
 use Rattle.model.specs.LiveWords
 use Rattle.model.specs.Request
@@ -38,7 +39,7 @@ use Rattle.model.specs.Fault
 use Rattle.model.specs.Fault.{accepts}
 use Rattle.model.specs.Reply
 use Rattle.model.specs.Reply.{Reply, reply, answerNumbers, verdictNumbers, testReply, comparisonNumbers, compareReply, replied, Keeps, Tested, Compared}
-use Rattle.model.specs.Calls.{Proper, Made, callsOf, start, AllKeep}
+use Rattle.model.specs.Calls.{Marks, Proper, Made, start, AllKeep}
 use Rattle.model.specs.Promises.{Answered, Filtered, Claim, TestAnswered, CompareAnswered}
 use Rattle.model.specs.Examples.{relation, networkA, triangle, crossed, pairs, asked, next, p1, p3, p7}
 use Rattle.model.proofs.Mission.{answered, filtering, claim, test-answered, compare-answered}
@@ -51,14 +52,14 @@ module _ (q : Request) (p : Reply) (kept : Keeps q p) where
   pub point-1 : Answered q p
   point-1 = subst (Answered q) (sym kept) (answered q)
 
-  -- the tuples left are the largest consistent set inside those given, no solution is lost, the counts add up
+  -- the tuples left are the largest consistent set inside those given, no solution is lost, the counts are true and add up
   pub point-2 : accepts q ≡ true → Filtered q p
   point-2 e = subst (Filtered q) (sym kept) (filtering q e)
 
--- ---- Point 3, of a list of change calls on one instance and its words, of which refused ones may be on others
+-- ---- Point 3, of a list of change calls on one instance and its live words and counts, of which refused ones may be on others
 
 -- the strike rule, that a list without an accepted call writes nothing, and locality
-pub point-3 : (I : Instance) (ws : List ℕ) (made : List Made) → Proper I ws (callsOf made) → AllKeep (start ws) made → Claim I ws made
+pub point-3 : (I : Instance) (s : Marks) (made : List Made) → Proper I made → AllKeep (start s) made → Claim I s made
 point-3 = claim
 
 -- ---- Test and compare
@@ -72,7 +73,7 @@ test-promise I ws n kept = subst (TestAnswered I ws) (sym kept) (test-answered I
 pub compare-promise : (N : Network) (g h : ℕ) (n : ℕ × ℕ) → Compared N g h n → CompareAnswered N g h n
 compare-promise N g h n kept = subst (CompareAnswered N g h) (sym kept) (compare-answered N g h)
 
--- ---- What the contracts rule out: of each call, two wrong programs that would break its contract on an example
+-- ---- What the contracts rule out: of each call, two or three wrong programs that would break its contract on an example
 
 -- value 6 chosen under variable 2, on fresh book A
 p9 : Request
@@ -86,39 +87,44 @@ pairsOf : Network → Instance
 pairsOf N = record { network = N; m = 2; members = pairs }
 
 -- what the definitions give
-right : ((reply p1) .words ≡ 123 ∷ []) × (((reply p7) .answer) .kind ≡ 1) × ((reply p3) .words ≡ 82 ∷ []) × (((reply twice) .answer) .withdrawn ≡ 1) × ((reply p9) .words ≡ 82 ∷ []) × (((reply p9) .answer) .left ≡ 3) × (testReply (pairsOf networkA) (127 ∷ []) ≡ (0, 0)) × (testReply (p7 .given) (63 ∷ []) ≡ (0, 0)) × (compareReply networkA 0 3 ≡ (1, 64)) × (compareReply networkA 2 3 ≡ (0, 1)) × (compareReply networkA 0 2 ≡ (0, 0)) × (compareReply crossed 0 3 ≡ (0, 4))
-unfolding p9 twice pairsOf relation networkA triangle crossed pairs asked next p1 p3 p7 TupleSet.closure Network.relationOf Network.indexOf Network.scopeOf Network.valuesAt Network.tupleOf Agreement.isAny Agreement.fit Agreement.clash Agreement.clashes Agreement.cellsOf Agreement.firstClash Agreement.agree Agreement.share Combination.combinations Combination.connected Support.candidates Support.isSupport Support.supports Support.firstSupport Consistency.supported Consistency.isConsistent Consistency.filtered Consistency.supportList Consistency.needed LiveWords.bit LiveWords.isSet LiveWords.isLive LiveWords.living LiveWords.word LiveWords.written Request.removes Fault.faultsOn Fault.faults Fault.testFaults Fault.compareFaults Reply.lowestEmpty Reply.answerFor Reply.remainder Reply.countsFor Reply.leaving Reply.accepted Reply.reply Reply.testReply Reply.compareReply
-right = (refl, refl, refl, refl, refl, refl, refl, refl, refl, refl, refl, refl)
+right : ((reply p1) .words ≡ 123 ∷ []) × (((reply p7) .answer) .kind ≡ 1) × ((reply p3) .words ≡ 82 ∷ []) × (((reply twice) .answer) .withdrawn ≡ 1) × ((reply p9) .words ≡ 82 ∷ []) × (((reply p9) .answer) .left ≡ 3) × (testReply (pairsOf networkA) (127 ∷ []) ≡ (0, 0)) × (testReply (p7 .given) (63 ∷ []) ≡ (0, 0)) × (compareReply networkA 0 3 ≡ (1, 64)) × (compareReply networkA 2 3 ≡ (0, 1)) × (compareReply networkA 0 2 ≡ (0, 0)) × (compareReply crossed 0 3 ≡ (0, 4)) × ((reply p1) .counts ≡ 2 ∷ 2 ∷ 2 ∷ [])
+unfolding p9 twice pairsOf relation networkA triangle crossed pairs asked next p1 p3 p7 TupleSet.closure Network.relationOf Network.indexOf Network.scopeOf Network.valuesAt Network.tupleOf Agreement.isAny Agreement.fit Agreement.clash Agreement.clashes Agreement.cellsOf Agreement.firstClash Agreement.agree Agreement.share Combination.combinations Combination.connected Support.candidates Support.isSupport Support.supports Support.firstSupport Consistency.supported Consistency.isConsistent Consistency.filtered Consistency.supportList Consistency.needed LiveWords.bit LiveWords.isSet LiveWords.isLive LiveWords.living LiveWords.word LiveWords.written Request.removes LiveCounts.liveCounts Fault.untrue Fault.listFaults Fault.faultsOn Fault.faults Fault.testFaults Fault.compareFaults Reply.lowestEmpty Reply.answerFor Reply.remainder Reply.countsFor Reply.leaving Reply.accepted Reply.reply Reply.testReply Reply.compareReply
+right = (refl, refl, refl, refl, refl, refl, refl, refl, refl, refl, refl, refl, refl)
 
 -- a filter that touches nothing
-filter-touches-nothing : (a : Answer) (supports : List ℕ) → Keeps p1 (replied a (127 ∷ []) supports) → ⊥
-filter-touches-nothing a supports kept =
+filter-touches-nothing : (a : Answer) (supports counts : List ℕ) → Keeps p1 (replied a (127 ∷ []) supports counts) → ⊥
+filter-touches-nothing a supports counts kept =
     eqb-false 127 123 refl (ap (λ (p : Reply). getD (p .words) 0 0) kept ∙ ap (λ (ws : List ℕ). getD ws 0 0) (right .0))
 
 -- .. that compares a candidate only with the tuple that seeks support, and so says Settled
-filter-seeking-tuple-only : (k : Counts) (words supports : List ℕ) → Keeps p7 (replied (Settled k) words supports) → ⊥
-filter-seeking-tuple-only k words supports kept =
+filter-seeking-tuple-only : (k : Counts) (words supports counts : List ℕ) → Keeps p7 (replied (Settled k) words supports counts) → ⊥
+filter-seeking-tuple-only k words supports counts kept =
     eqb-false 0 1 refl (ap (λ (p : Reply). (p .answer) .kind) kept ∙ right .1)
 
+-- .. that leaves a relation's count as it was
+filter-count-left : (a : Answer) (words supports : List ℕ) → Keeps p1 (replied a words supports (3 ∷ 2 ∷ 2 ∷ [])) → ⊥
+filter-count-left a words supports kept =
+    eqb-false 3 2 refl (ap (λ (p : Reply). getD (p .counts) 0 0) kept ∙ ap (λ (ns : List ℕ). getD ns 0 0) (right .12))
+
 -- a withdraw that leaves later marks unfiltered
-withdraw-unfiltered : (a : Answer) (supports : List ℕ) → Keeps p3 (replied a (91 ∷ []) supports) → ⊥
-withdraw-unfiltered a supports kept =
+withdraw-unfiltered : (a : Answer) (supports counts : List ℕ) → Keeps p3 (replied a (91 ∷ []) supports counts) → ⊥
+withdraw-unfiltered a supports counts kept =
     eqb-false 91 82 refl (ap (λ (p : Reply). getD (p .words) 0 0) kept ∙ ap (λ (ws : List ℕ). getD ws 0 0) (right .2))
 
 -- .. that counts the tuples withdrawn from the list
-withdraw-counts-listed : (a : Answer) (words supports : List ℕ) → (answerNumbers a) .withdrawn ≡ 2 → Keeps twice (replied a words supports) → ⊥
-withdraw-counts-listed a words supports n kept =
+withdraw-counts-listed : (a : Answer) (words supports counts : List ℕ) → (answerNumbers a) .withdrawn ≡ 2 → Keeps twice (replied a words supports counts) → ⊥
+withdraw-counts-listed a words supports counts n kept =
     let e : (answerNumbers a) .withdrawn ≡ 1 = ap (λ (p : Reply). (p .answer) .withdrawn) kept ∙ right .3 in
     omega arith
 
 -- a choose that withdraws the tuples with the value chosen
-choose-removes-equal : (a : Answer) (supports : List ℕ) → Keeps p9 (replied a (41 ∷ []) supports) → ⊥
-choose-removes-equal a supports kept =
+choose-removes-equal : (a : Answer) (supports counts : List ℕ) → Keeps p9 (replied a (41 ∷ []) supports counts) → ⊥
+choose-removes-equal a supports counts kept =
     eqb-false 41 82 refl (ap (λ (p : Reply). getD (p .words) 0 0) kept ∙ ap (λ (ws : List ℕ). getD ws 0 0) (right .4))
 
 -- .. that only strikes, and does not filter
-choose-unfiltered : (a : Answer) (words supports : List ℕ) → (answerNumbers a) .left ≡ 5 → Keeps p9 (replied a words supports) → ⊥
-choose-unfiltered a words supports n kept =
+choose-unfiltered : (a : Answer) (words supports counts : List ℕ) → (answerNumbers a) .left ≡ 5 → Keeps p9 (replied a words supports counts) → ⊥
+choose-unfiltered a words supports counts n kept =
     let e : (answerNumbers a) .left ≡ 3 = ap (λ (p : Reply). (p .answer) .left) kept ∙ right .5 in
     omega arith
 

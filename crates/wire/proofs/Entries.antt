@@ -118,14 +118,19 @@ value-below (suc k) (b ∷ bs) h =
     rw pow-succ' (omega arith)
 
 -- a part of a list of bytes is one
-take-bytes : (k : ℕ) (bs : List ℕ) → Bytes bs → Bytes (take k bs)
+pub take-bytes : (k : ℕ) (bs : List ℕ) → Bytes bs → Bytes (take k bs)
 take-bytes zero bs h i = omega arith
 take-bytes (suc k) [] h i = omega arith
 take-bytes (suc k) (b ∷ bs) h zero = h 0
 take-bytes (suc k) (b ∷ bs) h (suc i) = take-bytes k bs (λ j. h (suc j)) i
 
-drop-bytes : (k : ℕ) (bs : List ℕ) → Bytes bs → Bytes (drop k bs)
+pub drop-bytes : (k : ℕ) (bs : List ℕ) → Bytes bs → Bytes (drop k bs)
 drop-bytes k bs h i = rw getD-drop (h (k + i))
+
+pub append-bytes : (bs cs : List ℕ) → Bytes bs → Bytes cs → Bytes (bs ++ cs)
+append-bytes [] cs h l i = l i
+append-bytes (b ∷ bs) cs h l zero = h 0
+append-bytes (b ∷ bs) cs h l (suc i) = append-bytes bs cs (λ j. h (suc j)) l i
 
 pub entries-below : (k n : ℕ) (bs : List ℕ) → Bytes bs → (i : ℕ) → getD (entries k n bs) i 0 < 256 ^ k
 entries-below k zero bs h i = one-le-pow k 256 (omega arith)
@@ -154,7 +159,7 @@ pub bytes-bytes : (k : ℕ) (xs : List ℕ) → Bytes (bytes k xs)
 bytes-bytes k [] i = omega arith
 bytes-bytes k (x ∷ xs) i = bytesOf-bytes k x (bytes k xs) (bytes-bytes k xs) i
 
-drop-take : (j k : ℕ) (bs : List ℕ) → drop j (take (j + k) bs) ≡ take k (drop j bs)
+pub drop-take : (j k : ℕ) (bs : List ℕ) → drop j (take (j + k) bs) ≡ take k (drop j bs)
 drop-take zero k bs = rw zero-add
 drop-take (suc j) k [] = rw (suc-add, take-nil)
 drop-take (suc j) k (b ∷ bs) = rw suc-add (drop-take j k bs)

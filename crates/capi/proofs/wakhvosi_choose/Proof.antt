@@ -11,7 +11,7 @@ change-call-requires c κs = refl
 
 returns : tie.Need-returns
 unfolding changeIn
-returns c = c .before .before .before .before .change-call .ensures
+returns c = c .before .before .before .before .before .before .change-call .ensures
 
 pub wakhvosi-choose-spec : {M : Type 1} → statement M
 wakhvosi-choose-spec =
@@ -19,5 +19,5 @@ wakhvosi-choose-spec =
     (tie.spec
     (λ c. search needs)
     change-call-requires
-    (λ c. search needs) (λ c. search needs)
+    (λ c. search needs) (λ c. search needs) (λ c. search needs)
     returns)

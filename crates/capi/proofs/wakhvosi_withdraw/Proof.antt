@@ -20,11 +20,11 @@ returns c =
 
 change-call-requires : tie.Need-change-call-requires
 unfolding changeIn
-change-call-requires c κs = eq-eqb _ _ (c .before .before .if1 .left)
+change-call-requires c κs = eq-eqb _ _ (c .before .before .before .if1 .left)
 
 returns-2 : tie.Need-returns-2
 unfolding changeIn
-returns-2 c = c .before .before .before .before .change-call .ensures
+returns-2 c = c .before .before .before .before .before .before .change-call .ensures
 
 pub wakhvosi-withdraw-spec : {M : Type 1} → statement M
 wakhvosi-withdraw-spec =
@@ -32,5 +32,5 @@ wakhvosi-withdraw-spec =
     (tie.spec
     returns
     change-call-requires
-    (λ c. search needs) (λ c. search needs)
+    (λ c. search needs) (λ c. search needs) (λ c. search needs)
     returns-2)

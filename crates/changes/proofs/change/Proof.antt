@@ -27,7 +27,7 @@ given s =
     }
 
 abbrev start : tie.After-tuple-count → tie.Start
-start c = c .before .before .before .before .before .before
+start c = c .before .before .before .before .before .before .before
 
 -- `total` is the number of tuples
 all : (c : tie.After-tuple-count) → c .tuple-count .result ≡ total (network (given (start c)))
@@ -82,23 +82,30 @@ remove-requires : tie.Need-remove-requires
 remove-requires c κs = let t = c .before .before .before in subst (Room (start t .args .words .now) (start t .args .removed .now)) (sym (all t)) (start t .pre .removal)
 
 count-requires-2 : tie.Need-count-requires-2
-count-requires-2 c κs = let r = c .before .before .before in counts (first r) (cut r) (cut-enough _ _ _ _ (entry r .pre) (cut r) (cuts r))
+count-requires-2 c κs = let r = c .before .before .before in counts (first r) (cut r) (cut-enough _ _ _ _ _ (entry r .pre) (cut r) (cuts r))
 
 filter-requires : tie.Need-filter-requires
-filter-requires c κs = let r = c .before .before .before .before .before .before in (entry r .pre .sound, cut-room _ _ _ _ (entry r .pre) (cut r) (cuts r))
+filter-requires c κs = let r = c .before .before .before .before .before .before in (entry r .pre .sound, cut-room _ _ _ _ _ (entry r .pre) (cut r) (cuts r))
+
+count-all-requires : tie.Need-count-all-requires
+count-all-requires c κs =
+    let f = c .before .before .before .before .before .before in
+    let r = removed f in
+    (final-covered _ _ _ _ _ (entry r .pre) (cut r) (cuts r) (final f) (numbers f) (f .filter .ensures), entry r .pre .tally)
 
 answer-for-requires : tie.Need-answer-for-requires
 answer-for-requires c κs =
-    let f = c .before .before .before .before .before in
+    let f = c .before .before .before .before .before .before .before .before .before .before in
     let r = removed f in
-    let fewer = final-fewer _ _ _ _ (entry r .pre) (cut r) (cuts r) (final f) (numbers f) (f .filter .ensures) _ _ (before r) (after f) in
-    (final-covered _ _ _ _ (entry r .pre) (cut r) (cuts r) (final f) (numbers f) (f .filter .ensures), fewer .0, fewer .1)
+    let fewer = final-fewer _ _ _ _ _ (entry r .pre) (cut r) (cuts r) (final f) (numbers f) (f .filter .ensures) _ _ (before r) (after f) in
+    (final-covered _ _ _ _ _ (entry r .pre) (cut r) (cuts r) (final f) (numbers f) (f .filter .ensures), fewer .0, fewer .1)
 
 returns : tie.Need-returns
 returns c =
-    let f = c .before .before .before .before .before .before in
+    let counted = c .before .before .before .before in
+    let f = counted .before .before .before .before .before .before .before in
     let r = removed f in
-    final-reply _ _ _ _ (entry r .pre) (cut r) (cuts r) (final f) (numbers f) (f .filter .ensures) _ _ (before r) (after f) (c .answer-for .result) (c .answer-for .ensures)
+    final-reply _ _ _ _ _ (entry r .pre) (cut r) (cuts r) (final f) (numbers f) (f .filter .ensures) _ _ (before r) (after f) (c .answer-for .result) (c .answer-for .ensures) _ (counted .count-all .ensures)
 
 pub change-spec : {M : Type 1} → statement M
 change-spec =
@@ -109,6 +116,7 @@ change-spec =
     remove-requires
     count-requires-2
     filter-requires
+    count-all-requires
     answer-for-requires
-    (λ c. search needs) (λ c. search needs)
+    (λ c. search needs) (λ c. search needs) (λ c. search needs)
     returns)

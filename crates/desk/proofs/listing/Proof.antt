@@ -1,6 +1,6 @@
 -- `listing` writes the refusal of a text that is not in the form, and the reply to any other.
 -- From what the reading, the refusal and the filter's listing ensure.
-use mathlib.Core.Path.{_≡_, sym, ap, _∙_}
+use mathlib.Core.Path.{_≡_, sym, ap, subst, _∙_}
 use mathlib.Core.Bool.{Bool, true, false, cond}
 use mathlib.Core.Option.{Option, none, some}
 use mathlib.Core.List.{List, _++_}
@@ -8,7 +8,11 @@ use Prim.Native.Nat.{ℕ, _≤_}
 use borrow.Author.Tests.{not-true, not-false}
 use lib.ListN.{length, take, drop}
 use lib.Seq.{length-take-le}
+use Rattle.model.specs.Limits.{maxRelations}
 use Rattle.model.specs.Request.{Instance}
+use Rattle.model.specs.Reading.{read}
+use Rattle.model.proofs.Reading.{read-few}
+use Rattle.layout.proofs.Relations.{relation-count}
 use Rattle.model.specs.Text.{textOf}
 use Rattle.model.specs.Listing.{linesFor, listing}
 use Rattle.layout.specs.Shape.{instanceOf}
@@ -49,6 +53,17 @@ returns-2 c =
     let read = c .before .before .before .before .before .before .before in
     written (start read .args .text .now) (told read true (not-false _ (c .before .before .before .before .before .if1 .left))) (c .filtered .ensures)
 
+-- a text that is read has at most 64 relations
+few : (c : tie.After-read) → c .read .result .ok ≡ true → c .read .result .shape .count ≤ maxRelations
+few c e =
+    let is : read (start c .args .text .now) ≡ some (instance c) = sym (c .read .ensures .is-read) ∙ ap (λ (k : Bool). cond k (some (instance c)) none) e in
+    subst (λ (n : ℕ). n ≤ maxRelations) (relation-count (c .read .result .shape)) (read-few (start c .args .text .now) (instance c) is)
+
+filtered-requires : tie.Need-filtered-requires
+filtered-requires c κs =
+    let passed = c .before .before .before .before in
+    few (passed .before .before) (not-false _ (passed .if1 .left))
+
 pub listing-spec : {M : Type 1} → statement M
 listing-spec =
     tie.close
@@ -56,5 +71,6 @@ listing-spec =
     (λ c κs. search needs) (λ c κs. search needs)
     returns
     (λ c. search needs) (λ c. search needs) (λ c. search needs) (λ c. search needs) (λ c. search needs)
-    (λ c. search needs) (λ c κs. search needs)
+    (λ c. search needs)
+    filtered-requires
     returns-2)

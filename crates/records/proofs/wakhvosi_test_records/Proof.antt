@@ -4,16 +4,16 @@ use mathlib.Core.Path.{refl, _∙_}
 use mathlib.Core.List.{List, [], _∷_}
 use Prim.Native.Nat.{ℕ}
 use lib.ListN.{drop}
-use Rattle.model.specs.declared.Relation.{Relation}
-use Rattle.model.proofs.Relation as T
-use Rattle.layout.specs.Shape.{shapeOf}
+use Rattle.model.specs.declared.Record.{Record}
+use Rattle.model.proofs.Record as T
 use Rattle.layout.proofs.Records.{testReply-shapeOf}
+use Rattle.records.specs.Records.{relationsIn, partsOf}
 use Rattle.records.proofs.Walk.{URA, named, w16, vint, SProp, ent, id⊢, flft, Memory, Routine, Heap, WpFn, Tables, Atoms, sem, Lfts, Shares, Fun, givenOf, tables, tablesOf, Given, ‵, raw, _⊛_, _$_, _∵_, !, qed, move, init, stop, from, no-more, land, enter, params1, pass1, pass0, fmOf, owns, flat, Are, Ises, RefT, now, slice-vals, uint-vals, uint-tells, shr-slice-tells, typesAt, u16, u64, Contract, Triple, Args, Vals, alive, onEntry, Meets, tripleOf, entered, cited, ensured, lasts}
 use Rattle.records.proofs.Locals.{sv, list-typed, others, allocated, operand, met, retold}
-use Rattle.records.proofs.Pass.{ShapeOf, records, takes-apart, answers}
-use Rattle.records.proofs.shape_of.Symbol as shape-of-def
-use Rattle.records.proofs.shape_of.Symbol.{name as #records·shape-of}
-use Rattle.records.proofs.shape_of.Met as shape-of-thm
+use Rattle.records.proofs.Pass.{PartsOf, records, takes-apart, answers}
+use Rattle.records.proofs.parts_of.Symbol as parts-of-def
+use Rattle.records.proofs.parts_of.Symbol.{name as #records·parts-of}
+use Rattle.records.proofs.parts_of.Met as parts-of-thm
 use Rattle.records.proofs.packed.test as work
 use Rattle.records.proofs.packed.test.Symbol as work-def
 use Rattle.records.proofs.packed.test.Symbol.{name as #records·packed·test}
@@ -28,13 +28,13 @@ module _ {M : Type 1} (𝓤 : URA M) (H : Heap 𝓤) (A : Atoms 𝓤) (mem : Mem
   Work = tripleOf 𝓤 H A work.signature (work.spec 𝓤 H A mem run)
 
 module _ {M : Type 1} (𝓤 : URA M) (H : Heap 𝓤) (A : Atoms 𝓤) (W : Given 𝓤 H A) (mem : Memory → SProp 𝓤) (run : Routine → Fun 𝓤) (κs : Lfts 5) (qs : Shares 5)
-    (relations : RefT (List Relation)) (variables values : RefT (List ℕ)) (m : ℕ) (members words : RefT (List ℕ)) where
+    (relations : RefT (List Record)) (variables values : RefT (List ℕ)) (m : ℕ) (members words : RefT (List ℕ)) where
   -- the parameters, the callee's, and the machine values
   abbrev a : Args f.signature κs
   a = (relations, (variables, (values, (m, (members, (words, tt))))))
 
   abbrev b : Args work.signature (κs .1)
-  b = (shapeOf (now relations), a .1)
+  b = (partsOf (now relations), a .1)
 
   abbrev at : Vals f.signature κs
   at = (slice-vals relations, (slice-vals variables, (slice-vals values, (uint-vals w16 m, (slice-vals members, (slice-vals words, tt))))))
@@ -56,12 +56,12 @@ module _ {M : Type 1} (𝓤 : URA M) (H : Heap 𝓤) (A : Atoms 𝓤) (W : Given
   tells : (n : ℕ) → ent 𝓤 (Said n) (Told n)
   tells n =
       retold 𝓤 (λ zs. (tt, zs .1)) (λ zs. sem 𝓤 H A (lasts f.ended κs a zs)) _ _
-      (λ zs e. e ∙ testReply-shapeOf (now relations) (now variables) (now values) m (now members) (now words))
+      (λ zs e. e ∙ testReply-shapeOf (relationsIn (now relations)) (now variables) (now values) m (now members) (now words))
 
-  walk : (𝓣 : Tables 𝓤 H) → Triple 𝓤 (𝓣 .C #records·shape-of) (ShapeOf 𝓤 H A mem run) → Triple 𝓤 (𝓣 .C #records·packed·test) (Work 𝓤 H A mem run)
+  walk : (𝓣 : Tables 𝓤 H) → Triple 𝓤 (𝓣 .C #records·parts-of) (PartsOf 𝓤 H A mem run) → Triple 𝓤 (𝓣 .C #records·packed·test) (Work 𝓤 H A mem run)
       → Are (typesAt (f.signature .params) κs) (Ises (typesAt (f.signature .params) κs)) a at
       → ent 𝓤 (onEntry 𝓤 H A f.signature κs qs a at) (WpFn 𝓤 H (𝓣 .C) (𝓣 .Λ) code.function (flat (typesAt (f.signature .params) κs) at) (tripleOf 𝓤 H A f.signature (f.spec 𝓤 H A mem run) .post ((κs, qs, tt, a, at), tt)))
-  walk 𝓣 known-shape known-work are =
+  walk 𝓣 known-parts known-work are =
       qed W ((‵ (flft (κs .0) (qs .0)) ⊛ raw tokens) ∷ (‵ (records (κs .0) relations) ⊛ raw rest) ∷ []) ∵
       enter ! (𝓣 .C) (𝓣 .Λ) code.function _ _ $ allocated W ! (code.function .locals) (λ bs. params1 ! $
       pass1 ! (init ! 12 refl (list-typed T.the-row relations (are .0 .0 .1))) $
@@ -70,21 +70,21 @@ module _ {M : Type 1} (𝓤 : URA M) (H : Heap 𝓤) (A : Atoms 𝓤) (W : Given
       pass1 ! (init ! 6 refl (tt, record { fits = are .1 .1 .1 .0 .1 })) $
       pass1 ! (init ! 4 refl (list-typed u16 members (are .1 .1 .1 .1 .0 .0 .1))) $
       pass1 ! (init ! 2 refl (list-typed u64 words (are .1 .1 .1 .1 .1 .0 .0 .1))) $ pass0 ! $
-      move ! (16 ∷ 17 ∷ []) $ takes-apart W mem run (κs .0) (qs .0) relations ! tokens rest (fmOf 𝓤 H (W .laws) 𝓣) known-shape (operand W ! 3 refl (no-more !)) (λ u typed.
+      move ! (16 ∷ 17 ∷ []) $ takes-apart W mem run (κs .0) (qs .0) relations tokens rest ! (fmOf 𝓤 H (W .laws) 𝓣) known-parts (operand W ! 3 refl (no-more !)) (λ u typed.
       land ! (from ! (stop !)) (init ! 4 refl typed) $
-      answers W (κs .0) (qs .0) relations tokens Said Told tells ! (fmOf 𝓤 H (W .laws) 𝓣)
-      (Work 𝓤 H A mem run) known-work ((κs .1, qs .1, tt, b, (u ∷ [], at .1)), tt) u rest (id⊢ 𝓤 _) (λ w. id⊢ 𝓤 _) (bs .0) (others (code.function .locals)) (bs .1)
+      answers W (κs .0) (qs .0) relations tokens rest ! (fmOf 𝓤 H (W .laws) 𝓣) Said Told tells
+      (Work 𝓤 H A mem run) known-work ((κs .1, qs .1, tt, b, (u ∷ [], at .1)), tt) u (id⊢ 𝓤 _) (λ w. id⊢ 𝓤 _) (bs .0) (others (code.function .locals)) (bs .1)
       (sv relations, (sv variables, (sv values, (vint w16 m, (sv members, (sv words, (u, tt)))))))
       (operand W ! 2 refl (operand W ! 2 refl (operand W ! 2 refl (operand W ! 2 refl (operand W ! 2 refl (operand W ! 2 refl (no-more !)))))))))
 
 module _ {M : Type 1} (𝓤 : URA M) (H : Heap 𝓤) (A : Atoms 𝓤) (W : Given 𝓤 H A) (mem : Memory → SProp 𝓤) (run : Routine → Fun 𝓤) (𝓣 : Tables 𝓤 H)
-    (known-shape : Triple 𝓤 (𝓣 .C #records·shape-of) (ShapeOf 𝓤 H A mem run)) (known-work : Triple 𝓤 (𝓣 .C #records·packed·test) (Work 𝓤 H A mem run)) where
+    (known-parts : Triple 𝓤 (𝓣 .C #records·parts-of) (PartsOf 𝓤 H A mem run)) (known-work : Triple 𝓤 (𝓣 .C #records·packed·test) (Work 𝓤 H A mem run)) where
   meets : Meets 𝓤 H A f.signature (WpFn 𝓤 H (𝓣 .C) (𝓣 .Λ) code.function) (f.spec 𝓤 H A mem run)
   meets =
       met 𝓤 H A f.signature (f.spec 𝓤 H A mem run) (WpFn 𝓤 H (𝓣 .C) (𝓣 .Λ) code.function)
       (λ κs. (slice-vals, (slice-vals, (slice-vals, (uint-vals w16, (slice-vals, (slice-vals, tt)))))))
       (λ κs. (shr-slice-tells (named 0) (κs .0) T.the-row, (shr-slice-tells (named 1) (κs .1 .0) u16, (shr-slice-tells (named 2) (κs .1 .1 .0) u16, (uint-tells w16, (shr-slice-tells (named 3) (κs .1 .1 .1 .0) u16, (shr-slice-tells (named 4) (κs .1 .1 .1 .1 .0) u64, tt)))))))
-      (λ κs qs os a g are. walk 𝓤 H A W mem run κs qs (a .0) (a .1 .0) (a .1 .1 .0) (a .1 .1 .1 .0) (a .1 .1 .1 .1 .0) (a .1 .1 .1 .1 .1 .0) 𝓣 known-shape known-work are)
+      (λ κs qs os a g are. walk 𝓤 H A W mem run κs qs (a .0) (a .1 .0) (a .1 .1 .0) (a .1 .1 .1 .0) (a .1 .1 .1 .1 .0) (a .1 .1 .1 .1 .1 .0) 𝓣 known-parts known-work are)
 
 pub wakhvosi-test-records-spec : {M : Type 1} → stated.statement M
 unfolding code.routine tablesOf
@@ -92,5 +92,5 @@ wakhvosi-test-records-spec 𝓤 H 𝓜 𝓖 𝓡 =
     entered 𝓤 H (tripleOf 𝓤 H (𝓖 .A) f.signature (f.spec 𝓤 H (𝓖 .A) (𝓜 .mem) (𝓡 .run)))
     (tables 𝓤 H 𝓜 𝓡 code.env .C) (tables 𝓤 H 𝓜 𝓡 code.env .Λ) #records·wakhvosi-test-records code.function (code.unfolded 𝓤 H 𝓜 𝓡)
     (meets 𝓤 H (𝓖 .A) (givenOf 𝓤 H 𝓜 𝓖) (𝓜 .mem) (𝓡 .run) (tablesOf 𝓤 H 𝓜 (tables 𝓤 H 𝓜 𝓡 code.env))
-    (cited 𝓤 H (ShapeOf 𝓤 H (𝓖 .A) (𝓜 .mem) (𝓡 .run)) 𝓜 𝓡 code.env #records·shape-of shape-of-def.routine code.calls-records·shape-of (shape-of-thm.met 𝓤 H 𝓜 𝓖 𝓡))
+    (cited 𝓤 H (PartsOf 𝓤 H (𝓖 .A) (𝓜 .mem) (𝓡 .run)) 𝓜 𝓡 code.env #records·parts-of parts-of-def.routine code.calls-records·parts-of (parts-of-thm.met 𝓤 H 𝓜 𝓖 𝓡))
     (cited 𝓤 H (Work 𝓤 H (𝓖 .A) (𝓜 .mem) (𝓡 .run)) 𝓜 𝓡 code.env #records·packed·test work-def.routine code.calls-records·packed·test (work-thm.met 𝓤 H 𝓜 𝓖 𝓡)))

@@ -31,15 +31,17 @@ returns c =
 
 change-bytes-requires : tie.Need-change-bytes-requires
 change-bytes-requires c κs =
-    let q = given (c .before .before .before .before .before .before .before .before .before .before .before) in
+    let passed = c .before .before .before in
+    let q = given (passed .before .before .before .before .before .before .before .before .before) in
     let B = q .book in
-    whole-written (length (B .sheets)) (length (B .questions)) (length (B .codes)) (length (B .combinations)) (length (q .marks)) (length (q .supports)) (lists-whole (c .before .before))
+    let both = whole-written (length (B .sheets)) (length (B .questions)) (length (B .codes)) (length (B .combinations)) (length (q .marks)) (length (q .supports)) (lists-whole passed) in
+    record { words = both .0; numbers = both .1 }
 
 returns-2 : tie.Need-returns-2
 unfolding byteReply
 returns-2 c =
-    let made = c .before .before .before .before in
-    let passed = made .before .before .before in
+    let made = c .before .before .before .before .before .before in
+    let passed = made .before .before .before .before in
     made .change-bytes .ensures ∙ cond-whole _ _ _ (and-intro (lists-whole passed) (passed .before .before .before .before .before .before .before .before .before .pre))
 
 pub change-call-spec : {M : Type 1} → statement M
@@ -49,5 +51,5 @@ change-call-spec =
     (λ c κs. search needs)
     returns
     change-bytes-requires
-    (λ c. search needs) (λ c. search needs)
+    (λ c. search needs) (λ c. search needs) (λ c. search needs)
     returns-2)

@@ -6,7 +6,7 @@ use native.Mathlib.Omega.{arith}
 use lib.ListN.{length, getD, length-set}
 use borrow.Author.Needs.{needs}
 use Rattle.narrowing.specs.TupleRows.{Found}
-use Rattle.narrowing.proofs.TupleRows.{first-set}
+use Rattle.model.proofs.Lists.{first-set}
 use Rattle.narrowing.proofs.columns.shared_columns.Statement.{statement}
 use Rattle.narrowing.proofs.columns.shared_columns.Tie as tie
 

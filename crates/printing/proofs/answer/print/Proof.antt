@@ -31,8 +31,8 @@ module _ (c : tie.After-line) where
   abbrev network : Network
   network = networkOf (start .args .shape) (start .args .variables .now) (start .args .values .now)
 
-  abbrev made : List ℕ → Reply
-  made supports = replied (start .args .answer) (start .args .words .now) supports
+  abbrev made : List ℕ → List ℕ → Reply
+  made supports counts = replied (start .args .answer) (start .args .words .now) supports counts
 
   -- the kind that was read
   kind : getD (c .before .before .before .answer-fields .result) 0 0 ≡ answerNumbers (start .args .answer) .kind
@@ -53,7 +53,7 @@ module _ (c : tie.After-line) where
 returns : tie.Need-returns
 returns c =
     let l = first (c .before) in
-    λ supports. appended-same (sym (replyText-refused (network (c .before)) (made (c .before) supports) (eq-eqb _ _ (sym (kind (c .before)) ∙ c .if1 .taken)))) l
+    λ supports counts. appended-same (sym (replyText-refused (network (c .before)) (made (c .before) supports counts) (eq-eqb _ _ (sym (kind (c .before)) ∙ c .if1 .taken)))) l
 
 -- ---- The tuples' lines
 
@@ -86,7 +86,7 @@ returns-2 c =
     let a = start l .args in
     let t = c .tuple-lines .ensures in
     let lines = ap (λ (xs : List ℕ). tupleLines (rows xs (a .values .now)) (a .words .now)) (begun .starts-of .ensures) ∙ accepted-lines (a .shape) (a .variables .now) (a .values .now) (a .words .now) (accepted (begun .before)) in
-    λ supports. appended-same (sym (replyText-accepted (network l) (made l supports) (no-refusal (begun .before)))) (appended-then (first l) (appended-same (ap textOf lines) t))
+    λ supports counts. appended-same (sym (replyText-accepted (network l) (made l supports counts) (no-refusal (begun .before)))) (appended-then (first l) (appended-same (ap textOf lines) t))
 
 pub print-spec : {M : Type 1} → statement M
 print-spec =

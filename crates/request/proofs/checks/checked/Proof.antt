@@ -5,7 +5,7 @@ use mathlib.Core.Option.{none}
 use mathlib.Core.List.{[], _∷_}
 use Prim.Native.Nat.{ℕ}
 use Rattle.model.specs.Request.{Instance, combinationsOf}
-use Rattle.model.specs.Fault.{firstFault, networkFaults, combinationFaults, instanceFaults, wordsFault, supportsFault, faultsOn}
+use Rattle.model.specs.Fault.{firstFault, networkFaults, combinationFaults, instanceFaults, wordsFault, supportsFault, listFaults}
 use Rattle.model.proofs.Fault.{firstFault-front, firstFault-back}
 use Rattle.layout.specs.Shape.{relationsOf, instanceOf}
 use Rattle.combination.specs.Refusals.{supportsRefusal}
@@ -34,7 +34,7 @@ network-sound : (c : tie.Else1) → firstFault (networkFaults (instance (start (
 network-sound c = let I = instance (start (c .before .before)) in firstFault-front (networkFaults (I .network)) (combinationFaults I) (sound c)
 
 returns : tie.Need-returns
-unfolding faultsOn
+unfolding listFaults
 returns c =
     let o = c .before .before in
     let a = start o .args in
@@ -54,7 +54,7 @@ needed-requires c κs =
     )
 
 returns-2 : tie.Need-returns-2
-unfolding faultsOn
+unfolding listFaults
 returns-2 c =
     let passed = c .before .before .before .before in
     let o = passed .before .before in

@@ -1,4 +1,4 @@
--- `plan_choose` removes the tuples with another value. From what the checks and the ids' words ensure, and the laws of plans.
+-- `plan_choose` removes the tuples with another value. From what the test of the variable and the ids' words ensure, and the laws of plans.
 use mathlib.Core.Path.{_∙_}
 use Prim.Native.Nat.{ℕ}
 use mir.Val.{Fits}
@@ -9,28 +9,20 @@ use Rattle.model.specs.Request.{Change, choose}
 use Rattle.layout.specs.Shape.{networkOf}
 use Rattle.live.specs.Words.{WordArray}
 use Rattle.request.proofs.Openings.{variable-refusal}
-use Rattle.request.proofs.Plans.{opened-sufficient, planned-shared, planned-own}
+use Rattle.request.proofs.Plans.{planned-shared, planned-own}
 use Rattle.request.proofs.plan.plan_choose.Statement.{statement}
 use Rattle.request.proofs.plan.plan_choose.Tie as tie
 
-abbrev start : tie.After-checked → tie.Start
-start c = c .before .before .before .before
-
-abbrev chosen : tie.Start → Change
-chosen c = choose (c .args .x) (c .args .v)
+abbrev start : tie.After-starts → tie.Start
+start c = c .before .before .before
 
 returns : tie.Need-returns
-returns c =
-    let o = c .before .before in
-    let a = start o .args in
-    planned-shared (a .shape) (a .variables .now) (a .values .now) (a .m) (a .members .now) (a .words) (a .numbers) (chosen (start o)) (o .checked .result) (o .checked .ensures) _ (c .if1 .taken)
+returns c S m members words numbers wrong opened =
+    let a = start (c .before) .args in
+    planned-shared S (a .variables .now) (a .values .now) m members words numbers wrong (choose (a .x) (a .v)) (a .opening) opened _ (c .if1 .taken)
 
-unlike-requires : tie.Need-unlike-requires
-unlike-requires c κs =
-    let passed = c .before .before in
-    let o = passed .before .before in
-    let a = start o .args in
-    opened-sufficient (a .shape) (a .variables .now) (a .values .now) (a .m) (a .members .now) (a .words) (a .numbers) (chosen (start o)) (o .checked .result) (o .checked .ensures) (passed .if1 .left) .sound .laid
+abbrev passed : tie.After-unlike → tie.Else1
+passed c = c .before .before .before
 
 full : (c : tie.After-unlike) → WordArray (c .unlike .result)
 full c =
@@ -38,21 +30,18 @@ full c =
     record { long = search needs; small = λ i h. fits i .fits }
 
 returns-2 : tie.Need-returns-2
-returns-2 c =
+returns-2 c S m members words numbers wrong opened =
     let tested = c .before .before in
-    let passed = tested .before in
-    let o = passed .before .before in
-    let a = start o .args in
-    planned-own (a .shape) (a .variables .now) (a .values .now) (a .m) (a .members .now) (a .words) (a .numbers) (chosen (start o)) (o .checked .result) (o .checked .ensures) (passed .if1 .left) (tested .variable-fault .result)
-    (tested .variable-fault .ensures ∙ variable-refusal (networkOf (a .shape) (a .variables .now) (a .values .now)) (a .x) (a .v))
+    let a = start (passed c .before) .args in
+    planned-own S (a .variables .now) (a .values .now) m members words numbers wrong (choose (a .x) (a .v)) (a .opening) opened (passed c .if1 .left) (tested .variable-fault .result)
+    (tested .variable-fault .ensures ∙ variable-refusal (networkOf S (a .variables .now) (a .values .now)) (a .x) (a .v))
     (c .unlike .result) (λ _. (full c, c .unlike .ensures))
 
 pub plan-choose-spec : {M : Type 1} → statement M
 plan-choose-spec =
     tie.close
     (tie.spec
-    (λ c κs. search needs)
     returns
     (λ c κs. search needs)
-    unlike-requires
+    (λ c κs. let e = c .before .before in start (e .before) .pre (e .if1 .left))
     returns-2)
