@@ -3,10 +3,11 @@
 #include <string.h>
 #include "wakhvosi.h"
 
-enum { ROWS = 7, M = 2, NUMBERS = 28 };
+enum { SHEETS = 3, ROWS = 7, M = 2, NUMBERS = 28 };
 
-/* Three sheets, width and rows; their questions; their codes, row after row; and the combinations of every two. */
-static const uint16_t sheet_list[] = {2, 3, 2, 2, 2, 2};
+/* Three sheets, each with its width, its rows and the count of those living; their questions; their codes, row after row; and the
+ * combinations of every two. */
+static const uint16_t sheet_list[] = {2, 3, 3, 2, 2, 2, 2, 2, 2};
 static const uint16_t question_list[] = {0, 1, 1, 2, 2, 0};
 static const uint16_t code_list[] = {1, 1, 1, 2, 2, 2, 1, 5, 2, 6, 5, 1, 6, 1};
 static const uint16_t combination_list[] = {0, 1, 0, 2, 1, 2};
@@ -23,10 +24,16 @@ static void encode(uint8_t *bytes, const uint16_t *numbers, size_t count) {
     }
 }
 
-static void all_living(void) {
+static void mark_all(void) {
     memset(marks, 0, sizeof marks);
     for (unsigned g = 0; g < ROWS; g++)
         marks[g / 8] |= (uint8_t)(1u << g % 8);
+}
+
+/* All rows marked, and all counted. */
+static void all_living(void) {
+    mark_all();
+    encode(sheets, sheet_list, sizeof sheet_list / 2);
 }
 
 static void show(const char *asked, uint64_t answer) {
@@ -44,6 +51,9 @@ static void show(const char *asked, uint64_t answer) {
     for (unsigned g = 0; g < ROWS; g++)
         if (marks[g / 8] >> g % 8 & 1)
             printf(" %u", g);
+    printf("; by sheet");
+    for (size_t sheet = 0; sheet < SHEETS; sheet++)
+        printf(" %zu", wakhvosi_sheet_live(sheets, sizeof sheets, sheet));
     printf("\n");
 }
 
@@ -90,7 +100,6 @@ static uint64_t compare(uint16_t a, uint16_t b) {
 }
 
 int main(void) {
-    encode(sheets, sheet_list, sizeof sheet_list / 2);
     encode(questions, question_list, sizeof question_list / 2);
     encode(codes, code_list, sizeof code_list / 2);
     encode(combinations, combination_list, sizeof combination_list / 2);
@@ -105,6 +114,8 @@ int main(void) {
     show("withdraw row 5", withdraw(5));
     show("withdraw row 6", withdraw(6));
     show("withdraw row 7", withdraw(7));
+    mark_all(); /* the sheets still count what the last withdrawal left */
+    show("filter all rows, counted as before", filter());
 
     all_living();
     show("choose code 6 for question 2 on the fresh book", choose(2, 6));

@@ -4,7 +4,8 @@
  *
  * Lists. Each list is a pointer to bytes and then its length in bytes. Numbers stand in them little-endian, end to end:
  *
- *   sheets        4 bytes for each sheet: its width (how many questions it asks), then its number of rows, 2 bytes each
+ *   sheets        6 bytes for each sheet: its width (how many questions it asks), its number of rows, then its count, which is how
+ *                 many of its rows are living, 2 bytes each
  *   questions     2 bytes for each question: the columns of sheet 0 in their order, then those of sheet 1, and so on
  *   codes         2 bytes for each code: the rows of sheet 0 one after the other, then those of sheet 1, and so on
  *   combinations  2 bytes for each sheet number: m rising numbers for each combination
@@ -19,9 +20,13 @@
  * A list may be empty; its pointer is then not read and may be NULL. The lists lent to one call do not overlap, and nothing else
  * writes them while the call runs. A list may have any length: one that is too long is refused like any other fault.
  *
- * What a call writes. An accepted change call (filter, withdraw, choose) leaves in the marks the rows that are left, and in the
- * supports each living row's first support, 65,535 m times for a dead row. Marks of row numbers that the book does not have, and
- * supports beyond the needed ones, keep their contents. A refused call changes no byte. Test and compare write nothing.
+ * What a call writes. An accepted change call (filter, withdraw, choose) leaves in the marks the rows that are left, in the sheets
+ * the count of each sheet's rows left, and in the supports each living row's first support, 65,535 m times for a dead row. Marks of
+ * row numbers that the book does not have, supports beyond the needed ones, widths and numbers of rows keep their contents. A refused
+ * call changes no byte. Test and compare write nothing.
+ *
+ * Counts. A change call is refused where a sheet's count is not that of its marks, so the marks and the sheets that one call leaves go
+ * to the next one together. Where all rows are living a sheet's count is its number of rows. Test and compare do not look at counts.
  *
  * Refusal numbers, in checking order:
  *
@@ -37,10 +42,11 @@
  *   10  a combination is not connected
  *   11  the marks are too few
  *   12  the supports need over 32,768 numbers, or are shorter than needed
+ *   18  a sheet's count differs from its marks
  *   13  a book number is not below the number of rows
  *   14  the question chosen is above 63
  *
- * Filter uses 1 to 12; withdraw adds 13, choose 14; test uses 1 to 11; compare 1 to 6 and 13.
+ * Filter uses 1 to 12 and 18; withdraw adds 13, choose 14; test uses 1 to 11; compare 1 to 6 and 13.
  */
 #ifndef WAKHVOSI_H
 #define WAKHVOSI_H
@@ -72,20 +78,34 @@ enum {
     WAKHVOSI_NO_QUESTION = 64      /* .. and of compare's where the rows agree */
 };
 
-/* ---- How many bytes of marks and supports a book needs */
+/* ---- The sheets' numbers of rows and counts, and how many bytes of marks and supports a book needs */
+
+/* A sheet's bytes. */
+enum { WAKHVOSI_SHEET_BYTES = 6 };
 
 /* No accepted book needs more than these. */
 enum { WAKHVOSI_MAX_MARKS_BYTES = WAKHVOSI_MAX_ROWS / 8, WAKHVOSI_MAX_SUPPORTS_BYTES = 2 * WAKHVOSI_MAX_SUPPORTS };
 
-/* The number of rows of a sheet; 0 of one that the list does not have. */
+/* The number at this byte of a sheet; 0 of a sheet that the list does not have. */
+static inline size_t wakhvosi_sheet_number(const uint8_t *sheets, size_t sheets_bytes, size_t sheet, size_t byte) {
+    const size_t at = WAKHVOSI_SHEET_BYTES * sheet + byte;
+    return sheet < sheets_bytes / WAKHVOSI_SHEET_BYTES ? sheets[at] + 256u * sheets[at + 1] : 0;
+}
+
+/* A sheet's number of rows. */
 static inline size_t wakhvosi_sheet_rows(const uint8_t *sheets, size_t sheets_bytes, size_t sheet) {
-    return sheet < sheets_bytes / 4 ? sheets[4 * sheet + 2] + 256u * sheets[4 * sheet + 3] : 0;
+    return wakhvosi_sheet_number(sheets, sheets_bytes, sheet, 2);
+}
+
+/* Its count, how many of them are living. */
+static inline size_t wakhvosi_sheet_live(const uint8_t *sheets, size_t sheets_bytes, size_t sheet) {
+    return wakhvosi_sheet_number(sheets, sheets_bytes, sheet, 4);
 }
 
 /* Of marks: 8 for every 64 rows of the book, the last of them rounded up. */
 static inline size_t wakhvosi_marks_bytes(const uint8_t *sheets, size_t sheets_bytes) {
     size_t rows = 0;
-    for (size_t sheet = 0; sheet < sheets_bytes / 4; sheet++)
+    for (size_t sheet = 0; sheet < sheets_bytes / WAKHVOSI_SHEET_BYTES; sheet++)
         rows += wakhvosi_sheet_rows(sheets, sheets_bytes, sheet);
     return (rows + 63) / 64 * 8;
 }
@@ -134,7 +154,7 @@ static inline unsigned wakhvosi_deleted(uint64_t answer) { return (unsigned)(ans
 /* ---- Change calls */
 
 /* Filter: leaves the largest set of the living rows in which each row has a support in every combination with its sheet. */
-uint64_t wakhvosi_filter(const uint8_t *sheets, size_t sheets_bytes,
+uint64_t wakhvosi_filter(uint8_t *sheets, size_t sheets_bytes,
                          const uint8_t *questions, size_t questions_bytes,
                          const uint8_t *codes, size_t codes_bytes,
                          uint16_t m,
@@ -143,7 +163,7 @@ uint64_t wakhvosi_filter(const uint8_t *sheets, size_t sheets_bytes,
                          uint8_t *supports, size_t supports_bytes);
 
 /* Withdraw: the rows whose book numbers are listed lose their marks, then filter. Repeats and dead rows are allowed. */
-uint64_t wakhvosi_withdraw(const uint8_t *sheets, size_t sheets_bytes,
+uint64_t wakhvosi_withdraw(uint8_t *sheets, size_t sheets_bytes,
                            const uint8_t *questions, size_t questions_bytes,
                            const uint8_t *codes, size_t codes_bytes,
                            uint16_t m,
@@ -154,7 +174,7 @@ uint64_t wakhvosi_withdraw(const uint8_t *sheets, size_t sheets_bytes,
 
 /* Choose: living rows of sheets asking the question, whose code there does not fit the one chosen, lose their marks, then filter.
  * Choosing any strikes nothing, and no choice strikes a row with any there. */
-uint64_t wakhvosi_choose(const uint8_t *sheets, size_t sheets_bytes,
+uint64_t wakhvosi_choose(uint8_t *sheets, size_t sheets_bytes,
                          const uint8_t *questions, size_t questions_bytes,
                          const uint8_t *codes, size_t codes_bytes,
                          uint16_t m,
@@ -194,9 +214,10 @@ uint64_t wakhvosi_compare(const uint8_t *sheets, size_t sheets_bytes,
 typedef struct {
     uint16_t width; /* how many questions the sheet asks */
     uint16_t rows;  /* its number of rows */
+    uint16_t live;  /* its count: how many of its rows are living */
 } wakhvosi_sheet;
 
-uint64_t wakhvosi_filter_records(const wakhvosi_sheet *sheets, size_t sheets_entries,
+uint64_t wakhvosi_filter_records(wakhvosi_sheet *sheets, size_t sheets_entries,
                                  const uint16_t *questions, size_t questions_entries,
                                  const uint16_t *codes, size_t codes_entries,
                                  uint16_t m,
@@ -204,7 +225,7 @@ uint64_t wakhvosi_filter_records(const wakhvosi_sheet *sheets, size_t sheets_ent
                                  uint64_t *marks, size_t marks_entries,
                                  uint16_t *supports, size_t supports_entries);
 
-uint64_t wakhvosi_withdraw_records(const wakhvosi_sheet *sheets, size_t sheets_entries,
+uint64_t wakhvosi_withdraw_records(wakhvosi_sheet *sheets, size_t sheets_entries,
                                    const uint16_t *questions, size_t questions_entries,
                                    const uint16_t *codes, size_t codes_entries,
                                    uint16_t m,
@@ -213,7 +234,7 @@ uint64_t wakhvosi_withdraw_records(const wakhvosi_sheet *sheets, size_t sheets_e
                                    uint16_t *supports, size_t supports_entries,
                                    const uint16_t *rows, size_t rows_entries);
 
-uint64_t wakhvosi_choose_records(const wakhvosi_sheet *sheets, size_t sheets_entries,
+uint64_t wakhvosi_choose_records(wakhvosi_sheet *sheets, size_t sheets_entries,
                                  const uint16_t *questions, size_t questions_entries,
                                  const uint16_t *codes, size_t codes_entries,
                                  uint16_t m,

@@ -1,6 +1,6 @@
 /* The calls from C at their edges: every refusal number, byte counts that are not whole, no list at all, lists longer than any
- * bound; and how much of the marks and the supports a call touches. A line 'failed NAME: how' for each case that is not as
- * expected; at the end 'N put'. */
+ * bound; how much of the marks and the supports a call touches; and that of the sheets it changes the counts alone. A line
+ * 'failed NAME: how' for each case that is not as expected; at the end 'N put'. */
 #include "lend.h"
 #include "wakhvosi.h"
 #include <stdio.h>
@@ -52,8 +52,9 @@ static list repeated(size_t n, unsigned x) {
 /* Book A with its pairs, all rows living, nothing to withdraw; question 2 and code 6 to choose, rows 2 and 6 to compare. */
 static request book_a(void) {
     return (request){FILTER, 2, 2, 6,
-                     {NUMBERS(2, 3, 2, 2, 2, 2), NUMBERS(0, 1, 1, 2, 2, 0), NUMBERS(1, 1, 1, 2, 2, 2, 1, 5, 2, 6, 5, 1, 6, 1),
-                      NUMBERS(0, 1, 0, 2, 1, 2), bytes(8, LIVING), repeated(40, 7), new_list(0)},
+                     {[SHEETS] = NUMBERS(2, 3, 3, 2, 2, 2, 2, 2, 2), [QUESTIONS] = NUMBERS(0, 1, 1, 2, 2, 0),
+                      [CODES] = NUMBERS(1, 1, 1, 2, 2, 2, 1, 5, 2, 6, 5, 1, 6, 1), [COMBINATIONS] = NUMBERS(0, 1, 0, 2, 1, 2),
+                      [MARKS] = bytes(8, LIVING), [SUPPORTS] = repeated(40, 7), [COUNTS] = new_list(0), [ROWS] = new_list(0)},
                      BEHIND};
 }
 
@@ -66,24 +67,33 @@ static request book_a_with(int which, list by) {
 
 /* No sheet, or one sheet with one question and so many rows; so many mark words; no combination. */
 static request small_book(int sheets, unsigned rows, size_t words) {
-    list sheet = sheets ? NUMBERS(1, (uint16_t)rows) : new_list(0), question = repeated((size_t)sheets, 0);
+    list sheet = sheets ? NUMBERS(1, (uint16_t)rows, (uint16_t)rows) : new_list(0);
     return (request){FILTER, 2, 0, 0,
-                     {sheet, question, repeated(rows, 4), new_list(0), bytes(8 * words, LIVING), new_list(0), new_list(0)},
+                     {[SHEETS] = sheet, [QUESTIONS] = repeated((size_t)sheets, 0), [CODES] = repeated(rows, 4),
+                      [COMBINATIONS] = new_list(0), [MARKS] = bytes(8 * words, LIVING), [SUPPORTS] = new_list(0),
+                      [COUNTS] = new_list(0), [ROWS] = new_list(0)},
                      BEHIND};
 }
 
-/* What stays of book A, by marks, and the supports then. */
+/* Book A with these counts and marks. */
+static request counted_a(unsigned first, unsigned second, unsigned third, unsigned char marks) {
+    request q = book_a_with(MARKS, bytes(8, marks));
+    put16(q.lists[SHEETS], 2, first), put16(q.lists[SHEETS], 5, second), put16(q.lists[SHEETS], 8, third);
+    return q;
+}
+
+/* What stays of book A, by marks, its counts and the supports then. */
 typedef struct {
     unsigned char marks;
-    uint16_t supports[NEEDED];
+    uint16_t counts[3], supports[NEEDED];
 } rest;
 
 #define D DEAD
-static const rest filtered = {123, {0, 0, 1, 1, D, D, 0, 0, 1, 1, 0, 0, 1, 0, D, D, 0, 0, 0, 1, 0, 0, 1, 1, 0, 0, 1, 1}};
-static const rest without_5 = {82, {D, D, 1, 1, D, D, D, D, 1, 1, D, D, 1, 1, D, D, D, D, 1, 1, D, D, 1, 1, D, D, 1, 1}};
-static const rest nothing = {0, {D, D, D, D, D, D, D, D, D, D, D, D, D, D, D, D, D, D, D, D, D, D, D, D, D, D, D, D}};
-static const rest all_with_any = {127, {0, 0, 1, 1, 2, 1, 0, 0, 1, 1, 0, 0, 1, 0, 2, 1, 0, 0, 0, 1, 0, 0, 1, 1, 0, 0, 1, 1}};
-static const rest beside_any = {84, {D, D, D, D, 2, 1, D, D, 2, 1, D, D, D, D, 2, 1, D, D, 2, 1, D, D, 1, 1, D, D, 1, 1}};
+static const rest filtered = {123, {2, 2, 2}, {0, 0, 1, 1, D, D, 0, 0, 1, 1, 0, 0, 1, 0, D, D, 0, 0, 0, 1, 0, 0, 1, 1, 0, 0, 1, 1}};
+static const rest without_5 = {82, {1, 1, 1}, {D, D, 1, 1, D, D, D, D, 1, 1, D, D, 1, 1, D, D, D, D, 1, 1, D, D, 1, 1, D, D, 1, 1}};
+static const rest nothing = {0, {0, 0, 0}, {D, D, D, D, D, D, D, D, D, D, D, D, D, D, D, D, D, D, D, D, D, D, D, D, D, D, D, D}};
+static const rest all_with_any = {127, {3, 2, 2}, {0, 0, 1, 1, 2, 1, 0, 0, 1, 1, 0, 0, 1, 0, 2, 1, 0, 0, 0, 1, 0, 0, 1, 1, 0, 0, 1, 1}};
+static const rest beside_any = {84, {1, 1, 1}, {D, D, D, D, 2, 1, D, D, 2, 1, D, D, D, D, 2, 1, D, D, 2, 1, D, D, 1, 1, D, D, 1, 1}};
 #undef D
 
 /* ---- Expectations */
@@ -94,7 +104,9 @@ static void refused_within(request q, int first, int last, unsigned number, size
     for (q.call = first; q.call <= last; q.call++) {
         char name[160];
         snprintf(name, sizeof name, "%s refused with %u, %s", call_names[q.call], number, what);
-        check(&q, (outcome){WAKHVOSI_REFUSED + 256u * number, q.lists[MARKS], q.lists[SUPPORTS], mark_bytes, 0}, name);
+        outcome expected = unchanged(&q, WAKHVOSI_REFUSED + 256u * number, mark_bytes, 0);
+        check(&q, expected, name);
+        free_outcome(&expected);
     }
     free_lists(&q);
 }
@@ -110,8 +122,9 @@ static void refused_with(int which, list by, int first, int last, unsigned numbe
 /* The call answers this, touches at most so many mark words and no support number, and leaves every list as it is. */
 static void answers(request q, int call, uint64_t answer, size_t words, const char *name) {
     q.call = call;
-    check(&q, (outcome){answer, q.lists[MARKS], q.lists[SUPPORTS], 8 * words, 0}, name);
-    free_lists(&q);
+    outcome expected = unchanged(&q, answer, 8 * words, 0);
+    check(&q, expected, name);
+    free_outcome(&expected), free_lists(&q);
 }
 
 static uint64_t counted(unsigned kind, unsigned sheet, unsigned left, unsigned withdrawn, unsigned deleted) {
@@ -121,10 +134,11 @@ static uint64_t counted(unsigned kind, unsigned sheet, unsigned left, unsigned w
 /* The change call on book A answers this, leaves the rest, and touches nothing else. */
 static void leaves(request q, int call, uint64_t answer, const rest *of_a, const char *name) {
     q.call = call;
-    outcome expected = {answer, copy_of(q.lists[MARKS]), copy_of(q.lists[SUPPORTS]), 8, 2 * NEEDED};
-    unsigned char *marks = expected.marks.at;
+    outcome expected = unchanged(&q, answer, 8, 2 * NEEDED);
+    unsigned char *marks = expected.lists[MARKS].at;
     marks[0] = (unsigned char)((marks[0] & 128) | of_a->marks);
-    for (size_t i = 0; i < NEEDED; i++) put16(expected.supports, i, of_a->supports[i]);
+    for (size_t i = 0; i < 3; i++) put16(expected.lists[SHEETS], 3 * i + 2, of_a->counts[i]);
+    for (size_t i = 0; i < NEEDED; i++) put16(expected.lists[SUPPORTS], i, of_a->supports[i]);
     check(&q, expected, name);
     free_outcome(&expected), free_lists(&q);
 }
@@ -135,7 +149,8 @@ static void good_calls(void) {
     leaves(book_a(), FILTER, counted(0, 64, 6, 0, 1), &filtered, "P1");
     leaves(book_a_with(ROWS, NUMBERS(5)), WITHDRAW, counted(0, 64, 3, 1, 3), &without_5, "P5");
     leaves(book_a(), CHOOSE, counted(0, 64, 3, 2, 2), &without_5, "P9");
-    leaves(book_a_with(MARKS, bytes(8, 0)), FILTER, counted(1, 0, 0, 0, 0), &nothing, "no row living, so emptied at sheet 0");
+    leaves(counted_a(0, 0, 0, 0), FILTER, counted(1, 0, 0, 0, 0), &nothing, "no row living, so emptied at sheet 0");
+    leaves(counted_a(2, 2, 2, 123), FILTER, counted(0, 64, 6, 0, 0), &filtered, "filtered A again");
     answers(book_a(), TEST, 0, 1, "test of fresh A");
     answers(book_a_with(MARKS, bytes(8, 123)), TEST, 1, 1, "test of filtered A");
     request q = book_a();
@@ -174,8 +189,9 @@ static void any_code(void) {
 static void odd_counts(void) {
     static const struct {
         int unit, first, last;
-    } of[LISTS] = {{4, FILTER, COMPARE}, {2, FILTER, COMPARE}, {2, FILTER, COMPARE}, {2, FILTER, TEST}, {8, FILTER, TEST},
-                   {2, FILTER, CHOOSE}, {2, WITHDRAW, WITHDRAW}};
+    } of[LISTS] = {[SHEETS] = {6, FILTER, COMPARE}, [QUESTIONS] = {2, FILTER, COMPARE}, [CODES] = {2, FILTER, COMPARE},
+                   [COMBINATIONS] = {2, FILTER, TEST}, [MARKS] = {8, FILTER, TEST}, [SUPPORTS] = {2, FILTER, CHOOSE},
+                   [ROWS] = {2, WITHDRAW, WITHDRAW}};
     for (int which = 0; which < LISTS; which++)
         for (int less = 1; less < of[which].unit; less++) {
             char what[40];
@@ -188,10 +204,10 @@ static void odd_counts(void) {
 
 static void numbers_2_to_6(void) {
     refused_with(SHEETS, new_list(0), FILTER, COMPARE, 2, "no sheets");
-    refused_with(SHEETS, new_list(4 * 65), FILTER, COMPARE, 2, "65 sheets");
-    refused_with(SHEETS, NUMBERS(2, 3, 2, 2, 9, 2), FILTER, COMPARE, 3, "width 9");
-    refused_with(SHEETS, NUMBERS(2, 3, 0, 2, 2, 2), FILTER, COMPARE, 3, "width 0");
-    refused_with(SHEETS, NUMBERS(2, 3, 2, 2, 2, 4092), FILTER, COMPARE, 4, "4,097 rows");
+    refused_with(SHEETS, new_list(6 * 65), FILTER, COMPARE, 2, "65 sheets");
+    refused_with(SHEETS, NUMBERS(2, 3, 3, 2, 2, 2, 9, 2, 2), FILTER, COMPARE, 3, "width 9");
+    refused_with(SHEETS, NUMBERS(2, 3, 3, 0, 2, 2, 2, 2, 2), FILTER, COMPARE, 3, "width 0");
+    refused_with(SHEETS, NUMBERS(2, 3, 3, 2, 2, 2, 2, 4092, 4092), FILTER, COMPARE, 4, "4,097 rows");
     refused_with(QUESTIONS, NUMBERS(0, 1, 1, 2, 2), FILTER, COMPARE, 5, "a question short");
     refused_with(CODES, NUMBERS(1, 1, 1), FILTER, COMPARE, 5, "codes short");
     refused_with(QUESTIONS, NUMBERS(0, 1, 1, 64, 2, 0), FILTER, COMPARE, 6, "question 64");
@@ -221,6 +237,58 @@ static void numbers_7_to_14(void) {
     refused(q, COMPARE, COMPARE, 13, "a missing row");
 }
 
+/* Counts that differ from the marks; book A has 3, 2 and 2 rows. */
+static void number_18(void) {
+    static const uint16_t of[][3] = {{4, 2, 2}, {2, 2, 2}, {3, 3, 2}, {3, 1, 2}, {3, 2, 3}, {3, 2, 1}, {0, 0, 0}, {2, 3, 2},
+                                     {259, 2, 2}, {3, 2, 65535}, {2, 2, 3}};
+    for (size_t i = 0; i < sizeof of / sizeof *of; i++) {
+        char what[40];
+        snprintf(what, sizeof what, "counts %u, %u, %u", of[i][0], of[i][1], of[i][2]);
+        refused(counted_a(of[i][0], of[i][1], of[i][2], LIVING), FILTER, CHOOSE, 18, what);
+    }
+    refused(counted_a(3, 2, 2, 123), FILTER, CHOOSE, 18, "filtered A, the counts of fresh A");
+    refused(counted_a(2, 2, 2, 127), FILTER, CHOOSE, 18, "fresh A, the counts of filtered A");
+    answers(counted_a(4, 0, 65535, LIVING), TEST, 0, 1, "test of fresh A does not look at counts");
+    answers(counted_a(9, 9, 9, 123), TEST, 1, 1, "test of filtered A does not look at counts");
+    answers(counted_a(9, 9, 9, LIVING), COMPARE, counted(0, 0, 0, 0, 0), 0, "compare does not look at counts");
+}
+
+/* Number 18 behind 1 and 12, and before 13 and 14. */
+static void order_of_18(void) {
+    request q = counted_a(3, 2, 1, LIVING);
+    q.lists[CODES].bytes--;
+    refused(q, FILTER, CHOOSE, 1, "and a count is untrue");
+    q = counted_a(3, 2, 1, LIVING);
+    q.lists[SUPPORTS].bytes = 2 * NEEDED - 2;
+    refused(q, FILTER, CHOOSE, 12, "and a count is untrue");
+    q = counted_a(3, 2, 1, LIVING);
+    q.lists[MARKS].bytes = 0;
+    refused(q, FILTER, CHOOSE, 11, "and a count is untrue");
+    q = counted_a(3, 2, 1, LIVING);
+    q.x = 64;
+    refused(q, CHOOSE, CHOOSE, 18, "and question 64 chosen");
+    q = counted_a(3, 2, 1, LIVING);
+    free(q.lists[ROWS].at), q.lists[ROWS] = NUMBERS(7);
+    refused(q, WITHDRAW, WITHDRAW, 18, "and a missing row");
+}
+
+/* Two sheets of 300 and 3 rows. The first one's count falls to 255, so that both its bytes change, the other's to 2. */
+static void two_bytes(void) {
+    request q = small_book(1, 303, 5);
+    q.call = WITHDRAW;
+    free(q.lists[SHEETS].at), q.lists[SHEETS] = NUMBERS(1, 300, 300, 1, 3, 3);
+    free(q.lists[QUESTIONS].at), q.lists[QUESTIONS] = NUMBERS(0, 0);
+    free(q.lists[ROWS].at), q.lists[ROWS] = new_list(2 * 46);
+    for (unsigned g = 0; g < 45; g++) put16(q.lists[ROWS], g, g);
+    put16(q.lists[ROWS], 45, 301);
+    outcome expected = unchanged(&q, counted(0, 64, 257, 46, 0), 40, 0);
+    uint64_t *marks = expected.lists[MARKS].at;
+    marks[0] &= ~0ull << 45, marks[4] &= ~(1ull << (301 - 256));
+    put16(expected.lists[SHEETS], 2, 255), put16(expected.lists[SHEETS], 5, 2);
+    check(&q, expected, "withdraw, a count in two bytes and another");
+    free_outcome(&expected), free_lists(&q);
+}
+
 /* Lists that are empty; on the last side they are NULL. */
 static void no_list(void) {
     answers(small_book(1, 1, 1), FILTER, counted(0, 64, 1, 0, 0), 1, "no combinations, no supports");
@@ -232,7 +300,7 @@ static void no_list(void) {
 
 /* Lists that are longer than any accepted one, or than any that is needed. */
 static void long_lists(void) {
-    refused_with(SHEETS, repeated(200000, 1), FILTER, COMPARE, 2, "100,000 sheets");
+    refused_with(SHEETS, repeated(300000, 1), FILTER, COMPARE, 2, "100,000 sheets");
     refused_with(QUESTIONS, repeated(100000, 1), FILTER, COMPARE, 5, "100,000 questions");
     refused_with(CODES, repeated(100000, 1), FILTER, COMPARE, 5, "100,000 codes");
     refused_with(COMBINATIONS, repeated(100000, 1), FILTER, TEST, 8, "50,000 combinations");
@@ -273,6 +341,9 @@ static void more_than_needed(void) {
     q = book_a_of(3, NEEDED);
     q.x = 64;
     refused_within(q, CHOOSE, CHOOSE, 14, 8, "no word touched but the one needed");
+    q = book_a_of(3, NEEDED);
+    put16(q.lists[SHEETS], 8, 1);
+    refused_within(q, FILTER, CHOOSE, 18, 8, "no word touched but the one needed");
 }
 
 /* Books that need none, or a whole number of words; a last word is lent that they do not need. */
@@ -300,18 +371,18 @@ static void words_needed(void) {
 static void most_supports(void) {
     enum { ROWS_EACH = 32, TIMES = 256, ALL = TIMES * 2 * ROWS_EACH * 2 };
     request q = {FILTER, 2, 0, 0,
-                 {NUMBERS(1, ROWS_EACH, 1, ROWS_EACH), NUMBERS(0, 0), repeated(2 * ROWS_EACH, 4), new_list(2 * 2 * TIMES),
-                  bytes(8, LIVING), repeated(ALL + 1, 7), new_list(0)},
+                 {[SHEETS] = NUMBERS(1, ROWS_EACH, ROWS_EACH, 1, ROWS_EACH, ROWS_EACH), [QUESTIONS] = NUMBERS(0, 0),
+                  [CODES] = repeated(2 * ROWS_EACH, 4), [COMBINATIONS] = new_list(2 * 2 * TIMES), [MARKS] = bytes(8, LIVING),
+                  [SUPPORTS] = repeated(ALL + 1, 7), [COUNTS] = new_list(0), [ROWS] = new_list(0)},
                  BEHIND};
     for (size_t i = 0; i < TIMES; i++) put16(q.lists[COMBINATIONS], 2 * i + 1, 1);
-    list supports = copy_of(q.lists[SUPPORTS]);
+    outcome expected = unchanged(&q, counted(0, 64, 2 * ROWS_EACH, 0, 0), 8, 2 * ALL);
     for (size_t i = 0; i < ALL; i++) {
         size_t row = i / 2 % ROWS_EACH, sheet = i / 2 / ROWS_EACH % 2;
-        put16(supports, i, sheet == i % 2 ? (unsigned)row : 0);
+        put16(expected.lists[SUPPORTS], i, sheet == i % 2 ? (unsigned)row : 0);
     }
-    outcome expected = {counted(0, 64, 2 * ROWS_EACH, 0, 0), q.lists[MARKS], supports, 8, 2 * ALL};
     check(&q, expected, "filter, 32,768 support numbers touched");
-    free(supports.at), free_lists(&q);
+    free_outcome(&expected), free_lists(&q);
 }
 
 int main(void) {
@@ -320,6 +391,9 @@ int main(void) {
     odd_counts();
     numbers_2_to_6();
     numbers_7_to_14();
+    number_18();
+    order_of_18();
+    two_bytes();
     no_list();
     long_lists();
     more_than_needed();

@@ -6,7 +6,7 @@
 #include <string.h>
 
 const char *const call_names[CALLS] = {"filter", "withdraw", "choose", "test", "compare"};
-const char *const list_names[LISTS] = {"sheets", "questions", "codes", "combinations", "marks", "supports", "rows"};
+const char *const list_names[LISTS] = {"sheets", "marks", "supports", "counts", "questions", "codes", "combinations", "rows"};
 
 list new_list(size_t bytes) { return (list){calloc(bytes + 1, 1), bytes}; }
 
@@ -22,7 +22,15 @@ void free_lists(request *q) {
     for (int i = 0; i < LISTS; i++) free(q->lists[i].at);
 }
 
-void free_outcome(outcome *o) { free(o->marks.at), free(o->supports.at); }
+outcome unchanged(const request *q, uint64_t answer, size_t mark_bytes, size_t support_bytes) {
+    outcome o = {.answer = answer, .mark_bytes = mark_bytes, .support_bytes = support_bytes};
+    for (int i = 0; i < WRITTEN; i++) o.lists[i] = copy_of(q->lists[i]);
+    return o;
+}
+
+void free_outcome(outcome *o) {
+    for (int i = 0; i < WRITTEN; i++) free(o->lists[i].at);
+}
 
 typedef struct {
     request lent;
@@ -34,9 +42,10 @@ static void make(void *with) {
     call->answer = answer_of(&call->lent);
 }
 
-/* An accepted change call writes marks and supports, and no call writes anything else. */
+/* An accepted change call writes marks, supports and counts, and no call writes anything else. */
 static bool writes(const request *q, uint64_t answer, int which) {
-    return q->call <= CHOOSE && wakhvosi_kind(answer) != WAKHVOSI_REFUSED && (which == MARKS || which == SUPPORTS);
+    bool counts = which == (counts_in_records ? SHEETS : COUNTS);
+    return q->call <= CHOOSE && wakhvosi_kind(answer) != WAKHVOSI_REFUSED && (which == MARKS || which == SUPPORTS || counts);
 }
 
 /* The list laid on its pages as the expected outcome asks. */
@@ -67,6 +76,18 @@ static const char *touched_list(const fenced pages[LISTS], const unsigned char *
     return "it touches what is no list of its own";
 }
 
+/* NULL, or what is not as expected. */
+static const char *different(const outcome *left, const outcome *expected) {
+    static char said[60];
+    if (left->answer != expected->answer) return "another answer";
+    for (int i = 0; i < WRITTEN; i++)
+        if (!same(left->lists[i], expected->lists[i])) {
+            snprintf(said, sizeof said, "other %s", list_names[i]);
+            return said;
+        }
+    return NULL;
+}
+
 /* Makes the call on one side. */
 static const char *wrong_there(const request *q, const outcome *expected, outcome *left) {
     making call = {*q, 0};
@@ -75,18 +96,15 @@ static const char *wrong_there(const request *q, const outcome *expected, outcom
     const unsigned char *touched;
     const char *how = stays_inside(make, &call, &touched) ? NULL : touched_list(pages, touched);
     left->answer = call.answer;
-    take_back(left->marks, pages[MARKS]), take_back(left->supports, pages[SUPPORTS]);
+    for (int i = 0; i < WRITTEN; i++) take_back(left->lists[i], pages[i]);
     for (int i = 0; i < LISTS; i++) unfence(pages[i]);
-    if (how) return how;
-    if (left->answer != expected->answer) return "another answer";
-    if (!same(left->marks, expected->marks)) return "other marks";
-    return same(left->supports, expected->supports) ? NULL : "other supports";
+    return how ? how : different(left, expected);
 }
 
 const char *wrong(request *q, const outcome *expected, outcome *left) {
     static char said[120];
     bool ok = true;
-    *left = (outcome){0, new_list(q->lists[MARKS].bytes), new_list(q->lists[SUPPORTS].bytes), 0, 0};
+    *left = unchanged(q, 0, 0, 0);
     for (q->where = BEHIND; q->where <= last_side; q->where++) {
         const char *how = wrong_there(q, expected, left);
         if (how && ok) snprintf(said, sizeof said, "each list with %s: %s", side_names[q->where], how);

@@ -5,7 +5,8 @@
 #include <stdint.h>
 
 enum { FILTER, WITHDRAW, CHOOSE, TEST, COMPARE, CALLS };
-enum { SHEETS, QUESTIONS, CODES, COMBINATIONS, MARKS, SUPPORTS, ROWS, LISTS };
+/* The lists that a call may write come first. The counts are lent where they do not stand in the sheets' records. */
+enum { SHEETS, MARKS, SUPPORTS, COUNTS, WRITTEN, QUESTIONS = WRITTEN, CODES, COMBINATIONS, ROWS, LISTS };
 extern const char *const call_names[CALLS], *const list_names[LISTS];
 
 /* A list as the bytes that it takes in memory, the lowest byte of a number first. */
@@ -28,13 +29,16 @@ typedef struct {
 
 void free_lists(request *q);
 
-/* The answer of a call, packed as include/wakhvosi.h says; what it leaves in the marks and in the supports; and how many bytes of
- * these, from the first on, it may touch. */
+/* The answer of a call, packed as include/wakhvosi.h says; what it leaves in the lists that it may write; and how many bytes of the
+ * marks and of the supports, from the first on, it may touch. */
 typedef struct {
     uint64_t answer;
-    list marks, supports;
+    list lists[WRITTEN];
     size_t mark_bytes, support_bytes;
 } outcome;
+
+/* The outcome of a call that answers this and leaves every list as it is; the lists are copies. */
+outcome unchanged(const request *q, uint64_t answer, size_t mark_bytes, size_t support_bytes);
 
 void free_outcome(outcome *o);
 
@@ -43,7 +47,8 @@ void free_outcome(outcome *o);
  * what is wrong with the first outcome that is not as expected. The last outcome is put into `left`. */
 const char *wrong(request *q, const outcome *expected, outcome *left);
 
-/* How a driver makes a call, and the last of the sides that it can lay a list on. */
+/* How a driver makes a call, the last of the sides that it can lay a list on, and whether a sheet's record holds its count. */
 uint64_t answer_of(const request *q);
 extern const side last_side;
+extern const bool counts_in_records;
 #endif

@@ -6,6 +6,7 @@
 #include <stdlib.h>
 #include <string.h>
 
+enum { TWO = 2 * WAKHVOSI_SHEET_BYTES }; /* bytes of two sheets */
 enum { MOST_SHEETS = WAKHVOSI_MAX_SHEETS + 1, MOST_MEMBERS = (WAKHVOSI_MAX_COMBINATIONS + 1) * (WAKHVOSI_MAX_MEMBERS + 1) };
 
 static unsigned passed, failed;
@@ -30,14 +31,14 @@ static size_t put(uint8_t *at, size_t i, unsigned x) {
 
 static unsigned get(const uint8_t *at, size_t i) { return at[2 * i] + 256u * at[2 * i + 1]; }
 
-static uint8_t sheets[4 * MOST_SHEETS], questions[2 * 9 * MOST_SHEETS], members[2 * MOST_MEMBERS];
+static uint8_t sheets[WAKHVOSI_SHEET_BYTES * MOST_SHEETS], questions[2 * 9 * MOST_SHEETS], members[2 * MOST_MEMBERS];
 static uint8_t codes[2 * 9 * 5000], marks[1024], supports[1 << 20];
 
-/* Filters the book, all rows living, with marks and supports of the bytes that the header's functions name. */
+/* Filters the book, all rows living and counted, with marks and supports of the bytes that the header's functions name. */
 static uint64_t filter(const book *b) {
     size_t s = 0, q = 0, c = 0;
     for (size_t i = 0; i < b->sheets; i++) {
-        s = put(sheets, put(sheets, s, b->widths[i]), b->rows[i]);
+        s = put(sheets, put(sheets, put(sheets, s, b->widths[i]), b->rows[i]), b->rows[i]);
         for (unsigned k = 0; k < b->widths[i]; k++) q = put(questions, q, b->question + k);
         c += (size_t)b->widths[i] * b->rows[i];
     }
@@ -95,9 +96,11 @@ static void sizes(void) {
     book uneven = combined(4, 1, 3, 2);
     uneven.rows[0] = 300, uneven.rows[1] = 0x102, uneven.rows[2] = 7;
     exact(uneven, "sheets of different sizes");
-    check(wakhvosi_sheet_rows(sheets, 16, 1) == 0x102 && wakhvosi_sheet_rows(sheets, 16, 4) == 0, "rows of a sheet");
+    const size_t four = 4 * WAKHVOSI_SHEET_BYTES;
+    check(wakhvosi_sheet_rows(sheets, four, 1) == 0x102 && wakhvosi_sheet_rows(sheets, four, 4) == 0, "rows of a sheet");
+    check(wakhvosi_sheet_live(sheets, four, 1) == 0x102 && wakhvosi_sheet_live(sheets, four, 4) == 0, "count of a sheet");
     const uint8_t beyond[] = {0, 1}; /* sheet 256 */
-    check(wakhvosi_supports_bytes(sheets, 16, 2, beyond, sizeof beyond) == 0, "nothing is needed for a missing sheet");
+    check(wakhvosi_supports_bytes(sheets, four, 2, beyond, sizeof beyond) == 0, "nothing is needed for a missing sheet");
     check(wakhvosi_marks_bytes(NULL, 0) == 0 && wakhvosi_supports_bytes(NULL, 0, 2, NULL, 0) == 0, "nothing is needed of no book");
 }
 
@@ -118,12 +121,12 @@ static void limits(void) {
 
 static void most_bytes(void) {
     book full = plain(1, WAKHVOSI_MAX_ROWS);
-    check(settled(full) && wakhvosi_marks_bytes(sheets, 4) == WAKHVOSI_MAX_MARKS_BYTES, "most marks");
+    check(settled(full) && wakhvosi_marks_bytes(sheets, WAKHVOSI_SHEET_BYTES) == WAKHVOSI_MAX_MARKS_BYTES, "most marks");
     /* two sheets of 128 rows in 64 combinations need 2 * 2 * 128 * 64 numbers */
     book most = combined(2, 128, 2, 64), more = most;
     more.rows[0]++;
     check(settled(most) && WAKHVOSI_MAX_SUPPORTS == 2 * 2 * 128 * 64, "most supports");
-    check(wakhvosi_supports_bytes(sheets, 8, 2, members, 2 * most.members) == WAKHVOSI_MAX_SUPPORTS_BYTES, "bytes of these");
+    check(wakhvosi_supports_bytes(sheets, TWO, 2, members, 2 * most.members) == WAKHVOSI_MAX_SUPPORTS_BYTES, "bytes of these");
     check(refused(more, 12), "more supports");
 }
 
@@ -133,23 +136,27 @@ static void answers(void) {
     put(codes, 3, 1); /* row 1 of sheet 1 fits no row of sheet 0 */
     uint64_t answer = filter(&b);
     check(wakhvosi_kind(answer) == WAKHVOSI_SETTLED && wakhvosi_left(answer) == 3 && wakhvosi_deleted(answer) == 1, "a row falls");
+    check(wakhvosi_sheet_live(sheets, TWO, 0) == 2 && wakhvosi_sheet_live(sheets, TWO, 1) == 1, "a count falls");
     check(get(supports, 6) == WAKHVOSI_NO_SUPPORT && get(supports, 7) == WAKHVOSI_NO_SUPPORT, "no support");
     check(get(supports, 4) == 0 && get(supports, 5) == 0, "a support");
-    uint64_t yes = wakhvosi_test(sheets, 8, questions, 4, codes, 8, 2, members, 4, marks, 8);
+    uint64_t yes = wakhvosi_test(sheets, TWO, questions, 4, codes, 8, 2, members, 4, marks, 8);
     marks[0] |= 8;
-    uint64_t no = wakhvosi_test(sheets, 8, questions, 4, codes, 8, 2, members, 4, marks, 8);
+    uint64_t no = wakhvosi_test(sheets, TWO, questions, 4, codes, 8, 2, members, 4, marks, 8);
     check(wakhvosi_kind(yes) == WAKHVOSI_YES && wakhvosi_refusal(yes) == 0, "test, yes");
     check(wakhvosi_kind(no) == WAKHVOSI_NO && wakhvosi_refusal(no) == 0, "test, no");
-    uint64_t unasked = wakhvosi_compare(sheets, 8, questions, 4, codes, 8, 0, 4);
-    uint64_t agree = wakhvosi_compare(sheets, 8, questions, 4, codes, 8, 0, 2);
-    uint64_t differ = wakhvosi_compare(sheets, 8, questions, 4, codes, 8, 0, 3);
+    const uint8_t first[] = {0, 0};
+    answer = wakhvosi_withdraw(sheets, TWO, questions, 4, codes, 8, 2, members, 4, marks, 8, supports, 16, first, sizeof first);
+    check(wakhvosi_kind(answer) == WAKHVOSI_REFUSED && wakhvosi_refusal(answer) == 18, "a row more than counted");
+    put(sheets, 5, 2);
+    uint64_t unasked = wakhvosi_compare(sheets, TWO, questions, 4, codes, 8, 0, 4);
+    uint64_t agree = wakhvosi_compare(sheets, TWO, questions, 4, codes, 8, 0, 2);
+    uint64_t differ = wakhvosi_compare(sheets, TWO, questions, 4, codes, 8, 0, 3);
     check(wakhvosi_kind(agree) == WAKHVOSI_AGREE && wakhvosi_subject(agree) == WAKHVOSI_NO_QUESTION, "compare, agree");
     check(wakhvosi_kind(differ) == WAKHVOSI_DIFFER && wakhvosi_subject(differ) == 0 && wakhvosi_refusal(differ) == 0, "compare, differ");
     check(wakhvosi_kind(unasked) == WAKHVOSI_REFUSED && wakhvosi_refusal(unasked) == 13, "compare, refused");
-    const uint8_t first[] = {0, 0};
-    answer = wakhvosi_withdraw(sheets, 8, questions, 4, codes, 8, 2, members, 4, marks, 8, supports, 16, first, sizeof first);
+    answer = wakhvosi_withdraw(sheets, TWO, questions, 4, codes, 8, 2, members, 4, marks, 8, supports, 16, first, sizeof first);
     check(wakhvosi_withdrawn(answer) == 1 && wakhvosi_left(answer) == 2 && wakhvosi_deleted(answer) == 1, "withdrawn");
-    answer = wakhvosi_choose(sheets, 8, questions, 4, codes, 8, 2, members, 4, marks, 8, supports, 16, 0, 5);
+    answer = wakhvosi_choose(sheets, TWO, questions, 4, codes, 8, 2, members, 4, marks, 8, supports, 16, 0, 5);
     check(wakhvosi_kind(answer) == WAKHVOSI_EMPTIED && wakhvosi_subject(answer) == 0 && wakhvosi_withdrawn(answer) == 2, "emptied");
 }
 
@@ -158,9 +165,9 @@ static void any_code(void) {
     book b = combined(2, 2, 2, 1);
     put(codes, 3, WAKHVOSI_ANY);
     check(settled(b) && wakhvosi_left(filter(&b)) == 4, "any fits");
-    uint64_t answer = wakhvosi_choose(sheets, 8, questions, 4, codes, 8, 2, members, 4, marks, 8, supports, 16, 0, WAKHVOSI_ANY);
+    uint64_t answer = wakhvosi_choose(sheets, TWO, questions, 4, codes, 8, 2, members, 4, marks, 8, supports, 16, 0, WAKHVOSI_ANY);
     check(wakhvosi_left(answer) == 4 && wakhvosi_withdrawn(answer) == 0, "any chosen");
-    answer = wakhvosi_choose(sheets, 8, questions, 4, codes, 8, 2, members, 4, marks, 8, supports, 16, 0, WAKHVOSI_ANY - 1);
+    answer = wakhvosi_choose(sheets, TWO, questions, 4, codes, 8, 2, members, 4, marks, 8, supports, 16, 0, WAKHVOSI_ANY - 1);
     check(wakhvosi_kind(answer) == WAKHVOSI_EMPTIED && wakhvosi_withdrawn(answer) == 3, "a choice that any alone fits");
 }
 

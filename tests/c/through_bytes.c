@@ -5,6 +5,7 @@
 _Static_assert(__BYTE_ORDER__ == __ORDER_LITTLE_ENDIAN__, "the lists' bytes are lent as they lie in memory");
 
 const side last_side = ODD;
+const bool counts_in_records = true;
 
 #define AT(i) q->lists[i].at, q->lists[i].bytes
 #define BOOK AT(SHEETS), AT(QUESTIONS), AT(CODES)

@@ -2,9 +2,10 @@
 #include "lend.h"
 
 const side last_side = BEFORE;
+const bool counts_in_records = false;
 
 #define BOOK_LISTS const uint16_t *, size_t, const uint16_t *, size_t, const uint16_t *, size_t
-#define CHANGED_LISTS BOOK_LISTS, uint16_t, const uint16_t *, size_t, uint64_t *, size_t, uint16_t *, size_t
+#define CHANGED_LISTS BOOK_LISTS, uint16_t, const uint16_t *, size_t, uint64_t *, size_t, uint16_t *, size_t, uint16_t *, size_t
 void plain_filter(CHANGED_LISTS, uint16_t *);
 void plain_withdraw(CHANGED_LISTS, const uint16_t *, size_t, uint16_t *);
 void plain_choose(CHANGED_LISTS, const uint16_t *, uint16_t *);
@@ -13,7 +14,7 @@ uint32_t plain_compare(BOOK_LISTS, uint16_t, uint16_t);
 
 #define AT(i, type) (type *)q->lists[i].at, q->lists[i].bytes / sizeof(type)
 #define BOOK AT(SHEETS, uint16_t), AT(QUESTIONS, uint16_t), AT(CODES, uint16_t)
-#define LENT BOOK, q->m, AT(COMBINATIONS, uint16_t), AT(MARKS, uint64_t), AT(SUPPORTS, uint16_t)
+#define LENT BOOK, q->m, AT(COMBINATIONS, uint16_t), AT(MARKS, uint64_t), AT(SUPPORTS, uint16_t), AT(COUNTS, uint16_t)
 
 /* The answer's five numbers in one; the largest number where a kind or a subject has no room in it. */
 static uint64_t packed(const uint16_t numbers[5]) {

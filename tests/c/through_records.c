@@ -3,6 +3,7 @@
 #include "wakhvosi.h"
 
 const side last_side = BEFORE;
+const bool counts_in_records = true;
 
 #define AT(i, type) (type *)q->lists[i].at, q->lists[i].bytes / sizeof(type)
 #define BOOK AT(SHEETS, wakhvosi_sheet), AT(QUESTIONS, uint16_t), AT(CODES, uint16_t)

@@ -8,7 +8,7 @@ from typing import Callable, Iterator, NamedTuple, Optional
 Row = dict[int, int]  # question -> code
 Combination = list[int]
 Answer = tuple[int, ...]
-Reply = tuple[Answer, list[int], list[int]]
+Reply = tuple[Answer, list[int], list[int], list[int]]  # answer, marks, supports, counts
 
 SETTLED, EMPTIED, REFUSED = 0, 1, 2
 DIFFER, AGREE = 0, 1
@@ -31,6 +31,7 @@ class Request:
     combinations: list[int] = field(default_factory=list)
     marks: list[int] = field(default_factory=list)
     supports: list[int] = field(default_factory=list)
+    counts: list[int] = field(default_factory=list)  # of each sheet's living rows
     rows: list[int] = field(default_factory=list)
     question: int = 0
     code: int = 0
@@ -70,6 +71,10 @@ def read_combinations(request: Request) -> list[Combination]:
 
 def living_rows(book: Book, marks: list[int]) -> set[int]:
     return {g for g in range(len(book.rows)) if marks[g // 64] >> (g % 64) & 1}
+
+
+def true_counts(book: Book, living: set[int]) -> list[int]:
+    return [len([g for g in rows if g in living]) for rows in book.sheets]
 
 
 # Refusals: each test may be run only when all tests before it are false
@@ -143,6 +148,11 @@ def bad_support_list(request: Request) -> bool:
     return needed > MOST_SUPPORTS or len(request.supports) < needed
 
 
+def untrue_counts(request: Request) -> bool:
+    book = read_book(request)
+    return request.counts != true_counts(book, living_rows(book, request.marks))
+
+
 def bad_book_number(request: Request) -> bool:
     return any(g >= row_total(request) for g in request.rows)
 
@@ -163,14 +173,15 @@ FAULT_TESTS: dict[int, Callable[[Request], bool]] = {
     10: disconnected_combination,
     11: too_few_marks,
     12: bad_support_list,
+    18: untrue_counts,
     13: bad_book_number,
     14: bad_choice,
 }
 
 FAULTS_USED: dict[str, list[int]] = {
-    "filter": [2, 3, 4, 5, 6, 7, 8, 9, 10, 11, 12],
-    "withdraw": [2, 3, 4, 5, 6, 7, 8, 9, 10, 11, 12, 13],
-    "choose": [2, 3, 4, 5, 6, 7, 8, 9, 10, 11, 12, 14],
+    "filter": [2, 3, 4, 5, 6, 7, 8, 9, 10, 11, 12, 18],
+    "withdraw": [2, 3, 4, 5, 6, 7, 8, 9, 10, 11, 12, 18, 13],
+    "choose": [2, 3, 4, 5, 6, 7, 8, 9, 10, 11, 12, 18, 14],
     "test": [2, 3, 4, 5, 6, 7, 8, 9, 10, 11],
     "compare": [2, 3, 4, 5, 6, 13],
 }
@@ -288,9 +299,9 @@ def change(request: Request) -> Reply:
     living = living_rows(book, request.marks)
     rest = living - struck_rows(book, request)
     kept = filtered(book, combinations, rest)
-    counts = (len(kept), len(living) - len(rest), len(rest) - len(kept))
-    marks = marks_after(book, request.marks, kept)
-    return verdict(book, kept) + counts, marks, supports_after(book, combinations, request.supports, kept)
+    answer = verdict(book, kept) + (len(kept), len(living) - len(rest), len(rest) - len(kept))
+    supports = supports_after(book, combinations, request.supports, kept)
+    return answer, marks_after(book, request.marks, kept), supports, true_counts(book, kept)
 
 
 def test(request: Request) -> Answer:
@@ -309,7 +320,7 @@ ASKING: dict[str, Callable[[Request], Answer]] = {"test": test, "compare": compa
 
 
 def reply(request: Request) -> Reply:
-    """Five numbers for a change call, two for test and compare; then the marks and the supports after."""
+    """Five numbers for a change call, two for test and compare; then the marks, the supports and the counts after."""
     fault = first_fault(request)
     if fault:
         answer = (REFUSED, fault) if request.call in ASKING else (REFUSED, fault, 0, 0, 0)
@@ -317,7 +328,7 @@ def reply(request: Request) -> Reply:
         answer = ASKING[request.call](request)
     else:
         return change(request)
-    return answer, list(request.marks), list(request.supports)
+    return answer, list(request.marks), list(request.supports), list(request.counts)
 
 
 # The strike rule
@@ -325,22 +336,25 @@ def reply(request: Request) -> Reply:
 
 class Expectation(NamedTuple):
     marks: list[int]
+    counts: list[int]
     last_accepted: Optional[int]  # place of the last accepted call in the list
     supports: Optional[list[int]]  # that call's support list
     answer: Optional[tuple[int, int, int]]  # that call's kind, sheet and rows left
     gone: Optional[int]  # all that accepted calls withdrew and deleted
 
 
-def strike_rule(book: Book, combinations: list[Combination], marks: list[int], calls: list[Request]) -> Expectation:
+def strike_rule(shared: Request, calls: list[Request]) -> Expectation:
     """What a list of change calls on one book leaves, by one filtering of the starting rows not struck."""
     accepted = [place for place, call in enumerate(calls) if not first_fault(call)]
     if not accepted:
-        return Expectation(list(marks), None, None, None, None)
+        return Expectation(list(shared.marks), list(shared.counts), None, None, None, None)
+    book, combinations = read_book(shared), read_combinations(shared)
     struck = set().union(*(struck_rows(book, calls[place]) for place in accepted))
-    starting = living_rows(book, marks)
+    starting = living_rows(book, shared.marks)
     kept = filtered(book, combinations, starting - struck)
     return Expectation(
-        marks_after(book, marks, kept),
+        marks_after(book, shared.marks, kept),
+        true_counts(book, kept),
         accepted[-1],
         supports_after(book, combinations, calls[accepted[-1]].supports, kept),
         verdict(book, kept) + (len(kept),),
@@ -348,15 +362,16 @@ def strike_rule(book: Book, combinations: list[Combination], marks: list[int], c
     )
 
 
-def in_turn(marks: list[int], calls: list[Request]) -> list[tuple[Request, Reply]]:
-    """The calls one after the other; a call lending the starting marks is given those the last one left."""
-    done, left = [], marks
+def in_turn(shared: Request, calls: list[Request]) -> list[tuple[Request, Reply]]:
+    """The calls one after the other; a call lending the starting marks and counts is given those the last one left."""
+    done, marks, counts = [], shared.marks, shared.counts
     for call in calls:
-        shares_marks = call.marks == marks
-        lent = replace(call, marks=left) if shares_marks else call
-        answer, marks_left, supports = reply(lent)
-        done.append((lent, (answer, marks_left, supports)))
-        left = marks_left if shares_marks else left
+        shares = (call.marks, call.counts) == (shared.marks, shared.counts)
+        lent = replace(call, marks=marks, counts=counts) if shares else call
+        left = reply(lent)
+        done.append((lent, left))
+        if shares:
+            _, marks, _, counts = left
     return done
 
 
@@ -405,10 +420,11 @@ def read_text(text: bytes) -> Request:
 
 
 def listing_lines(request: Request) -> list[list[int]]:
-    """The listing of a text in the form: all rows living, the support list as long as may be needed."""
+    """The listing of a text in the form: all rows living and counted, the support list as long as may be needed."""
     request.marks = [2**64 - 1] * 64
     request.supports = [0] * MOST_SUPPORTS
-    (kind, sheet, left, _, deleted), marks, _ = reply(request)
+    request.counts = [rows for _, rows in request.sheets]
+    (kind, sheet, left, _, deleted), marks, _, _ = reply(request)
     lines = [[kind, sheet, left, deleted]]
     if kind != REFUSED:
         book = read_book(request)

@@ -25,7 +25,7 @@ NOT_IN_FORM = b"2,1,0,0\n"
 
 
 def book_a() -> Request:
-    return replace(book.read_text(TEXT_A), marks=[0b1111111], supports=[0] * 28)
+    return replace(book.read_text(TEXT_A), marks=[0b1111111], supports=[0] * 28, counts=[3, 2, 2])
 
 
 def triangle(m: int, combinations: list[int]) -> Request:
@@ -38,12 +38,13 @@ def triangle(m: int, combinations: list[int]) -> Request:
         combinations=combinations,
         marks=[0b111111],
         supports=[0] * 24,
+        counts=[2, 2, 2],
     )
 
 
 def after(request: Request) -> Request:
-    _, marks, supports = book.reply(request)
-    return replace(request, marks=marks, supports=supports)
+    _, marks, supports, counts = book.reply(request)
+    return replace(request, marks=marks, supports=supports, counts=counts)
 
 
 def withdraw(request: Request, *rows: int) -> Request:
@@ -51,8 +52,8 @@ def withdraw(request: Request, *rows: int) -> Request:
 
 
 def p1() -> bool:
-    answer, marks, _ = book.reply(book_a())
-    return answer == (0, 64, 6, 0, 1) and marks == [0b1111011]
+    answer, marks, _, counts = book.reply(book_a())
+    return answer == (0, 64, 6, 0, 1) and marks == [0b1111011] and counts == [2, 2, 2]
 
 
 def p2() -> bool:
@@ -60,38 +61,51 @@ def p2() -> bool:
 
 
 def p3() -> bool:
-    answer, marks, _ = book.reply(withdraw(after(book_a()), 5))
-    return answer == (0, 64, 3, 1, 2) and marks == [0b1010010]
+    answer, marks, _, counts = book.reply(withdraw(after(book_a()), 5))
+    return answer == (0, 64, 3, 1, 2) and marks == [0b1010010] and counts == [1, 1, 1]
 
 
 def p4() -> bool:
-    answer, marks, supports = book.reply(withdraw(after(withdraw(after(book_a()), 5)), 6))
-    return answer == (1, 0, 0, 1, 2) and marks == [0] and supports == [65535] * 28
+    reply = book.reply(withdraw(after(withdraw(after(book_a()), 5)), 6))
+    return reply == ((1, 0, 0, 1, 2), [0], [65535] * 28, [0, 0, 0])
 
 
 def p5() -> bool:
-    answer, marks, _ = book.reply(withdraw(book_a(), 5))
-    return answer == (0, 64, 3, 1, 3) and marks == [0b1010010]
+    answer, marks, _, counts = book.reply(withdraw(book_a(), 5))
+    return answer == (0, 64, 3, 1, 3) and marks == [0b1010010] and counts == [1, 1, 1]
 
 
 def p6() -> bool:
-    answer, marks, _ = book.reply(triangle(2, [0, 1, 0, 2, 1, 2]))
-    return answer == (0, 64, 6, 0, 0) and marks == [0b111111]
+    answer, marks, _, counts = book.reply(triangle(2, [0, 1, 0, 2, 1, 2]))
+    return answer == (0, 64, 6, 0, 0) and marks == [0b111111] and counts == [2, 2, 2]
 
 
 def p7() -> bool:
-    answer, marks, _ = book.reply(triangle(3, [0, 1, 2]))
-    return answer == (1, 0, 0, 0, 6) and marks == [0]
+    answer, marks, _, counts = book.reply(triangle(3, [0, 1, 2]))
+    return answer == (1, 0, 0, 0, 6) and marks == [0] and counts == [0, 0, 0]
 
 
 def p8() -> bool:
-    request = Request(sheets=[(1, 1), (1, 0)], questions=[0, 0], codes=[0], marks=[1])
-    return book.reply(request) == ((1, 1, 1, 0, 0), [1], [])
+    request = Request(sheets=[(1, 1), (1, 0)], questions=[0, 0], codes=[0], marks=[1], counts=[1, 0])
+    return book.reply(request) == ((1, 1, 1, 0, 0), [1], [], [1, 0])
 
 
 def p9() -> bool:
-    answer, marks, _ = book.reply(replace(book_a(), call="choose", question=2, code=6))
-    return answer == (0, 64, 3, 2, 2) and marks == [0b1010010]
+    answer, marks, _, counts = book.reply(replace(book_a(), call="choose", question=2, code=6))
+    return answer == (0, 64, 3, 2, 2) and marks == [0b1010010] and counts == [1, 1, 1]
+
+
+def counts_by_hand() -> bool:
+    """On filtered A: the counts of fresh A are refused and so is a count more, a count less, another sum or no count at all; a call
+    refused for another fault does not say so, and test and compare do not look."""
+    left = after(book_a())
+    others = ([3, 2, 2], [2, 2, 3], [1, 3, 2], [2, 1, 2], [2, 2], [2, 2, 2, 0], [], [258, 2, 2])
+    refused = [book.reply(replace(left, counts=counts)) for counts in others]
+    untrue = replace(left, counts=[3, 2, 2], rows=[9, 0], question=64)
+    asked = [replace(untrue, call=call) for call in draw.CALLS] + [replace(untrue, supports=[])]
+    told = [book.first_fault(request) for request in asked]
+    whole = [reply == ((2, 18, 0, 0, 0), left.marks, left.supports, counts) for reply, counts in zip(refused, others)]
+    return all(whole) and told == [18, 18, 18, 0, 13, 12] and book.first_fault(left) == 0
 
 
 def input_a() -> bool:
@@ -129,12 +143,13 @@ def beside_any() -> Request:
         combinations=[0, 1, 2],
         marks=[0b11111111],
         supports=[0] * 24,
+        counts=[2, 4, 2],
     )
 
 
 def any_is_no_chain() -> bool:
     """Row 1 agrees with row 2, and row 2 by its any with both rows of the last sheet; but row 1 with neither of these. It falls."""
-    answer, marks, supports = book.reply(beside_any())
+    answer, marks, supports, _ = book.reply(beside_any())
     return answer == (0, 64, 4, 0, 4) and marks == [0b10010101] and supports[:6] == [0, 0, 1] + [65535] * 3
 
 
@@ -170,9 +185,9 @@ def clash_unless_agreeing() -> bool:
 def spare_and_missing_words() -> bool:
     """Spare bits, spare words and spare supports stay; a mark word too few is refused."""
     lent = replace(book_a(), marks=[2**64 - 1, 5], supports=[7] * 30)
-    _, marks, supports = book.reply(lent)
+    _, marks, supports, _ = book.reply(lent)
     kept = marks == [2**64 - 1 - 0b100, 5] and supports[28:] == [7, 7]
-    return kept and book.reply(replace(lent, marks=[])) == ((2, 11, 0, 0, 0), [], [7] * 30)
+    return kept and book.reply(replace(lent, marks=[])) == ((2, 11, 0, 0, 0), [], [7] * 30, [3, 2, 2])
 
 
 # Boundaries
@@ -202,12 +217,12 @@ def book_number_edge() -> bool:
 
 def faults_not_used() -> bool:
     """What a call does not use is no reason to refuse it."""
-    bare = replace(book_a(), rows=[0, 1], m=5, combinations=[9], marks=[], supports=[])
+    bare = replace(book_a(), rows=[0, 1], m=5, combinations=[9], marks=[], supports=[], counts=[])
     asked = [
         replace(book_a(), call="filter", rows=[7], question=64),
         replace(book_a(), call="withdraw", question=64),
         replace(book_a(), call="choose", rows=[7]),
-        replace(book_a(), call="test", supports=[], rows=[7], question=64),
+        replace(book_a(), call="test", supports=[], counts=[], rows=[7], question=64),
         replace(bare, call="compare", question=64),
     ]
     return all(book.first_fault(request) == 0 for request in asked)
@@ -224,6 +239,8 @@ def list_edges() -> bool:
         (8, replace(fresh, combinations=fresh.combinations + [0])),
         (8, replace(fresh, combinations=fresh.combinations[:-1])),
         (12, replace(fresh, supports=fresh.supports[:-1])),
+        (18, replace(fresh, counts=fresh.counts + [0])),
+        (18, replace(fresh, counts=fresh.counts[:-1])),
         (0, replace(fresh, supports=fresh.supports + [0])),
         (0, replace(fresh, combinations=[], supports=[])),
     ]
@@ -233,8 +250,8 @@ def list_edges() -> bool:
 def whole_supports() -> bool:
     """Where 32,768 numbers are needed, all are written."""
     request = draw.lend(random.Random(1), draw.edge_supports(64), "filter")
-    request.marks = [2**64 - 1]
-    answer, _, supports = book.reply(request)
+    request.marks, request.counts = [2**64 - 1], [32, 32]
+    answer, _, supports, _ = book.reply(request)
     return answer == (0, 64, 64, 0, 0) and max(supports[:32768]) == 31
 
 
@@ -284,26 +301,41 @@ def changes_accepted(size: str, count: int) -> Replied:
 
 
 def counts_add_up() -> bool:
-    for request, (answer, marks, _) in changes_accepted("small", 600) + changes_accepted("wide", 60):
+    """Those of the answer come to the rows that lived; those of the sheets are true before and after, and come to the rows left."""
+    for request, (answer, marks, _, counts) in changes_accepted("small", 600) + changes_accepted("wide", 60):
         whole = book.read_book(request)
         living = len(book.living_rows(whole, request.marks))
-        if sum(answer[2:]) != living or answer[2] != len(book.living_rows(whole, marks)):
+        if sum(answer[2:]) != living or answer[2] != len(book.living_rows(whole, marks)) or sum(counts) != answer[2]:
+            return False
+        if [request.counts, counts] != [reach.counted(request, lent) for lent in (request.marks, marks)]:
             return False
     return True
 
 
+def old_counts_refused() -> bool:
+    """After a call the counts lent to it go with the marks that it left only where no row fell."""
+    seen = set()
+    for request, (answer, marks, supports, counts) in changes_accepted("small", 600):
+        again = replace(request, marks=marks, supports=supports)
+        fell = answer[3] + answer[4] > 0
+        seen.add(fell)
+        if [book.first_fault(again), book.first_fault(replace(again, counts=counts))] != [18 if fell else 0, 0]:
+            return False
+    return seen == {False, True}
+
+
 def filtering_repeats() -> bool:
     """A filter after a change call changes nothing, writes the same supports, and its marks test settled."""
-    for request, (answer, marks, supports) in changes_accepted("small", 600) + changes_accepted("wide", 60):
-        again = replace(request, call="filter", marks=marks, supports=supports)
-        same = book.reply(again) == (answer[:3] + (0, 0), marks, supports)
+    for request, (answer, marks, supports, counts) in changes_accepted("small", 600) + changes_accepted("wide", 60):
+        again = replace(request, call="filter", marks=marks, supports=supports, counts=counts)
+        same = book.reply(again) == (answer[:3] + (0, 0), marks, supports, counts)
         if not same or book.reply(replace(again, call="test"))[0] != (1, 0):
             return False
     return True
 
 
 def spare_stays() -> bool:
-    for request, (_, marks, supports) in changes_accepted("small", 600) + changes_accepted("wide", 60):
+    for request, (_, marks, supports, _) in changes_accepted("small", 600) + changes_accepted("wide", 60):
         words, bits = divmod(book.row_total(request), 64)
         needed = book.supports_needed(request)
         lent, left = request.marks[words:], marks[words:]
@@ -315,14 +347,14 @@ def spare_stays() -> bool:
 
 def refusals_change_nothing() -> bool:
     refused = [pair for pair in sample("damaged", 600) if pair[1][0][0] == book.REFUSED]
-    unchanged = [reply[1:] == (request.marks, request.supports) for request, reply in refused]
+    unchanged = [reply[1:] == (request.marks, request.supports, request.counts) for request, reply in refused]
     return len(refused) == 600 and all(unchanged)
 
 
 def largest_by_all_subsets() -> bool:
     """The rows kept are the union of all settled subsets."""
     seen = 0
-    for request, (_, marks, _) in changes_accepted("small", 600):
+    for request, (_, marks, _, _) in changes_accepted("small", 600):
         whole, combinations = book.read_book(request), book.read_combinations(request)
         rest = sorted(book.living_rows(whole, request.marks) - book.struck_rows(whole, request))
         if len(rest) > 8 or not combinations:
@@ -361,7 +393,7 @@ def orders_over(whole: Book, sheets: Iterable[int], living: set[int]) -> Iterato
 def no_order_lost() -> bool:
     """Of books with any and without."""
     found = {False: 0, True: 0}
-    for request, (answer, marks, _) in changes_accepted("small", 600) + changes_accepted("any", 300):
+    for request, (answer, marks, _, _) in changes_accepted("small", 600) + changes_accepted("any", 300):
         whole = book.read_book(request)
         sheets = range(len(whole.sheets))
         if order_count(whole, sheets) > 500:
@@ -445,7 +477,7 @@ def connected_by_spreading() -> bool:
 def listing_as_filter() -> bool:
     """The listing of a network says what a filter of all its rows says."""
     for request, _ in sample("small", 600):
-        living = replace(request, call="filter", marks=[2**64 - 1])
+        living = replace(request, call="filter", marks=[2**64 - 1], counts=[rows for _, rows in request.sheets])
         kind, sheet, left, _, deleted = book.reply(living)[0]
         lines = book.listing(draw.write_text(living)).splitlines()
         if lines[0] != b"%d,%d,%d,%d" % (kind, sheet, left, deleted) or len(lines) != 1 + left:
@@ -462,35 +494,51 @@ def drawn_lists() -> list[tuple[Request, list[Request]]]:
 
 
 def list_agrees(shared: Request, calls: list[Request]) -> bool:
-    whole, combinations = book.read_book(shared), book.read_combinations(shared)
-    expected = book.strike_rule(whole, combinations, shared.marks, calls)
-    done = book.in_turn(shared.marks, calls)
+    expected = book.strike_rule(shared, calls)
+    done = book.in_turn(shared, calls)
     accepted = [place for place, (_, reply) in enumerate(done) if reply[0][0] != book.REFUSED]
-    unchanged = [reply[1:] == (call.marks, call.supports) for call, reply in done if reply[0][0] == book.REFUSED]
+    refused = [(call, reply) for call, reply in done if reply[0][0] == book.REFUSED]
+    unchanged = all(reply[1:] == (call.marks, call.supports, call.counts) for call, reply in refused)
     if not accepted:
-        return expected == (shared.marks, None, None, None, None) and all(unchanged)
-    answer, marks, supports = done[accepted[-1]][1]
+        return expected == (shared.marks, shared.counts, None, None, None, None) and unchanged
+    answer, marks, supports, counts = done[accepted[-1]][1]
     gone = sum(sum(done[place][1][0][3:]) for place in accepted)
-    starting = len(book.living_rows(whole, shared.marks))
-    left = (marks, accepted[-1], supports, answer[:3], gone)
-    return left == expected and starting == answer[2] + gone and all(unchanged)
+    starting = len(book.living_rows(book.read_book(shared), shared.marks))
+    left = (marks, counts, accepted[-1], supports, answer[:3], gone)
+    return left == expected and starting == answer[2] + gone and sum(counts) == answer[2] and unchanged
 
 
 def lists_agree() -> bool:
     return all(list_agrees(shared, calls) for shared, calls in drawn_lists())
 
 
+def other_counts(shared: Request, done: Replied) -> Iterator[tuple]:
+    """Untrue counts at the start, of one call and of more; a refused call's own ones on the shared book, and whether counts have
+    changed before it."""
+    if book.first_fault(shared):
+        yield "untrue start", len(done) > 1
+        return
+    changed = False
+    for request, reply in done:
+        own = (request.sheets, request.marks) == (shared.sheets, shared.marks) and request.counts != shared.counts
+        if own and reply[0][0] == book.REFUSED:
+            yield "own counts", reply[0][1], "after" if changed else "before"
+        changed = changed or reply[3] != request.counts
+
+
 def lists_are_varied() -> bool:
-    """Lists with no accepted call, with other lists lent, with struck dead rows, ending settled and emptied; with any chosen, with
-    codes chosen beside any, and with any that decides what is left."""
+    """Lists with no accepted call, with other lists lent, with struck dead rows, ending settled and emptied; from untrue counts and with
+    counts of a call's own, alone and beside another fault, before an accepted call and after one that changed some; with any chosen,
+    with codes chosen beside any, and with any that decides what is left."""
     seen = set()
     for shared, calls in drawn_lists():
-        done = book.in_turn(shared.marks, calls)
+        done = book.in_turn(shared, calls)
         kinds = [reply[0][0] for _, reply in done]
         accepted = [kind for kind in kinds if kind != book.REFUSED]
         seen.add(("last", accepted[-1] if accepted else None))
         seen.add(("other book", any(call.sheets != shared.sheets for call in calls)))
         seen.add(("other marks", any(call.marks != shared.marks for call in calls)))
+        seen.update(other_counts(shared, done))
         seen.add(("refused first", kinds[0] == book.REFUSED and bool(accepted)))
         seen.add(("refused last", kinds[-1] == book.REFUSED and bool(accepted)))
         for request, reply in done:
@@ -499,6 +547,8 @@ def lists_are_varied() -> bool:
     wanted = {("last", kind) for kind in (book.SETTLED, book.EMPTIED, None)}
     wanted |= {(label, True) for label in reach.ANY_LISTS}
     wanted |= {(name, True) for name in ("other book", "other marks", "refused first", "refused last")}
+    wanted |= {("own counts", fault, when) for fault in (12, 18) for when in ("before", "after")}
+    wanted |= {("untrue start", longer) for longer in (False, True)}
     return wanted <= seen
 
 
@@ -510,7 +560,7 @@ def sheets_in_reach(combinations: list[Combination], sheets: set[int]) -> set[in
 
 
 def sheets_out_of_reach_keep_rows() -> bool:
-    """From settled marks, a sheet that no chain joins to a struck starting row keeps exactly its rows."""
+    """From settled marks, a sheet that no chain joins to a struck starting row keeps exactly its rows, and its count."""
     kept_sheets = 0
     for shared, calls in drawn_lists():
         whole, combinations = book.read_book(shared), book.read_combinations(shared)
@@ -520,10 +570,12 @@ def sheets_out_of_reach_keep_rows() -> bool:
         accepted = [call for call in calls if not book.first_fault(call)]
         struck = starting & set().union(*(book.struck_rows(whole, call) for call in accepted))
         holding = {sheet for sheet, rows in enumerate(whole.sheets) if struck & set(rows)}
-        left = book.living_rows(whole, book.strike_rule(whole, combinations, shared.marks, calls).marks)
+        expected = book.strike_rule(shared, calls)
+        left = book.living_rows(whole, expected.marks)
         for sheet in set(range(len(whole.sheets))) - sheets_in_reach(combinations, holding):
             kept_sheets += bool(struck)
-            if starting & set(whole.sheets[sheet]) != left & set(whole.sheets[sheet]):
+            same_count = shared.counts[sheet : sheet + 1] == expected.counts[sheet : sheet + 1]
+            if starting & set(whole.sheets[sheet]) != left & set(whole.sheets[sheet]) or not same_count:
                 return False
     return kept_sheets > 50
 
@@ -541,8 +593,9 @@ def fault_alone(number: int) -> bool:
 def first_of_several() -> bool:
     rng = random.Random(1)
     for call in draw.CALLS * 40:
-        numbers = rng.sample(book.FAULTS_USED[call], 3)
-        if book.first_fault(draw.request_with_faults(rng, call, numbers)) != min(numbers):
+        used = book.FAULTS_USED[call]
+        numbers = rng.sample(used, 3)
+        if book.first_fault(draw.request_with_faults(rng, call, numbers)) != min(numbers, key=used.index):
             return False
     return True
 
@@ -551,20 +604,20 @@ def refusals_occur() -> bool:
     drawn = {reply[0][1] for _, reply in sample("damaged", 600)}
     listed = [book.listing(text) for text in draw.texts(1, 300)]
     in_texts = {int(output.split(b",")[1]) for output in listed if output.startswith(b"2,")}
-    return drawn == set(range(2, 15)) and in_texts == {1, 6, 9, 10, 12}
+    return drawn == {*range(2, 15), 18} and in_texts == {1, 6, 9, 10, 12}
 
 
 def any_in_texts() -> bool:
     """Any decides some of the listings that are not refused."""
     listed = [book.read_text(text) for text in draw.texts(31, 300) if not book.listing(text).startswith(b"2,")]
     lent = {"marks": [2**64 - 1] * 64, "supports": [0] * book.MOST_SUPPORTS}
-    asked = [replace(request, **lent) for request in listed if ANY in request.codes]
+    asked = [replace(asked, counts=[rows for _, rows in asked.sheets], **lent) for asked in listed if ANY in asked.codes]
     return sum(reach.any_decides(request, book.reply(request)) for request in asked) > 2
 
 
 def answers_occur() -> bool:
     """Settled and emptied, each with and without withdrawn and deleted rows; yes and no; agree and several questions."""
-    changed = {(answer[0], answer[3] > 0, answer[4] > 0) for _, (answer, _, _) in changes_accepted("small", 600)}
+    changed = {(answer[0], answer[3] > 0, answer[4] > 0) for _, (answer, *_) in changes_accepted("small", 600)}
     asked = {(request.call, reply[0]) for request, reply in sample("small", 600) if request.call not in draw.CHANGES}
     both = {("test", (0, 0)), ("test", (1, 0)), ("compare", (1, 64))}
     named = {answer[1] for call, answer in asked if call == "compare" and answer[0] == book.DIFFER}
@@ -599,6 +652,7 @@ def same_seed_same_draws() -> bool:
 # Wrong variants, each put in the place of one function
 
 all_supported, all_struck = book.supported, book.struck_rows
+whole_change, whole_reply = book.change, book.reply
 
 
 def support_by_seeker_only(
@@ -774,6 +828,102 @@ def filtered_once(whole: Book, combinations: list[Combination], living: set[int]
     return {g for g in living if book.supported(whole, combinations, living, g)}
 
 
+def change_with(counts: Callable[[Request, list[int]], list[int]], request: Request) -> Reply:
+    """Leaves these counts, told by the request and the true ones."""
+    *left, true = whole_change(request)
+    return *left, counts(request, true)
+
+
+def counts_lent(request: Request, true: list[int]) -> list[int]:
+    return list(request.counts)
+
+
+def first_count_lent(request: Request, true: list[int]) -> list[int]:
+    return request.counts[:1] + true[1:]
+
+
+def last_count_lent(request: Request, true: list[int]) -> list[int]:
+    return true[:-1] + request.counts[-1:]
+
+
+def counts_of_the_next(request: Request, true: list[int]) -> list[int]:
+    return true[1:] + true[:1]
+
+
+def counts_in_one_byte(request: Request, true: list[int]) -> list[int]:
+    return [count % 256 for count in true]
+
+
+def counts_before_the_filter(request: Request, true: list[int]) -> list[int]:
+    whole = book.read_book(request)
+    return book.true_counts(whole, book.living_rows(whole, request.marks) - book.struck_rows(whole, request))
+
+
+def counts_looked_at(different: Callable[[list[int], list[int]], bool], request: Request) -> bool:
+    """Tells untrue counts by these and the true ones."""
+    return different(request.counts, reach.counted(request, request.marks))
+
+
+def first_differs(counts: list[int], true: list[int]) -> bool:
+    return counts[:1] != true[:1]
+
+
+def all_but_the_last_differ(counts: list[int], true: list[int]) -> bool:
+    return counts[:-1] != true[:-1]
+
+
+def too_many_alone(counts: list[int], true: list[int]) -> bool:
+    return len(counts) != len(true) or any(count > was for count, was in zip(counts, true))
+
+
+def too_few_alone(counts: list[int], true: list[int]) -> bool:
+    return len(counts) != len(true) or any(count < was for count, was in zip(counts, true))
+
+
+def sums_differ(counts: list[int], true: list[int]) -> bool:
+    return len(counts) != len(true) or sum(counts) != sum(true)
+
+
+def low_bytes_differ(counts: list[int], true: list[int]) -> bool:
+    return [count % 256 for count in counts] != [count % 256 for count in true]
+
+
+def longer_list_passes(counts: list[int], true: list[int]) -> bool:
+    return counts[: len(true)] != true
+
+
+def shorter_list_passes(counts: list[int], true: list[int]) -> bool:
+    return counts != true[: len(counts)]
+
+
+def faults_in_order(order: Callable[[int], float], calls: list[str], request: Request) -> list[tuple[int, Callable]]:
+    """18 stands elsewhere in the order, in these calls."""
+    used = {*book.FAULTS_USED[request.call], *([18] if request.call in calls else [])}
+    return [(number, book.FAULT_TESTS[number]) for number in sorted(used, key=order)]
+
+
+def after_14(number: int) -> float:
+    return number
+
+
+def before_12(number: int) -> float:
+    return 11.5 if number == 18 else number
+
+
+def in_its_place(number: int) -> float:
+    return 12.5 if number == 18 else number
+
+
+def refusal_that_counts(request: Request) -> Reply:
+    """A refusal for a fault behind 18 writes the counts that its change would leave; one for 18 the true ones."""
+    answer, *left, counts = whole_reply(request)
+    if answer[:2] == (book.REFUSED, 18):
+        counts = reach.counted(request, request.marks)
+    elif answer[:2] in ((book.REFUSED, 13), (book.REFUSED, 14)) and request.call in draw.CHANGES:
+        counts = whole_change(replace(request, rows=[g for g in request.rows if g < book.row_total(request)]))[3]
+    return answer, *left, counts
+
+
 VARIANTS: list[tuple[str, Callable]] = [
     ("first_support", support_by_seeker_only),
     ("supported", supported_from_sheet_one),
@@ -806,12 +956,36 @@ ANY_VARIANTS: list[tuple[str, Callable]] = [
 ]
 
 
-def told_apart(place: str, variant: Callable, drawn: Callable[[], Replied], least: int) -> bool:
-    """Whether so many of the drawn requests get another answer or other marks; supports are left out."""
+def told_apart(place: str, variant: object, drawn: Callable[[], Replied], least: int) -> bool:
+    """Whether so many of the drawn requests get another answer, other marks or other counts; supports are left out."""
     replied = drawn()
     with mock.patch.object(book, place, variant), mock.patch.object(book, "supports_after"):
-        differing = (request for request, reply in replied if book.reply(request)[:2] != reply[:2])
+        differing = (request for request, reply in replied if but_supports(book.reply(request)) != but_supports(reply))
         return len(list(itertools.islice(differing, least))) == least
+
+
+def but_supports(reply: Reply) -> tuple:
+    answer, marks, _, counts = reply
+    return answer, marks, counts
+
+
+def count_variants() -> list[Check]:
+    """Counts that are left, looked at or refused wrongly."""
+    small, tall, damaged = (functools.partial(sample, *drawn) for drawn in (("small", 600), ("alike", 60), ("damaged", 600)))
+    leaving = [counts_lent, first_count_lent, last_count_lent, counts_of_the_next, counts_before_the_filter]
+    looking = [first_differs, all_but_the_last_differ, too_many_alone, too_few_alone, sums_differ, low_bytes_differ]
+    looking += [longer_list_passes, shorter_list_passes]
+    orders = [(after_14, draw.CHANGES), (before_12, draw.CHANGES), (in_its_place, ["test"])]
+    named = [(counts.__name__, "change", functools.partial(change_with, counts), small) for counts in leaving]
+    named.append(("counts_in_one_byte", "change", functools.partial(change_with, counts_in_one_byte), tall))
+    for different in looking:
+        tests = {**book.FAULT_TESTS, 18: functools.partial(counts_looked_at, different)}
+        named.append((different.__name__, "FAULT_TESTS", tests, damaged))
+    for order, calls in orders:
+        drawn = small if "test" in calls else damaged
+        named.append((f"18 {order.__name__}, {calls[0]}", "faults", functools.partial(faults_in_order, order, calls), drawn))
+    named.append(("refusal_that_counts", "reply", refusal_that_counts, damaged))
+    return [(name, functools.partial(told_apart, place, variant, drawn, 1)) for name, place, variant, drawn in named]
 
 
 def of_many_pairs() -> Replied:
@@ -833,10 +1007,10 @@ def later_pairs() -> list[Check]:
 
 def checks() -> list[Check]:
     plain = [p1, p2, p3, p4, p5, p6, p7, p8, p9, input_a, test_and_compare, lowest_clash, spare_and_missing_words]
-    plain += [any_is_no_chain, any_compared, any_chosen]
+    plain += [any_is_no_chain, any_compared, any_chosen, counts_by_hand]
     plain += [choice_edge, book_number_edge, faults_not_used, list_edges, whole_supports]
     plain += [text_edges, texts_not_in_form, texts_refused]
-    plain += [counts_add_up, filtering_repeats, spare_stays, refusals_change_nothing, largest_by_all_subsets]
+    plain += [counts_add_up, old_counts_refused, filtering_repeats, spare_stays, refusals_change_nothing, largest_by_all_subsets]
     plain += [no_order_lost, connected_by_spreading, listing_as_filter, clash_unless_agreeing]
     plain += [supports_by_orders, choices_leave_any, any_keeps_more]
     plain += [lists_agree, lists_are_varied, sheets_out_of_reach_keep_rows]
@@ -850,7 +1024,7 @@ def checks() -> list[Check]:
     named += [(variant.__name__, functools.partial(told_apart, place, variant, any_too, 3)) for place, variant in ANY_VARIANTS]
     several_words = functools.partial(sample, "alike", 60)
     named.append(("fit_in_remainders", functools.partial(told_apart, "fit", fit_in_remainders, several_words, 3)))
-    return named + later_pairs()
+    return named + count_variants() + later_pairs()
 
 
 def passes(name: str, check: Callable[[], bool]) -> bool:

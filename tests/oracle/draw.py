@@ -424,6 +424,33 @@ def settle_marks(request: Request) -> None:
     request.marks = book.marks_after(whole, request.marks, kept)
 
 
+def count_rows(request: Request) -> None:
+    whole = book.read_book(request)
+    request.counts = book.true_counts(whole, book.living_rows(whole, request.marks))
+
+
+def miscount(rng: random.Random, request: Request) -> None:
+    """One count, often of the first or the last sheet, a little off, or right in its low byte; the sum may be right all the same. Or
+    all rows counted, or each sheet with the count of the next one, where that is not true."""
+    counts = request.counts
+    others = [[rows for _, rows in request.sheets], counts[1:] + counts[:1]]
+    wrong = [other for other in others if other != counts]
+    if wrong and chance(rng, 20):
+        request.counts = rng.choice(wrong)
+    elif counts:
+        place, off = rng.choice((0, len(counts) - 1, rng.randrange(len(counts)))), rng.choice((1, 1, 1, -1, -1, -1, 2, 256))
+        counts[place] = (counts[place] + off) % 65536
+        if len(counts) > 1 and chance(rng, 15):
+            counts[place - 1] = (counts[place - 1] - off) % 65536
+
+
+def lend_counts(rng: random.Random, request: Request) -> None:
+    """True counts; where the call does not look at them, often untrue ones."""
+    count_rows(request)
+    if request.call not in CHANGES and chance(rng, 50):
+        miscount(rng, request)
+
+
 def give_arguments(rng: random.Random, request: Request) -> None:
     total = book.row_total(request)
     if request.call == "withdraw" and total:
@@ -441,6 +468,7 @@ def lend(rng: random.Random, network: Network, call: str) -> Request:
     request = write_network(network, call)
     lend_marks(rng, request)
     request.supports = garbage(rng, numbers_needed(request))
+    lend_counts(rng, request)
     give_arguments(rng, request)
     return request
 
@@ -449,6 +477,7 @@ def good_request(rng: random.Random, network: Network, call: str) -> Request:
     request = lend(rng, network, call)
     if chance(rng, 50 if call == "test" else 25):
         settle_marks(request)
+        lend_counts(rng, request)
     return request
 
 
@@ -591,6 +620,17 @@ def lent_supports(rng: random.Random, request: Request) -> None:
         del request.supports[rng.choice((0, needed - 1, rng.randrange(needed))) :]
 
 
+def lent_counts(rng: random.Random, request: Request) -> None:
+    """Untrue counts; or counts that are too many or too few, which only plain lists can hold."""
+    kind = rng.randrange(100)
+    if kind < 10:
+        request.counts.extend(rng.choice((0, 1, 65535)) for _ in range(rng.choice((1, 1, 64))))
+    elif kind < 20 and request.counts:
+        del request.counts[rng.choice((0, len(request.counts) - 1)) :]
+    else:
+        miscount(rng, request)
+
+
 def lent_numbers(rng: random.Random, request: Request) -> None:
     total = min(book.row_total(request), 65535)
     bad = rng.choice((total, 65535, rng.randint(total, 65535)))
@@ -613,6 +653,7 @@ LENT_DAMAGES: dict[int, Callable[[random.Random, Request], None]] = {
     4: lent_rows,
     11: lent_marks,
     12: lent_supports,
+    18: lent_counts,
     13: lent_numbers,
     14: lent_choice,
 }
@@ -651,6 +692,12 @@ def damaged_request(rng: random.Random, call: str) -> Request:
     later = used[place + 1 :]
     extra = rng.sample(later, min(rng.choice((0, 1, 1, 2, 3)), len(later)))
     return request_with_faults(rng, call, [used[place]] + extra)
+
+
+def untrue_request(rng: random.Random, call: str) -> Request:
+    """Untrue counts, mostly together with another fault, before them or behind them in the order."""
+    others = [number for number in book.FAULTS_USED[call] if number != 18]
+    return request_with_faults(rng, call, [18] + rng.sample(others, rng.choice((0, 1, 1))))
 
 
 # Requests at the edge of what is accepted
@@ -725,6 +772,7 @@ SIZES: dict[str, Callable[[random.Random, str], Request]] = {
     "full": request_on(full_network),
     "thin": request_on(thin_network),
     "damaged": damaged_request,
+    "untrue": untrue_request,
     "edge": edge_request,
     "mixed": mixed_request,
 }
@@ -739,16 +787,19 @@ def requests(seed: int, count: int, calls: list[str], size: str) -> list[Request
 
 
 def copied(shared: Request) -> Request:
-    lists = ("sheets", "questions", "codes", "combinations", "marks", "rows")
+    lists = ("sheets", "questions", "codes", "combinations", "marks", "counts", "rows")
     return replace(shared, **{name: list(getattr(shared, name)) for name in lists})
 
 
 def refused_call(rng: random.Random, shared: Request, call: str) -> Request:
-    """Refused for its own arguments, for a damaged copy of the shared lists, or for other lists altogether."""
+    """Refused for its own arguments, for a damaged copy of the shared lists, or for other lists altogether; often with counts of
+    its own."""
     request = replace(copied(shared), call=call, supports=garbage(rng, numbers_needed(shared)))
     give_arguments(rng, request)
     usable = [number for number in LENT_DAMAGES if number in book.FAULTS_USED[call]]
     LENT_DAMAGES[rng.choice(usable)](rng, request)
+    if chance(rng, 15):
+        miscount(rng, request)
     if book.first_fault(request) and chance(rng, 80):
         return request
     return damaged_request(rng, call)
@@ -772,8 +823,10 @@ LIST_SIZES: dict[str, Callable[[random.Random], Network]] = {
 
 
 def list_of_calls(rng: random.Random, network: Network) -> tuple[Request, list[Request]]:
-    """The shared lists with the starting marks, and the change calls."""
+    """The shared lists with the starting marks and counts, and the change calls."""
     shared = good_request(rng, network, "filter")
+    if chance(rng, 6):
+        lent_counts(rng, shared)
     refused_percent = 100 if chance(rng, 5) else 25
     calls = []
     for _ in range(rng.randint(1, 8)):

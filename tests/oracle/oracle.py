@@ -23,13 +23,13 @@ def print_numbers(numbers: list[int]) -> None:
 
 
 def with_reply(request: Request, reply: Reply) -> dict:
-    answer, marks, supports = reply
-    return {"request": vars(request), "answer": answer, "marks": marks, "supports": supports}
+    answer, marks, supports, counts = reply
+    return {"request": vars(request), "answer": answer, "marks": marks, "supports": supports, "counts": counts}
 
 
 def own_lists(shared: Request, call: Request) -> list[str]:
     """Names of the lists that a call lends in place of the shared ones."""
-    return [name for name in SHARED + ["marks"] if getattr(call, name) != getattr(shared, name)]
+    return [name for name in SHARED + ["marks", "counts"] if getattr(call, name) != getattr(shared, name)]
 
 
 def counted(numbers: list[int]) -> list[int]:
@@ -37,17 +37,20 @@ def counted(numbers: list[int]) -> list[int]:
 
 
 def touched(request: Request, reply: Reply) -> list[int]:
-    """How many mark words and support numbers, from the first on, the call may touch."""
-    if reply[0][0] == book.REFUSED or request.call == "compare":
-        return [len(request.marks), 0]
-    needed = book.supports_needed(request) if request.call in draw.CHANGES else 0
+    """How many mark words and support numbers, from the first on, the call may touch: of the marks none for a fault that is looked for
+    before the counts."""
+    refused = reply[0][0] == book.REFUSED
+    if request.call == "compare" or refused and reply[0][1] <= 12:
+        return [0, 0]
+    needed = book.supports_needed(request) if request.call in draw.CHANGES and not refused else 0
     return [-(-book.row_total(request) // 64), needed]
 
 
 def plain(request: Request, reply: Reply) -> list[int]:
     """Numbers, each list behind its length: the call, its arguments, what it may touch, its lists, then its reply."""
     records = [number for sheet in request.sheets for number in sheet]
-    before = [records, request.questions, request.codes, request.combinations, request.marks, request.supports, request.rows]
+    before = [records, request.questions, request.codes, request.combinations, request.marks, request.supports]
+    before += [request.counts, request.rows]
     numbers = [draw.CALLS.index(request.call), request.m, request.question, request.code, *touched(request, reply)]
     for entries in [*before, *map(list, reply)]:
         numbers += counted(entries)
@@ -67,29 +70,30 @@ def print_requests(arguments: argparse.Namespace) -> None:
         sys.exit(f"never drawn: {sorted(reach.WANTED[arguments.size] - reached)}")
 
 
-def plain_list(marks: list[int], lent: list[list[str]], replies: list, expected: book.Expectation) -> list[int]:
-    """The starting marks, the calls, each behind whether it lends marks of its own, and the strike rule's expectation."""
-    numbers = [*counted(marks), len(replies)]
+def plain_list(shared: Request, lent: list[list[str]], replies: list, expected: book.Expectation) -> list[int]:
+    """The starting marks and counts, the calls, each behind whether it lends its own, and the strike rule's expectation."""
+    numbers = [*counted(shared.marks), *counted(shared.counts), len(replies)]
     for own, (request, reply) in zip(lent, replies):
-        numbers += [int("marks" in own), *plain(request, reply)]
+        numbers += [int("marks" in own or "counts" in own), *plain(request, reply)]
     accepted = expected.last_accepted is not None
     last = [expected.last_accepted + 1, *expected.answer, expected.gone] if accepted else [0] * 5
-    return numbers + last + counted(expected.marks) + counted(expected.supports if accepted else [])
+    lists = [expected.marks, expected.supports if accepted else [], expected.counts]
+    return numbers + last + [number for entries in lists for number in counted(entries)]
 
 
 def print_lists(arguments: argparse.Namespace) -> None:
     for shared, calls in draw.lists_of_calls(arguments.seed, arguments.count, arguments.size):
-        whole, combinations = book.read_book(shared), book.read_combinations(shared)
-        replies = book.in_turn(shared.marks, calls)
+        replies = book.in_turn(shared, calls)
         lent = [own_lists(shared, call) for call in calls]
-        expected = book.strike_rule(whole, combinations, shared.marks, calls)
+        expected = book.strike_rule(shared, calls)
         if arguments.plain:
-            print_numbers(plain_list(shared.marks, lent, replies, expected))
+            print_numbers(plain_list(shared, lent, replies, expected))
             continue
         print_line(
             {
                 "shared": {name: getattr(shared, name) for name in SHARED},
                 "marks": shared.marks,
+                "counts": shared.counts,
                 "calls": [{"own_lists": own, **with_reply(*done)} for own, done in zip(lent, replies)],
                 "expected": expected._asdict(),
             }

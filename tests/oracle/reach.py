@@ -1,5 +1,6 @@
 """What the drawn requests of a size must reach, told from the requests and their replies."""
 
+import itertools
 from dataclasses import replace
 from typing import Iterator
 
@@ -51,6 +52,64 @@ def compared(request: Request, reply: Reply) -> Iterator[str]:
         yield f"clash under {reply[0][1]}"
     if clashes[0] and any(ANY in (one[q], other[q]) for q in shared[0]):
         yield "a clash beside any"
+
+
+# Counts
+
+
+def counted(request: Request, marks: list[int]) -> list[int]:
+    """The living rows of each sheet, by the records and the marks alone; a row without a mark is dead."""
+    living = [word >> bit & 1 for word in marks for bit in range(64)]
+    ends = itertools.accumulate(rows for _, rows in request.sheets)
+    return [sum(living[max(end - rows, 0) : end]) for end, (_, rows) in zip(ends, request.sheets)]
+
+
+def place(sheet: int, sheets: int) -> str:
+    return "first" if sheet == 0 else "last" if sheet == sheets - 1 else "middle"
+
+
+def off(request: Request) -> Iterator[str]:
+    """How the counts lent differ from the marks."""
+    true = counted(request, request.marks)
+    if len(request.counts) != len(true):
+        yield "too many counts" if len(request.counts) > len(true) else "too few counts"
+        return
+    wrong = [(sheet, (count - true[sheet]) % 65536) for sheet, count in enumerate(request.counts) if count != true[sheet]]
+    if wrong:
+        yield "untrue"
+    if len(wrong) == 1:
+        sheet, by = wrong[0]
+        if by in (1, 65535):
+            yield f"one too {'many' if by == 1 else 'few'}, {place(sheet, len(true))} sheet"
+        if by == 256:
+            yield "right in the low byte"
+    if wrong and sum(request.counts) == sum(true):
+        yield "untrue, with the right sum"
+
+
+def of_untrue_counts(request: Request, reply: Reply) -> Iterator[str]:
+    """Of counts that differ from the marks: how, and what is given in their place, or not."""
+    ways, (kind, number) = list(off(request)), reply[0][:2]
+    if not ways:
+        return
+    if kind != book.REFUSED:
+        yield f"counts not looked at, {request.call} {kind}"
+    elif number == 18:
+        yield from (f"18, {request.call}", *(f"18, {way}" for way in ways))
+        later = [n for n in book.FAULTS_USED[request.call] if n in (13, 14) and book.FAULT_TESTS[n](request)]
+        yield from (f"18 before {n}" for n in later)
+    elif request.call not in book.ASKING:
+        yield f"{number} before 18"
+
+
+def of_changed_counts(request: Request, counts: list[int]) -> Iterator[str]:
+    """Of an accepted change: which counts it changes."""
+    changed = [sheet for sheet, count in enumerate(counts) if count != request.counts[sheet]]
+    yield from (f"a count changes, {place(sheet, len(counts))} sheet" for sheet in changed)
+    if 0 < len(changed) < len(counts):
+        yield "a count changes and another stays"
+    if any(request.counts[sheet] > 255 for sheet in changed):
+        yield "a count above 255 changes"
 
 
 # Any
@@ -164,6 +223,9 @@ def of_any(request: Request, reply: Reply) -> Iterator[str]:
 
 
 def reached(request: Request, reply: Reply) -> Iterator[str]:
+    yield from of_untrue_counts(request, reply)
+    if request.call not in book.ASKING and reply[0][0] != book.REFUSED:
+        yield from of_changed_counts(request, reply[3])
     if request.call == "compare" and reply[0][0] != book.REFUSED:
         yield from compared(request, reply)
     if ANY in request.codes and reply[0][0] != book.REFUSED:
@@ -197,12 +259,22 @@ ANY_CODES = {"any decides beside low codes", "any decides beside topmost codes",
 ANY_CODES |= {"any beside 65,534", "any decides in several words"} | labels(ANY_SHARES, "per cent any")
 ANY_LISTS = {"any chosen", "a code chosen beside any"} | {label for label in ANY_CALLS if label.startswith("any decides, choose")}
 
+PLACES = ("first", "middle", "last")
+UNTRUE = {f"18, one too {how}, {where} sheet" for how in ("many", "few") for where in PLACES}
+UNTRUE |= {"18, too many counts", "18, too few counts", "18, right in the low byte", "18, untrue, with the right sum"}
+UNTRUE |= {"18, filter", "18, withdraw", "18, choose", "18 before 13", "18 before 14"}
+UNTRUE |= {f"{number} before 18" for number in range(2, 13)}
+UNASKED = {f"counts not looked at, {call} {kind}" for call in book.ASKING for kind in (0, 1)}
+CHANGED = {f"a count changes, {where} sheet" for where in PLACES} | {"a count changes and another stays"}
+
 
 WANTED: dict[str, set[str]] = {
-    "crowded": labels(SHEETS, "sheets") | labels(COMBINATIONS, "different combinations"),
+    "untrue": UNTRUE,
+    "crowded": CHANGED | labels(SHEETS, "sheets") | labels(COMBINATIONS, "different combinations"),
     "full": {f"1,024 pairs, {call}" for call in ("filter", "withdraw", "choose", "test 0", "test 1")},
     "clashing": {"agree", "clash under 0", "clash under 63"}
+    | UNASKED
     | {f"several clashes, {one} and {other}" for one in ORDERS for other in ORDERS},
-    "alike": {"codes alike in several words", "codes alike in a sheet of several words"},
+    "alike": {"codes alike in several words", "codes alike in a sheet of several words", "a count above 255 changes"},
     "any": ANY_PLACES | ANY_CALLS | ANY_CODES,
 }
