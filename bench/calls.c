@@ -8,27 +8,32 @@
 #include <time.h>
 
 #define BOOK const uint16_t *, size_t, const uint16_t *, size_t, const uint16_t *, size_t
-void plain_filter(BOOK, uint16_t, const uint16_t *, size_t, uint64_t *, size_t, uint16_t *, size_t, uint16_t *);
+void plain_filter(BOOK, uint16_t, const uint16_t *, size_t, uint64_t *, size_t, uint16_t *, size_t, uint16_t *, size_t, uint16_t *);
 
 enum { ROUNDS = 15, STACK = 1 << 20, PAINT = 0xa5 };
 
-/* The lists of one network; on this machine they are their own little-endian bytes. */
+/* The lists of one network; on this machine they are their own little-endian bytes. A record has width, tuples and live count for the
+ * calls on bytes; for those on lists the counts stand in a list of their own. */
 static network n;
-static uint16_t records[2 * MAX_RELATIONS], supports[MAX_NUMBERS], row;
+static uint16_t records[3 * MAX_RELATIONS], pairs[2 * MAX_RELATIONS], counts[MAX_RELATIONS], supports[MAX_NUMBERS], row;
 static uint64_t marks[WORDS];
 
 static void all_living(void) {
     memset(marks, 0, sizeof marks);
     for (size_t g = 0; g < tuple_count(&n); g++) marks[g / 64] |= 1ull << (g % 64);
+    for (size_t r = 0; r < n.relations; r++) records[3 * r + 2] = counts[r] = (uint16_t)size_of(&n, r);
 }
 
 static void draw_lists(const description *d) {
     draw_network(&n, d);
-    for (size_t r = 0; r < n.relations; r++) records[2 * r] = (uint16_t)width_of(&n, r), records[2 * r + 1] = (uint16_t)size_of(&n, r);
+    for (size_t r = 0; r < n.relations; r++) {
+        records[3 * r] = pairs[2 * r] = (uint16_t)width_of(&n, r);
+        records[3 * r + 1] = pairs[2 * r + 1] = (uint16_t)size_of(&n, r);
+    }
 }
 
-#define BYTES(at, count) (const uint8_t *)(at), 2 * (count)
-#define GIVEN BYTES(records, 2 * n.relations), BYTES(n.variables, n.variable_count), BYTES(n.values, n.value_count)
+#define BYTES(at, count) (uint8_t *)(at), 2 * (count)
+#define GIVEN BYTES(records, 3 * n.relations), BYTES(n.variables, n.variable_count), BYTES(n.values, n.value_count)
 #define LENT GIVEN, (uint16_t)n.m, BYTES(n.members, n.pairs), (uint8_t *)marks, sizeof marks, (uint8_t *)supports, sizeof supports
 
 static double now(void) {
@@ -53,7 +58,7 @@ static void cost(const description *d) {
         bytes = least(bytes, now() - t);
         all_living();
         t = now();
-        plain_filter(records, 2 * n.relations, n.variables, n.variable_count, n.values, n.value_count, (uint16_t)n.m, n.members, n.pairs, marks, WORDS, supports, MAX_NUMBERS, out);
+        plain_filter(pairs, 2 * n.relations, n.variables, n.variable_count, n.values, n.value_count, (uint16_t)n.m, n.members, n.pairs, marks, WORDS, supports, MAX_NUMBERS, counts, n.relations, out);
         lists = least(lists, now() - t);
     }
     printf("%-36s %7.3f ms %9.3f ms   %.2f\n", name, bytes * 1e3, lists * 1e3, bytes / lists);
