@@ -35,6 +35,10 @@ pub or-false-right : (a b : Bool) → (a || b) ≡ false → b ≡ false
 or-false-right true b e = absurd (true≢false e)
 or-false-right false b e = e
 
+pub or-false-intro : {a b : Bool} → a ≡ false → b ≡ false → (a || b) ≡ false
+or-false-intro {a = true} {b} p q = p
+or-false-intro {a = false} {b} p q = q
+
 -- an implication as a test
 pub implies-intro : (a b : Bool) → (a ≡ true → b ≡ true) → (not a || b) ≡ true
 implies-intro true b f = f refl

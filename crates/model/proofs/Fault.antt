@@ -11,16 +11,16 @@ use native.Mathlib.Decide.{decLt}
 use native.Mathlib.Nat.{mul-le-mul-right}
 use lib.Dec.{leb, ltb, eqb}
 use lib.ListN.{length, getD}
-use borrow.Author.Tests.{ltb-true, ltb-false, leb-true, eqb-true, eqb-false, not-true, not-false}
+use borrow.Author.Tests.{le-ltb, ltb-true, ltb-false, leb-true, eqb-true, eqb-false, not-true, not-false}
 use Rattle.model.specs.Limits.{maxRelations, maxWidth, maxTuples, maxSupportNumbers, wordBits}
-use Rattle.model.specs.Lists.{from, sum, all, pairwise}
+use Rattle.model.specs.Lists.{from, sum, all, pairwise, isNone}
 use Rattle.model.specs.declared.Relation.{Relation}
 use Rattle.model.specs.Network.{Network, total, variablesIn, tuplesIn, valuesIn, scopeOf}
 use Rattle.model.specs.Combination.{Combination}
 use Rattle.model.specs.Consistency.{needed}
 use Rattle.model.specs.Request.{Change, filter, withdraw, choose, Instance, combinationsOf, Request}
 use Rattle.model.specs.Fault.{published, Fault, listFaults, untrue, firstFault, refusal, within, properWidth, different, properScope, properLengths, networkFaults, combinationFaults, wordsFault, supportsFault, changeFaults, properMembers, faultsOn, faults, accepts}
-use Rattle.model.proofs.Bools.{and-left, and-right, or-false-left, or-false-right}
+use Rattle.model.proofs.Bools.{and-left, and-right, or-false-left, or-false-right, or-false-intro}
 use Rattle.model.proofs.Lists.{here, all-at, pairwise-getD, isNone-none}
 
 -- ---- Reading a table in order
@@ -307,3 +307,36 @@ module _ (q : Request) (e : accepts q ≡ true) where
   accepts-exist c m r k =
       ltb-true r (length (N .relations))
       (all-at (λ (r : ℕ). ltb r (length (N .relations))) c (and-left (all (λ (r : ℕ). ltb r (length (N .relations))) c) (pairwise ltb c) (proper m)) k)
+
+  -- and the members rise
+  pub accepts-rise : (c : Combination) → List·Memᴰ c (combinationsOf I) → pairwise ltb c ≡ true
+  accepts-rise c m = and-right (all (λ (r : ℕ). ltb r (length (N .relations))) c) (pairwise ltb c) (proper m)
+
+  -- its change has no fault of its own
+  pub accepts-change : firstFault (changeFaults N (q .change)) ≡ none
+  unfolding faults faultsOn
+  accepts-change =
+      none-firstFault (changeFaults N (q .change))
+      (λ f m. absent (Memᴰ·append-right (listFaults I (length (q .words)) (length (q .supports))) (List·Memᴰ·tail m)))
+
+  -- a request on the same instance is accepted, with as many words, supports enough, true counts and a change without fault
+  pub accepts-other : (words supports counts : List ℕ) (change : Change) → length words ≡ length (q .words) → needed N (combinationsOf I) ≤ length supports → untrue N words counts ≡ false → firstFault (changeFaults N change) ≡ none → accepts (record { given = I; words = words; supports = supports; counts = counts; change = change }) ≡ true
+  unfolding accepts faults faultsOn listFaults
+  accepts-other words supports counts change long enough truth own =
+      ap isNone (firstFault-append-none lists-faults ((18, untrue N words counts) ∷ changeFaults N change) none-listed ∙ fault-next (18, untrue N words counts) (changeFaults N change) truth ∙ own)
+    where
+      lists-faults : List Fault
+      lists-faults = listFaults I (length words) (length supports)
+
+      k : ℕ
+      k = needed N (combinationsOf I)
+
+      few : ltb maxSupportNumbers k ≡ false
+      few = le-ltb maxSupportNumbers k (accepts-supports .0)
+
+      none-listed : firstFault lists-faults ≡ none
+      none-listed =
+          firstFault-append-none (networkFaults N ++ combinationFaults I) (wordsFault N (length words) ∷ supportsFault I (length supports) ∷ [])
+          (none-firstFault (networkFaults N ++ combinationFaults I) (λ f m. listed (Memᴰ·append-left lent m)))
+          ∙ fault-next (wordsFault N (length words)) (supportsFault I (length supports) ∷ []) (ap (λ (n : ℕ). ltb (n * wordBits) (total N)) long ∙ lists here)
+          ∙ fault-next (supportsFault I (length supports)) [] (or-false-intro few (le-ltb (length supports) k enough))

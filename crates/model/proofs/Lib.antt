@@ -22,6 +22,7 @@ pub mod Reply
 pub mod Edges
 pub mod Calls
 pub mod Mission
+pub mod Tighter
 pub mod Text
 pub mod ReadLines
 pub mod Reading

@@ -68,7 +68,7 @@ module _ (N : Network) where
       (List·Memᴰ·cases-cons m)
 
   -- the first member is below the others
-  rising-head : (r : ℕ) (c : Combination) {s : ℕ} → pairwise ltb (r ∷ c) ≡ true → List·Memᴰ s c → r < s
+  pub rising-head : (r : ℕ) (c : Combination) {s : ℕ} → pairwise ltb (r ∷ c) ≡ true → List·Memᴰ s c → r < s
   rising-head r c {s} rises m = ltb-true r s (all-at (ltb r) c (and-left (all (ltb r) c) (pairwise ltb c) rises) m)
 
   -- a choice has one tuple of a relation, if the members rise

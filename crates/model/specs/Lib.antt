@@ -19,4 +19,5 @@ pub mod Text
 pub mod Reading
 pub mod Listing
 pub mod Promises
+pub mod Tighter
 pub mod Examples

@@ -1,0 +1,101 @@
+-- Bigger combinations only tighten: a support in a combination, restricted to the members of one inside it, is a support there.
+-- From the laws of supports and of the largest consistent set; that two tuples agree is used pair by pair, and no more of it than
+-- that it is symmetric. And filtering again changes nothing, since what is left is consistent.
+use mathlib.Core.Path.{_≡_, refl, sym, _∙_, ap, subst}
+use mathlib.Core.Bool.{Bool, true, false, not, cond, false≢true}
+use mathlib.Core.Option.{Option, none}
+use mathlib.Core.Logic.{_⊎_, inl, inr, ⊎-elim}
+use mathlib.Core.List.{List, [], _∷_, _++_, map, List·Memᴰ, List·Memᴰ·tail, List·Memᴰ·cases-cons, List·Memᴰ·not-nil}
+use Prim.Native.Nat.{ℕ, zero, suc, _+_, _-_, _*_, _/_, _%_, _≤_, _<_}
+use native.Mathlib.Omega.{arith}
+use lib.Dec.{ltb}
+use lib.ListN.{length, take, drop}
+use Rattle.model.specs.Lists.{all, any, elem, pairwise}
+use Rattle.model.specs.TupleSet.{TupleSet, has, Inside}
+use Rattle.model.specs.Network.{Network, idsOf, relationOf}
+use Rattle.model.specs.Agreement.{agree}
+use Rattle.model.specs.Combination.{Combination}
+use Rattle.model.specs.Consistency.{supported, filtered}
+use Rattle.model.specs.Tighter.{liesInside, allInside}
+use Rattle.model.proofs.Bools.{and-right, and-intro}
+use Rattle.model.proofs.Lists.{here, all-at, all-intro, any-at, pairwise-at, elem-mem, Picks, done, pick}
+use Rattle.model.proofs.Network.{relationOf-ids}
+use Rattle.model.proofs.Agreement.{agree-sym}
+use Rattle.model.proofs.Support.{isSupport-intro, isSupport-self, isSupport-live, isSupport-agree, candidates-picks, picks-candidates, picks-member, rising-head, picks-same, Supported}
+use Rattle.model.proofs.Consistency.{supported-at, supported-intro, filtered-largest}
+
+-- ---- Combinations inside others
+
+inside-member : (c d : Combination) {r : ℕ} → liesInside c d ≡ true → List·Memᴰ r c → List·Memᴰ r d
+unfolding liesInside
+inside-member c d {r} e m = elem-mem r d (all-at (λ (r : ℕ). elem r d) c e m)
+
+inside-some : (cs ds : List Combination) {c : Combination} → allInside cs ds ≡ true → List·Memᴰ c cs → (d : Combination) × List·Memᴰ d ds × (liesInside c d ≡ true)
+unfolding allInside
+inside-some cs ds {c} e m = any-at (liesInside c) ds (all-at (λ (c : Combination). any (liesInside c) ds) cs e m)
+
+-- ---- A support restricted to members
+
+module _ (N : Network) where
+  -- a choice of a tuple of each member has one of member r
+  picks-of : (d : Combination) {t : List ℕ} {r : ℕ} → Picks (map (idsOf N) d) t → List·Memᴰ r d → (x : ℕ) × List·Memᴰ x t × List·Memᴰ x (idsOf N r)
+  picks-of [] done m = absurd (List·Memᴰ·not-nil m)
+  picks-of (s ∷ d) {t = x ∷ t} (pick k p) m =
+      ⊎-elim
+      (λ e. (x, here, subst (λ (s : ℕ). List·Memᴰ x (idsOf N s)) (sym e) k))
+      (λ h. let i = picks-of d p h in (i .0, List·Memᴰ·tail (i .1), i .2))
+      (List·Memᴰ·cases-cons m)
+
+  -- its tuples of the members of c are a choice for c
+  restricted : (c d : Combination) {t : List ℕ} → Picks (map (idsOf N) d) t → ((r : ℕ) → List·Memᴰ r c → List·Memᴰ r d) → (u : List ℕ) × Picks (map (idsOf N) c) u × ((x : ℕ) → List·Memᴰ x u → List·Memᴰ x t)
+  restricted [] d p f = ([], done, λ x m. absurd (List·Memᴰ·not-nil m))
+  restricted (r ∷ c) d {t} p f =
+      let first = picks-of d p (f r here) in
+      let rest = restricted c d p (λ s m. f s (List·Memᴰ·tail m)) in
+      (first .0 ∷ rest .0, pick (first .2) (rest .1), λ x m. ⊎-elim (λ e. subst (λ (y : ℕ). List·Memᴰ y t) (sym e) (first .1)) (rest .2 x) (List·Memᴰ·cases-cons m))
+
+  -- every two tuples of a choice pass a test that different ones pass, if the members rise
+  picks-pairwise : (test : ℕ → ℕ → Bool) (c : Combination) {t : List ℕ} → pairwise ltb c ≡ true → Picks (map (idsOf N) c) t → ((x y : ℕ) → List·Memᴰ x t → List·Memᴰ y t → (x ≡ y → ⊥) → test x y ≡ true) → pairwise test t ≡ true
+  picks-pairwise test [] rises done f = refl
+  picks-pairwise test (r ∷ c) {t = x ∷ t} rises (pick k p) f =
+      and-intro
+      (all-intro (test x) t
+      (λ y m. f x y here (List·Memᴰ·tail m)
+      (λ e.
+      let l = rising-head N r c rises (picks-member N c p m) in
+      let q = sym (relationOf-ids N r k) ∙ ap (relationOf N) e in
+      omega arith)))
+      (picks-pairwise test c (and-right (all (ltb r) c) (pairwise ltb c) rises) p (λ y z m n. f y z (List·Memᴰ·tail m) (List·Memᴰ·tail n)))
+
+  -- a support in d, restricted to the members of c, is a support in c
+  pub support-inside : (S : TupleSet) (c d : Combination) (g : ℕ) → pairwise ltb c ≡ true → pairwise ltb d ≡ true → liesInside c d ≡ true → List·Memᴰ (relationOf N g) c → Supported N S d g → Supported N S c g
+  support-inside S c d g rises rises′ e m s =
+      let t = s .0 in
+      let p = candidates-picks N d (s .1) in
+      let u = restricted c d p (λ r k. inside-member c d e k) in
+      let own = picks-of c (u .1) m in
+      let same : own .0 ≡ g = picks-same N d rises′ p (u .2 (own .0) (own .1)) (isSupport-self N S g t (s .2)) (relationOf-ids N (relationOf N g) (own .2)) in (
+        u .0,
+        picks-candidates N c (u .1),
+        isSupport-intro N S g (u .0)
+            (subst (λ (x : ℕ). List·Memᴰ x (u .0)) same (own .1))
+            (all-intro (has S) (u .0) (λ x k. all-at (has S) t (isSupport-live N S g t (s .2)) (u .2 x k)))
+            (picks-pairwise (agree N) c rises (u .1) (λ x y k l differ. pairwise-at (agree N) (agree-sym N) t (isSupport-agree N S g t (s .2)) (u .2 x k) (u .2 y l) differ)),
+      )
+
+  -- ---- What filtering leaves
+
+  module _ (cs ds : List Combination) (rise : (c : Combination) → List·Memᴰ c cs → pairwise ltb c ≡ true) (rise′ : (d : Combination) → List·Memᴰ d ds → pairwise ltb d ≡ true) (inside : allInside cs ds ≡ true) where
+    pub supported-inside : (S : TupleSet) (g : ℕ) → supported N ds S g ≡ true → supported N cs S g ≡ true
+    supported-inside S g s =
+        supported-intro N cs S g
+        (λ c m n.
+        let k = inside-some cs ds inside m in
+        support-inside S c (k .0) g (rise c m) (rise′ (k .0) (k .1)) (k .2) n
+        (supported-at N ds S g (k .0) s (k .1) (inside-member c (k .0) (k .2) n)))
+
+    -- the larger combinations leave nothing that the smaller ones remove
+    pub filtered-inside : (S : TupleSet) → Inside (filtered N ds S) (filtered N cs S)
+    filtered-inside S =
+        let l = filtered-largest N ds S in
+        filtered-largest N cs S .above (filtered N ds S) (λ g h. supported-inside (filtered N ds S) g (l .consistent g h)) (l .inside)

@@ -1,0 +1,81 @@
+-- Bigger combinations only tighten, and filtering again changes nothing (card 14): what is promised of two change calls on one
+-- network. proofs/Tighter.antt proves it of `reply`.
+use mathlib.Core.Path.{_≡_}
+use mathlib.Core.Bool.{Bool, true}
+use mathlib.Core.Logic.{_⊎_}
+use mathlib.Core.List.{List, _++_, List·Memᴰ}
+use Prim.Native.Nat.{ℕ, _≤_}
+use lib.ListN.{length, take, drop}
+use Rattle.model.specs.Lists.{all, any, elem}
+use Rattle.model.specs.TupleSet.{Inside}
+use Rattle.model.specs.Network.{Network}
+use Rattle.model.specs.Combination.{Combination, connected}
+use Rattle.model.specs.Consistency.{needed}
+use Rattle.model.specs.LiveWords.{isLive}
+use Rattle.model.specs.Request.{Change, filter, combinationsOf, Request}
+use Rattle.model.specs.Fault.{properMembers}
+use Rattle.model.specs.Reply.{Numbers, Reply}
+use Rattle.model.specs.Promises.{leftTuples}
+
+-- ---- Combinations inside others
+
+-- combination c lies inside combination d: every member of c is one of d
+unfoldable pub liesInside : Combination → Combination → Bool
+liesInside c d = all (λ (r : ℕ). elem r d) c
+
+-- each combination of the first list lies inside some combination of the second; repeats and order do not matter
+unfoldable pub allInside : List Combination → List Combination → Bool
+allInside cs ds = all (λ (c : Combination). any (liesInside c) ds) cs
+
+-- a proper connected combination of m members
+pub record IsConnected (N : Network) (m : ℕ) (c : Combination) : Type 0 where
+  pub many : length c ≡ m
+  pub proper : properMembers N c ≡ true
+  pub joined : connected N c ≡ true
+
+-- the list holds every one of them
+abbrev pub HoldsConnected : Network → ℕ → List Combination → Type 0
+HoldsConnected N m cs = (c : Combination) → IsConnected N m c → List·Memᴰ c cs
+
+-- ---- Two calls from the same start
+
+-- Two requests on one network, with the same live words and the same change; m, the combinations and the supports lent may differ.
+pub record SameStart (first second : Request) : Type 0 where
+  pub network : first .given .network ≡ second .given .network
+  pub words : first .words ≡ second .words
+  pub change : first .change ≡ second .change
+
+-- The second call, whose reply is r, leaves no tuple that the first, whose reply is p, removed.
+pub record Tighter (first : Request) (p : Reply) (second : Request) (r : Reply) : Type 0 where
+  -- every tuple that lives after the second lives after the first
+  pub tuples : Inside (leftTuples second r) (leftTuples first p)
+  -- .. and so with every bit of their words, the spare ones too
+  pub bits : (g : ℕ) → isLive (r .words) g ≡ true → isLive (p .words) g ≡ true
+  -- the second leaves no more, withdraws as many, and deletes no fewer
+  pub left : (r .answer) .left ≤ (p .answer) .left
+  pub withdrawn : (r .answer) .withdrawn ≡ (p .answer) .withdrawn
+  pub deleted : (p .answer) .deleted ≤ (r .answer) .deleted
+
+-- ---- A call after a call
+
+-- a change that finds nothing to remove after q: filter, or q's own change once more
+abbrev pub Spent : Request → Change → Type 0
+Spent q change = (change ≡ filter) ⊎ (change ≡ q .change)
+
+-- the request of a change on the lists that q leaves, where p is its reply, with these supports lent
+abbrev pub again : Request → Reply → Change → List ℕ → Request
+again q p change supports = record { given = q .given; words = p .words; supports = supports; counts = p .counts; change = change }
+
+-- the same kind, subject and tuples left, with nothing withdrawn and nothing deleted
+abbrev pub nothingGone : Numbers → Numbers
+nothingGone a = record { kind = a .kind; subject = a .subject; left = a .left; withdrawn = 0; deleted = 0 }
+
+-- The second call, which is lent these supports and whose reply is r, changes nothing that q left, where p is q's reply: no word, no
+-- count, and no number over the needed length of the supports, beyond which they are as lent. It removes nothing.
+pub record Repeats (q : Request) (p : Reply) (supports : List ℕ) (r : Reply) : Type 0 where
+  pub answer : r .answer ≡ nothingGone (p .answer)
+  pub words : r .words ≡ p .words
+  pub counts : r .counts ≡ p .counts
+  pub numbers : (let k = needed (q .given .network) (combinationsOf (q .given)) in r .supports ≡ take k (p .supports) ++ drop k supports)
+  -- .. so that all of them are as they were, where it is lent those that q left
+  pub same-numbers : supports ≡ p .supports → r .supports ≡ p .supports
