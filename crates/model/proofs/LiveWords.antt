@@ -8,7 +8,7 @@ use native.Mathlib.Nat.{add-zero, zero-add, add-suc, suc-add, pow-suc, pow-succ'
 use native.Mathlib.Omega.{arith}
 use native.Mathlib.Decide.{ℕ-discrete, decLe}
 use lib.Dec.{ltb, eqb}
-use lib.ListN.{length, getD, set, take, drop, replicate, length-map, length-set}
+use lib.ListN.{length, getD, set, take, drop, replicate, length-map, length-set, List·getD-eq-default}
 use lib.Seq.{ext-getD, getD-set-same, getD-set-other, getD-take, length-take-le}
 use borrow.Author.Tests.{eqb-true, eqb-false, eq-eqb, ne-eqb, lt-ltb, le-ltb, ltb-true, ltb-false}
 use Rattle.model.specs.Limits.{wordBits}
@@ -335,6 +335,11 @@ none-isLive n g = ap (λ (w : ℕ). isSet w (g % wordBits)) (empty n (g / wordBi
     unset : (k : ℕ) → isSet 0 k ≡ false
     unset zero = refl
     unset (suc k) = isSet-suc 0 k ∙ unset k
+
+-- no id past the words is live
+pub isLive-past : (ws : List ℕ) (g : ℕ) → wordBits * length ws ≤ g → isLive ws g ≡ false
+unfolding isLive
+isLive-past ws g h = ap (λ (w : ℕ). isSet w (g % wordBits)) (List·getD-eq-default ws 0 (omega arith)) ∙ none-isLive 0 g
 
 pub cleared-below : (g : ℕ) (ws : List ℕ) → ((i : ℕ) → i < length ws → getD ws i 0 < 2 ^ 64) → (i : ℕ) → i < length ws → getD (cleared g ws) i 0 < 2 ^ 64
 unfolding cleared

@@ -10,19 +10,31 @@ use Prim.Native.Nat.{ℕ, zero, suc, _+_, _-_, _*_, _/_, _%_, _≤_, _<_}
 use native.Mathlib.Omega.{arith}
 use lib.Dec.{ltb}
 use lib.ListN.{length, take, drop}
+use native.Mathlib.Decide.{decLt}
+use Rattle.model.specs.Limits.{wordBits}
 use Rattle.model.specs.Lists.{all, any, elem, pairwise}
-use Rattle.model.specs.TupleSet.{TupleSet, has, Inside}
-use Rattle.model.specs.Network.{Network, idsOf, relationOf}
+use Rattle.model.specs.TupleSet.{TupleSet, has, count, restrict, without, Inside}
+use Rattle.model.specs.Network.{Network, total, idsOf, relationOf}
 use Rattle.model.specs.Agreement.{agree}
 use Rattle.model.specs.Combination.{Combination}
 use Rattle.model.specs.Consistency.{supported, filtered}
-use Rattle.model.specs.Tighter.{liesInside, allInside}
-use Rattle.model.proofs.Bools.{and-right, and-intro}
+use Rattle.model.specs.LiveWords.{isLive, living}
+use Rattle.model.specs.Request.{combinationsOf, Request, removes}
+use Rattle.model.specs.Fault.{accepts}
+use Rattle.model.specs.Reply.{Reply, remainder, countsFor, accepted, reply}
+use Rattle.model.specs.Promises.{entryTuples, givenTuples, leftTuples}
+use Rattle.model.specs.Tighter.{liesInside, allInside, SameStart, Tighter}
+use Rattle.model.proofs.Bools.{and-right, and-intro, not-both}
 use Rattle.model.proofs.Lists.{here, all-at, all-intro, any-at, pairwise-at, elem-mem, Picks, done, pick}
+use Rattle.model.proofs.TupleSet.{count-inside}
 use Rattle.model.proofs.Network.{relationOf-ids}
 use Rattle.model.proofs.Agreement.{agree-sym}
 use Rattle.model.proofs.Support.{isSupport-intro, isSupport-self, isSupport-live, isSupport-agree, candidates-picks, picks-candidates, picks-member, rising-head, picks-same, Supported}
 use Rattle.model.proofs.Consistency.{supported-at, supported-intro, filtered-largest}
+use Rattle.model.proofs.LiveWords.{isLive-past}
+use Rattle.model.proofs.Fault.{accepts-rise}
+use Rattle.model.proofs.Reply.{reply-accepted, leaving-withdrawn}
+use Rattle.model.proofs.Mission.{filtering}
 
 -- ---- Combinations inside others
 
@@ -99,3 +111,79 @@ module _ (N : Network) where
     filtered-inside S =
         let l = filtered-largest N ds S in
         filtered-largest N cs S .above (filtered N ds S) (λ g h. supported-inside (filtered N ds S) g (l .consistent g h)) (l .inside)
+
+-- ---- Two calls from the same start
+
+withdrawn-is : (q : Request) → accepts q ≡ true → ((reply q) .answer) .withdrawn ≡ count (restrict (removes (q .given .network) (q .change)) (entryTuples q))
+unfolding accepted countsFor
+withdrawn-is q e =
+    ap (λ (p : Reply). (p .answer) .withdrawn) (reply-accepted q e)
+    ∙ leaving-withdrawn (q .given) (remainder (q .given) (q .change) (entryTuples q)) (countsFor (q .given) (q .change) (entryTuples q)) (q .words) (q .supports)
+
+-- a choice between two follows where both do
+cond-follows : (b : Bool) {x y u v : Bool} → (x ≡ true → u ≡ true) → (y ≡ true → v ≡ true) → cond b x y ≡ true → cond b u v ≡ true
+cond-follows true f g e = f e
+cond-follows false f g e = g e
+
+module _ (first second : Request) (same : SameStart first second) (e : accepts first ≡ true) (e′ : accepts second ≡ true) where
+  abbrev N : Network
+  N = first .given .network
+
+  abbrev N′ : Network
+  N′ = second .given .network
+
+  -- the lists of combinations
+  abbrev cs : List Combination
+  cs = combinationsOf (first .given)
+
+  abbrev ds : List Combination
+  ds = combinationsOf (second .given)
+
+  -- the tuples left
+  abbrev L : TupleSet
+  L = leftTuples first (reply first)
+
+  abbrev L′ : TupleSet
+  L′ = leftTuples second (reply second)
+
+  same-entry : entryTuples second ≡ entryTuples first
+  same-entry = λ i. living (total (sym (same .network) i)) (sym (same .words) i)
+
+  same-given : givenTuples second ≡ givenTuples first
+  same-given = λ i. without (removes (sym (same .network) i) (sym (same .change) i)) (same-entry i)
+
+  same-withdrawn : ((reply second) .answer) .withdrawn ≡ ((reply first) .answer) .withdrawn
+  same-withdrawn =
+      withdrawn-is second e′
+      ∙ (λ i. count (restrict (removes (sym (same .network) i) (sym (same .change) i)) (same-entry i)))
+      ∙ sym (withdrawn-is first e)
+
+  module _ (inside : allInside cs ds ≡ true) where
+    tuples-inside : Inside L′ L
+    tuples-inside =
+        let l = filtering second e′ .largest in
+        filtering first e .largest .above L′
+        (λ g h. supported-inside N cs ds (accepts-rise first e) (accepts-rise second e′) inside L′ g
+        (subst (λ (M : Network). supported M ds L′ g ≡ true) (sym (same .network)) (l .consistent g h)))
+        (λ g h. subst (λ (S : TupleSet). has S g ≡ true) same-given (l .inside g h))
+
+    bits-inside : (g : ℕ) → Dec (g < wordBits * length (second .words)) → isLive ((reply second) .words) g ≡ true → isLive ((reply first) .words) g ≡ true
+    bits-inside g (no d) h = absurd (not-both h (isLive-past ((reply second) .words) g (omega (arith, d, filtering second e′ .marked .words))))
+    bits-inside g (yes l) h =
+        filtering first e .marked .bits g (omega (arith, l, ap length (same .words)))
+        ∙ ap (λ (M : Network). cond (ltb g (total M)) (has L g) (isLive (first .words) g)) (same .network)
+        ∙ cond-follows (ltb g (total N′)) (tuples-inside g) (λ k. ap (λ (ws : List ℕ). isLive ws g) (same .words) ∙ k) (sym (filtering second e′ .marked .bits g l) ∙ h)
+
+    -- bigger combinations only tighten
+    pub tighter : Tighter first (reply first) second (reply second)
+    tighter =
+        let f = filtering first e in
+        let f′ = filtering second e′ in
+        let fewer = count-inside L′ L tuples-inside in
+        record {
+          tuples = tuples-inside;
+          bits = λ g. bits-inside g (decLt g (wordBits * length (second .words)));
+          left = omega (arith, fewer, f .tells .left, f′ .tells .left);
+          withdrawn = same-withdrawn;
+          deleted = omega (arith, fewer, f .tells .left, f′ .tells .left, same-withdrawn, f .sum, f′ .sum, ap count same-entry);
+        }

@@ -105,6 +105,18 @@ count-length [] = le-refl 0
 count-length (true ∷ S) = omega (arith, count-length S)
 count-length (false ∷ S) = omega (arith, count-length S)
 
+cons-inside : (x y : Bool) (S T : TupleSet) → (x ≡ true → y ≡ true) → count S ≤ count T → count (x ∷ S) ≤ count (y ∷ T)
+cons-inside true true S T f h = omega arith
+cons-inside true false S T f h = absurd (false≢true (f refl))
+cons-inside false true S T f h = omega arith
+cons-inside false false S T f h = h
+
+-- a set has no more tuples than one that it is inside
+pub count-inside : (S T : TupleSet) → Inside S T → count S ≤ count T
+count-inside [] T f = omega arith
+count-inside (x ∷ S) [] f = cons-inside x false S [] (f 0) (count-inside S [] (λ g. f (suc g)))
+count-inside (x ∷ S) (y ∷ T) f = cons-inside x y S T (f 0) (count-inside S T (λ g. f (suc g)))
+
 cons-count : (x b : Bool) (S′ S : TupleSet) → count S′ ≤ count S → count ((x && b) ∷ S′) ≤ count (x ∷ S)
 cons-count true true S′ S h = omega arith
 cons-count true false S′ S h = omega arith
