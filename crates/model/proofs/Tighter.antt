@@ -5,35 +5,42 @@ use mathlib.Core.Path.{_≡_, refl, sym, _∙_, ap, subst}
 use mathlib.Core.Bool.{Bool, true, false, not, cond, false≢true}
 use mathlib.Core.Option.{Option, none}
 use mathlib.Core.Logic.{_⊎_, inl, inr, ⊎-elim}
-use mathlib.Core.List.{List, [], _∷_, _++_, map, List·Memᴰ, List·Memᴰ·tail, List·Memᴰ·cases-cons, List·Memᴰ·not-nil}
+use mathlib.Core.List.{List, [], _∷_, _++_, map, List·Memᴰ, List·Memᴰ·tail, List·Memᴰ·cases-cons, List·Memᴰ·not-nil, Memᴰ·of-map, Memᴰ·cast, Memᴰ·map}
 use Prim.Native.Nat.{ℕ, zero, suc, _+_, _-_, _*_, _/_, _%_, _≤_, _<_}
 use native.Mathlib.Omega.{arith}
 use lib.Dec.{ltb}
-use lib.ListN.{length, take, drop}
+use lib.ListN.{length, take, drop, length-append, length-drop, take-append-drop}
 use native.Mathlib.Decide.{decLt}
 use Rattle.model.specs.Limits.{wordBits}
-use Rattle.model.specs.Lists.{all, any, elem, pairwise}
+use lib.Seq.{take-at, drop-append-le, take-append-le}
+use native.Mathlib.Nat.{suc-mul, div-zero, le-div-iff-mul-le}
+use borrow.Author.Tests.{not-true}
+use Rattle.model.specs.declared.Counts.{Counts}
+use Rattle.model.specs.declared.Answer.the-variants.{Settled, Emptied}
+use Rattle.model.proofs.Combination.{combination-within}
+use Rattle.model.proofs.LiveCounts.{untrue-written}
+use Rattle.model.specs.Lists.{all, any, elem, pairwise, from}
 use Rattle.model.specs.TupleSet.{TupleSet, has, count, restrict, without, Inside}
 use Rattle.model.specs.Network.{Network, total, idsOf, relationOf}
 use Rattle.model.specs.Agreement.{agree}
-use Rattle.model.specs.Combination.{Combination}
-use Rattle.model.specs.Consistency.{supported, filtered}
-use Rattle.model.specs.LiveWords.{isLive, living}
-use Rattle.model.specs.Request.{combinationsOf, Request, removes}
-use Rattle.model.specs.Fault.{accepts}
-use Rattle.model.specs.Reply.{Reply, remainder, countsFor, accepted, reply}
+use Rattle.model.specs.Combination.{Combination, combinations}
+use Rattle.model.specs.Consistency.{supported, filtered, supportList, needed}
+use Rattle.model.specs.LiveWords.{isLive, living, written}
+use Rattle.model.specs.Request.{combinationsOf, Request, removes, Change, filter, Instance}
+use Rattle.model.specs.Fault.{accepts, firstFault, changeFaults}
+use Rattle.model.specs.Reply.{Reply, remainder, countsFor, accepted, reply, answerNumbers, lowestEmpty, answerFor, leaving}
 use Rattle.model.specs.Promises.{entryTuples, givenTuples, leftTuples}
-use Rattle.model.specs.Tighter.{liesInside, allInside, SameStart, Tighter}
+use Rattle.model.specs.Tighter.{liesInside, allInside, SameStart, Tighter, IsConnected, HoldsConnected, Spent, again, nothingGone, Repeats}
 use Rattle.model.proofs.Bools.{and-right, and-intro, not-both}
-use Rattle.model.proofs.Lists.{here, all-at, all-intro, any-at, pairwise-at, elem-mem, Picks, done, pick}
-use Rattle.model.proofs.TupleSet.{count-inside}
+use Rattle.model.proofs.Lists.{here, all-at, all-intro, any-at, pairwise-at, elem-mem, Picks, done, pick, any-intro, mem-elem, from-mem, mem-from}
+use Rattle.model.proofs.TupleSet.{count-inside, restrict-test, without-cong, without-none, without-count}
 use Rattle.model.proofs.Network.{relationOf-ids}
 use Rattle.model.proofs.Agreement.{agree-sym}
 use Rattle.model.proofs.Support.{isSupport-intro, isSupport-self, isSupport-live, isSupport-agree, candidates-picks, picks-candidates, picks-member, rising-head, picks-same, Supported}
-use Rattle.model.proofs.Consistency.{supported-at, supported-intro, filtered-largest}
-use Rattle.model.proofs.LiveWords.{isLive-past}
-use Rattle.model.proofs.Fault.{accepts-rise}
-use Rattle.model.proofs.Reply.{reply-accepted, leaving-withdrawn}
+use Rattle.model.proofs.Consistency.{supported-at, supported-intro, filtered-largest, filtered-filtered, supportList-length}
+use Rattle.model.proofs.LiveWords.{isLive-past, living-length, living-written, written-length}
+use Rattle.model.proofs.Fault.{accepts-rise, accepts-words, accepts-change, accepts-other}
+use Rattle.model.proofs.Reply.{reply-accepted, leaving-withdrawn, remainder-length, leaving-written}
 use Rattle.model.proofs.Mission.{filtering}
 
 -- ---- Combinations inside others
@@ -187,3 +194,134 @@ module _ (first second : Request) (same : SameStart first second) (e : accepts f
           withdrawn = same-withdrawn;
           deleted = omega (arith, fewer, f .tells .left, f′ .tells .left, same-withdrawn, f .sum, f′ .sum, ap count same-entry);
         }
+
+-- ---- Lists of combinations inside others
+
+inside-intro : (cs ds : List Combination) → ((c : Combination) → List·Memᴰ c cs → (d : Combination) × List·Memᴰ d ds × (liesInside c d ≡ true)) → allInside cs ds ≡ true
+unfolding allInside
+inside-intro cs ds f =
+    all-intro (λ (c : Combination). any (liesInside c) ds) cs (λ c m. let k = f c m in any-intro (liesInside c) ds (k .1) (k .2))
+
+inside-self : (c : Combination) → liesInside c c ≡ true
+unfolding liesInside
+inside-self c = all-intro (λ (r : ℕ). elem r c) c (λ r m. mem-elem c m)
+
+-- a list of more combinations, in whatever order and however often
+pub more-inside : (cs ds : List Combination) → ((c : Combination) → List·Memᴰ c cs → List·Memᴰ c ds) → allInside cs ds ≡ true
+more-inside cs ds f = inside-intro cs ds (λ c m. (c, f c m, inside-self c))
+
+-- a whole combination within a list is one of its combinations
+whole-within : (m k x y : ℕ) → k < x / m → k * m + m ≤ y → k < y / m
+whole-within zero k x y h l = absurd (omega (arith, h, div-zero x))
+whole-within (suc m) k x y h l = le-div-iff-mul-le {k = suc m} {x = suc k} {y = y} (omega arith) .1 (omega (arith, l, suc-mul k (suc m)))
+
+-- members added behind a list keep its combinations
+added-member : (m : ℕ) (xs ys : List ℕ) {c : Combination} → List·Memᴰ c (combinations m xs) → List·Memᴰ c (combinations m (xs ++ ys))
+unfolding combinations
+added-member m xs ys {c} n =
+    let a = Memᴰ·of-map (λ (k : ℕ). take m (drop (k * m) xs)) (from 0 (length xs / m)) n in
+    let k = a .0 in
+    let h : k < length xs / m = omega (arith, from-mem 0 (length xs / m) k (a .1)) in
+    let l = combination-within m xs k h in
+    let more : k < length (xs ++ ys) / m = whole-within m k (length xs) (length (xs ++ ys)) h (omega (arith, l, length-append xs ys)) in
+    let same : take m (drop (k * m) (xs ++ ys)) ≡ c =
+    ap (take m) (drop-append-le (k * m) xs ys (omega arith))
+    ∙ take-append-le m (drop (k * m) xs) ys (omega (arith, length-drop (k * m) xs))
+    ∙ a .2 in
+    Memᴰ·cast (sym same) (Memᴰ·map (λ (k : ℕ). take m (drop (k * m) (xs ++ ys))) (mem-from 0 (length (xs ++ ys) / m) k (omega arith) (omega arith)))
+
+pub added-inside : (m : ℕ) (xs ys : List ℕ) → allInside (combinations m xs) (combinations m (xs ++ ys)) ≡ true
+added-inside m xs ys = more-inside (combinations m xs) (combinations m (xs ++ ys)) (λ c n. added-member m xs ys n)
+
+-- every connected combination of m, where each of the first list lies inside one
+pub connected-inside : (N : Network) (m : ℕ) (cs ds : List Combination) → HoldsConnected N m ds → ((c : Combination) → List·Memᴰ c cs → (d : Combination) × IsConnected N m d × (liesInside c d ≡ true)) → allInside cs ds ≡ true
+connected-inside N m cs ds holds f = inside-intro cs ds (λ c n. let k = f c n in (k .0, holds (k .0) (k .1), k .2))
+
+-- ---- A call after a call
+
+-- the answer of the same set, with nothing withdrawn and nothing deleted
+nothing-gone : (r : ℕ) (k : Counts) (b : Bool) → answerNumbers (cond b (Emptied r (record { left = k .left; withdrawn = 0; deleted = 0 })) (Settled (record { left = k .left; withdrawn = 0; deleted = 0 }))) ≡ nothingGone (answerNumbers (cond b (Emptied r k) (Settled k)))
+nothing-gone r k true = refl
+nothing-gone r k false = refl
+
+module _ (q : Request) (e : accepts q ≡ true) where
+  abbrev I : Instance
+  I = q .given
+
+  abbrev k : ℕ
+  k = needed (I .network) (combinationsOf I)
+
+  -- what q leaves
+  abbrev rest : TupleSet
+  rest = remainder I (q .change) (entryTuples q)
+
+  abbrev p : Reply
+  p = leaving I rest (countsFor I (q .change) (entryTuples q)) (q .words) (q .supports)
+
+  rest-length : length rest ≡ total (I .network)
+  rest-length = remainder-length I (q .change) (entryTuples q) ∙ living-length (total (I .network)) (q .words)
+
+  reply-is : reply q ≡ p
+  unfolding accepted
+  reply-is = reply-accepted q e
+
+  -- filter removes nothing, and q's change nothing more
+  spent-removes : (change : Change) → Spent q change → (g : ℕ) → has rest g ≡ true → removes (I .network) change g ≡ false
+  unfolding remainder removes
+  spent-removes change (inl f) g h = ap (λ (c : Change). removes (I .network) c g) f
+  spent-removes change (inr f) g h =
+      ap (λ (c : Change). removes (I .network) c g) f
+      ∙ not-true _ (restrict-test (λ (g : ℕ). not (removes (I .network) (q .change) g)) (entryTuples q) g (filtered-largest (I .network) (combinationsOf I) (givenTuples q) .inside g h))
+
+  spent-faults : (change : Change) → Spent q change → firstFault (changeFaults (I .network) change) ≡ none
+  spent-faults change (inl f) = ap (λ (c : Change). firstFault (changeFaults (I .network) c)) f
+  spent-faults change (inr f) = ap (λ (c : Change). firstFault (changeFaults (I .network) c)) f ∙ accepts-change q e
+
+  module _ (change : Change) (spent : Spent q change) (supports : List ℕ) (enough : k ≤ length supports) where
+    none-removed : without (removes (I .network) change) rest ≡ rest
+    none-removed = without-cong (removes (I .network) change) (λ _. false) rest (spent-removes change spent) ∙ without-none rest
+
+    remainder-again : remainder I change rest ≡ rest
+    unfolding remainder
+    remainder-again = ap (filtered (I .network) (combinationsOf I)) none-removed ∙ filtered-filtered (I .network) (combinationsOf I) (givenTuples q)
+
+    counts-again : countsFor I change rest ≡ record { left = count rest; withdrawn = 0; deleted = 0 }
+    unfolding countsFor
+    counts-again =
+        let w : count (restrict (removes (I .network) change) rest) ≡ 0 = omega (arith, without-count (removes (I .network) change) rest, ap count none-removed) in
+        let d : count (without (removes (I .network) change) rest) - count (remainder I change rest) ≡ 0 = omega (arith, ap count none-removed, ap count remainder-again) in
+        λ i. record { left = count (remainder-again i); withdrawn = w i; deleted = d i }
+
+    accepts-again : accepts (again q p change supports) ≡ true
+    unfolding leaving
+    accepts-again =
+        accepts-other q e (p .words) supports (p .counts) change (written-length (total (I .network)) rest (q .words)) enough
+        (untrue-written (I .network) rest (q .words) rest-length (accepts-words q e)) (spent-faults change spent)
+
+    reply-again : reply (again q p change supports) ≡ leaving I rest (record { left = count rest; withdrawn = 0; deleted = 0 }) (q .words) supports
+    unfolding accepted leaving
+    reply-again =
+        reply-accepted (again q p change supports) accepts-again
+        ∙ ap (λ (S : TupleSet). leaving I (remainder I change S) (countsFor I change S) (p .words) supports) (living-written (total (I .network)) rest (q .words) rest-length (accepts-words q e))
+        ∙ (λ i. leaving I (remainder-again i) (counts-again i) (p .words) supports)
+        ∙ leaving-written I rest rest (record { left = count rest; withdrawn = 0; deleted = 0 }) (q .words) supports
+
+    repeats-leaving : Repeats q p supports (leaving I rest (record { left = count rest; withdrawn = 0; deleted = 0 }) (q .words) supports)
+    unfolding leaving answerFor countsFor
+    repeats-leaving =
+        let list = supportList (I .network) (combinationsOf I) rest in
+        let front : take k (list ++ drop k (q .supports)) ≡ list = take-at list (drop k (q .supports)) k (supportList-length (I .network) (combinationsOf I) rest) in
+        let numbers : list ++ drop k supports ≡ take k (list ++ drop k (q .supports)) ++ drop k supports = ap (λ (xs : List ℕ). xs ++ drop k supports) (sym front) in
+        record {
+          answer = nothing-gone (lowestEmpty (I .network) rest) (countsFor I (q .change) (entryTuples q)) (ltb (lowestEmpty (I .network) rest) (length (I .network .relations)));
+          words = refl;
+          counts = refl;
+          numbers = numbers;
+          same-numbers = λ same. numbers ∙ ap (λ (xs : List ℕ). take k (list ++ drop k (q .supports)) ++ drop k xs) same ∙ take-append-drop k (list ++ drop k (q .supports));
+        }
+
+    -- a filter, or the same change, after an accepted change changes nothing
+    pub repeats : Repeats q (reply q) supports (reply (again q (reply q) change supports))
+    repeats =
+        subst (λ (x : Reply). Repeats q x supports (reply (again q x change supports))) (sym reply-is)
+        (subst (Repeats q p supports) (sym reply-again) repeats-leaving)
