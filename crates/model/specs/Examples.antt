@@ -19,10 +19,12 @@ use Rattle.model.specs.Support
 use Rattle.model.specs.Consistency
 use Rattle.model.specs.LiveWords
 use Rattle.model.specs.Request
-use Rattle.model.specs.Request.{Instance, Request, Change, filter, withdraw, choose}
+use Rattle.model.specs.Request.{Instance, combinationsOf, Request, Change, filter, withdraw, choose}
 use Rattle.model.specs.Fault
 use Rattle.model.specs.Reply
 use Rattle.model.specs.Reply.{Numbers, reply, compareReply}
+use Rattle.model.specs.Tighter
+use Rattle.model.specs.Tighter.{allInside}
 use Rattle.model.specs.Text
 use Rattle.model.specs.Text.{textOf}
 use Rattle.model.specs.Reading
@@ -113,6 +115,12 @@ p6 = asked triangle 2 pairs (63 ∷ []) filter
 unfoldable pub p7 : Request
 p7 = asked triangle 3 (0 ∷ 1 ∷ 2 ∷ []) (63 ∷ []) filter
 
+unfoldable pub a1 : Request
+a1 = asked chain 2 (0 ∷ 1 ∷ 1 ∷ 2 ∷ []) (7 ∷ []) filter
+
+unfoldable pub a2 : Request
+a2 = asked chain 3 (0 ∷ 1 ∷ 2 ∷ []) (7 ∷ []) filter
+
 unfoldable pub table : List Example
 table =
     -- P1: tuple 2 of relation 0 falls, no other
@@ -134,9 +142,9 @@ table =
     -- P9
     ∷ record { request = asked networkA 2 pairs (127 ∷ []) (choose 2 6); answer = numbers 0 64 3 2 2; words = 82 ∷ []; counts = 1 ∷ 1 ∷ 1 ∷ []; place = 0; supports = [] }
     -- A1 (card 4): in pairs of neighbours any agrees with both
-    ∷ record { request = asked chain 2 (0 ∷ 1 ∷ 1 ∷ 2 ∷ []) (7 ∷ []) filter; answer = numbers 0 64 3 0 0; words = 7 ∷ []; counts = 1 ∷ 1 ∷ 1 ∷ []; place = 0; supports = 0 ∷ 0 ∷ 0 ∷ 0 ∷ [] }
+    ∷ record { request = a1; answer = numbers 0 64 3 0 0; words = 7 ∷ []; counts = 1 ∷ 1 ∷ 1 ∷ []; place = 0; supports = 0 ∷ 0 ∷ 0 ∷ 0 ∷ [] }
     -- A2: a chain of pairs through an any is not a support
-    ∷ record { request = asked chain 3 (0 ∷ 1 ∷ 2 ∷ []) (7 ∷ []) filter; answer = numbers 1 0 0 0 3; words = 0 ∷ []; counts = 0 ∷ 0 ∷ 0 ∷ []; place = 0; supports = 65535 ∷ [] }
+    ∷ record { request = a2; answer = numbers 1 0 0 0 3; words = 0 ∷ []; counts = 0 ∷ 0 ∷ 0 ∷ []; place = 0; supports = 65535 ∷ [] }
     -- A3: a choice does not remove the tuple with any under its variable
     ∷ record { request = asked vague 2 (0 ∷ 1 ∷ []) (15 ∷ []) (choose 0 4); answer = numbers 0 64 2 1 1; words = 5 ∷ []; counts = 1 ∷ 1 ∷ []; place = 0; supports = 0 ∷ 0 ∷ 65535 ∷ [] }
     -- A4: choosing any removes nothing
@@ -158,8 +166,20 @@ said e = (e .answer, e .words, e .counts, e .supports)
 
 -- P1 to P9, A1 to A4
 pub examples : map given table ≡ map said table
-unfolding table given said relation networkA triangle lone chain vague pairs asked next numbers p1 p3 p6 p7 TupleSet.closure Network.relationOf Network.indexOf Network.scopeOf Network.valuesAt Network.tupleOf Agreement.isAny Agreement.fit Agreement.clash Agreement.clashes Agreement.cellsOf Agreement.firstClash Agreement.agree Agreement.share Combination.combinations Combination.connected Support.candidates Support.isSupport Support.supports Support.firstSupport Consistency.supported Consistency.filtered Consistency.supportList Consistency.needed LiveWords.bit LiveWords.isSet LiveWords.isLive LiveWords.living LiveWords.word LiveWords.written Request.removes LiveCounts.liveCounts Fault.untrue Fault.listFaults Fault.faultsOn Fault.faults Reply.lowestEmpty Reply.answerFor Reply.remainder Reply.countsFor Reply.leaving Reply.accepted Reply.reply
+unfolding table given said relation networkA triangle lone chain vague pairs asked next numbers p1 p3 p6 p7 a1 a2 TupleSet.closure Network.relationOf Network.indexOf Network.scopeOf Network.valuesAt Network.tupleOf Agreement.isAny Agreement.fit Agreement.clash Agreement.clashes Agreement.cellsOf Agreement.firstClash Agreement.agree Agreement.share Combination.combinations Combination.connected Support.candidates Support.isSupport Support.supports Support.firstSupport Consistency.supported Consistency.filtered Consistency.supportList Consistency.needed LiveWords.bit LiveWords.isSet LiveWords.isLive LiveWords.living LiveWords.word LiveWords.written Request.removes LiveCounts.liveCounts Fault.untrue Fault.listFaults Fault.faultsOn Fault.faults Reply.lowestEmpty Reply.answerFor Reply.remainder Reply.countsFor Reply.leaving Reply.accepted Reply.reply
 examples = refl
+
+-- ---- Bigger combinations
+
+-- the combinations of the one request lie inside those of the other
+inside : Request → Request → Bool
+inside p q = allInside (combinationsOf (p .given)) (combinationsOf (q .given))
+
+-- P6's pairs lie inside P7's triple, which does not lie inside them; the pairs leave all six tuples, and the triple none. With any the same
+-- of A1's pairs and A2's triple. A pair that stands twice, and before an earlier one, lies inside P6's.
+bigger-removes-more : (inside p6 p7 ≡ true) × (inside p7 p6 ≡ false) × ((reply p6) .words ≡ 63 ∷ []) × ((reply p7) .words ≡ 0 ∷ []) × (inside a1 a2 ≡ true) × ((reply a1) .words ≡ 7 ∷ []) × ((reply a2) .words ≡ 0 ∷ []) × (inside (asked triangle 2 (1 ∷ 2 ∷ 0 ∷ 1 ∷ 1 ∷ 2 ∷ []) [] filter) p6 ≡ true)
+unfolding inside relation triangle chain pairs asked p6 p7 a1 a2 Tighter.liesInside Tighter.allInside TupleSet.closure Network.relationOf Network.indexOf Network.scopeOf Network.valuesAt Network.tupleOf Agreement.isAny Agreement.fit Agreement.clash Agreement.clashes Agreement.cellsOf Agreement.firstClash Agreement.agree Agreement.share Combination.combinations Combination.connected Support.candidates Support.isSupport Support.supports Support.firstSupport Consistency.supported Consistency.filtered Consistency.supportList Consistency.needed LiveWords.bit LiveWords.isSet LiveWords.isLive LiveWords.living LiveWords.word LiveWords.written Request.removes LiveCounts.liveCounts Fault.untrue Fault.listFaults Fault.faultsOn Fault.faults Reply.lowestEmpty Reply.answerFor Reply.remainder Reply.countsFor Reply.leaving Reply.accepted Reply.reply
+bigger-removes-more = (refl, refl, refl, refl, refl, refl, refl, refl)
 
 -- ---- The first fault wins
 
