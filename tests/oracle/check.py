@@ -325,11 +325,17 @@ def old_counts_refused() -> bool:
 
 
 def filtering_repeats() -> bool:
-    """A filter after a change call changes nothing, writes the same supports, and its marks test settled."""
+    """A filter after a change call, or the same call once more, changes nothing and writes the same supports over whatever it is lent;
+    and its marks test settled."""
+    rng = random.Random(1)
     for request, (answer, marks, supports, counts) in changes_accepted("small", 600) + changes_accepted("wide", 60):
-        again = replace(request, call="filter", marks=marks, supports=supports, counts=counts)
-        same = book.reply(again) == (answer[:3] + (0, 0), marks, supports, counts)
-        if not same or book.reply(replace(again, call="test"))[0] != (1, 0):
+        needed = book.supports_needed(request)
+        for call in {"filter", request.call}:
+            lent = rng.choice((supports, draw.garbage(rng, needed)))
+            again = replace(request, call=call, marks=marks, supports=lent, counts=counts)
+            if book.reply(again) != (answer[:3] + (0, 0), marks, supports[:needed] + lent[needed:], counts):
+                return False
+        if book.reply(replace(again, call="test"))[0] != (1, 0):
             return False
     return True
 
@@ -483,6 +489,94 @@ def listing_as_filter() -> bool:
         if lines[0] != b"%d,%d,%d,%d" % (kind, sheet, left, deleted) or len(lines) != 1 + left:
             return False
     return True
+
+
+# Bigger combinations
+
+
+def connected_combinations(request: Request, m: int, most: int) -> list[Combination]:
+    """All of m sheets with at most so many choices of a row from each."""
+    asked = book.read_questions(request)
+    found = []
+    for members in itertools.combinations(range(len(asked)), m):
+        few = math.prod(request.sheets[sheet][1] for sheet in members) <= most
+        if few and book.connected([asked[sheet] for sheet in members]):
+            found.append(list(members))
+    return found
+
+
+def around(small: list[Combination], large: list[Combination]) -> list[list[Combination]]:
+    """For each small combination the large ones that it lies inside."""
+    return [[members for members in large if set(one) <= set(members)] for one in small]
+
+
+def with_bigger(rng: random.Random, request: Request) -> Optional[Request]:
+    """The request over a combination around each of its own and some more, in any order and with repeats; none where there is none."""
+    m = rng.choice([m for m in (2, 3, 4) if m >= request.m])
+    large = connected_combinations(request, m, 2000)
+    holding = around(book.read_combinations(request), large)
+    if not large or not all(holding):
+        return None
+    members = [rng.choice(some) for some in holding] + rng.choices(large, k=rng.randrange(3))
+    bigger = replace(request, m=m, combinations=[sheet for some in rng.sample(members, len(members)) for sheet in some])
+    bigger.supports = draw.garbage(rng, book.supports_needed(bigger))
+    return None if book.first_fault(bigger) else bigger
+
+
+def few_sheets(size: str, count: int) -> list[Request]:
+    return [request for request, _ in changes_accepted(size, count) if len(request.sheets) <= 8]
+
+
+Tightening = tuple[bool, set]  # whether the law holds, and what the draw shows where fewer rows are left
+
+
+def over_bigger() -> Iterator[Tightening]:
+    """Over bigger combinations no row stays that fell; as many are withdrawn, and the other counts follow."""
+    rng = random.Random(1)
+    for request in few_sheets("small", 600) + few_sheets("any", 300):
+        bigger = with_bigger(rng, request)
+        if bigger is None:
+            continue
+        (answer, marks, _, counts), (tighter, left, _, fewest) = book.reply(request), book.reply(bigger)
+        whole = book.read_book(request)
+        holds = book.living_rows(whole, left) <= book.living_rows(whole, marks) and tighter[3] == answer[3]
+        holds = holds and tighter[2] <= answer[2] and tighter[4] >= answer[4]
+        holds = holds and all(few <= most for most, few in zip(counts, fewest))
+        yield holds, {(request.m, bigger.m, ANY in request.codes), request.call} if left != marks else set()
+
+
+def over_all_connected() -> Iterator[Tightening]:
+    """Filtering over all connected combinations of m leaves nothing that filtering over those of m - 1 strikes, where each of these
+    lies in one of m."""
+    for request in few_sheets("small", 600) + few_sheets("any", 300):
+        whole = book.read_book(request)
+        living = book.living_rows(whole, request.marks)
+        for m in (3, 4):
+            small, large = (connected_combinations(request, size, 10000) for size in (m - 1, m))
+            if small and all(around(small, large)):
+                more, less = (book.filtered(whole, members, living) for members in (small, large))
+                yield less <= more, {m, ANY in request.codes} if less != more else set()
+
+
+def always_holds(drawn: Callable[[], Iterator[Tightening]], wanted: set) -> bool:
+    """Whether the law holds of every draw, and the draws show all that is wanted."""
+    results = list(drawn())
+    return all(holds for holds, _ in results) and set().union(*(seen for _, seen in results)) == wanted
+
+
+def only_tightens() -> bool:
+    sizes = [(m, n) for m in (2, 3, 4) for n in range(m, 5)]
+    return always_holds(over_bigger, {(*some, with_any) for some in sizes for with_any in (False, True)} | set(draw.CHANGES))
+
+
+def all_connected_tighten() -> bool:
+    return always_holds(over_all_connected, {3, 4, False, True})
+
+
+def breaks(drawn: Callable[[], Iterator[Tightening]], place: str, variant: object) -> bool:
+    """Whether the law fails of a wrong variant on some draw."""
+    with mock.patch.object(book, place, variant), mock.patch.object(book, "supports_after"):
+        return any(not holds for holds, _ in drawn())
 
 
 # The strike rule
@@ -1012,7 +1106,7 @@ def checks() -> list[Check]:
     plain += [text_edges, texts_not_in_form, texts_refused]
     plain += [counts_add_up, old_counts_refused, filtering_repeats, spare_stays, refusals_change_nothing, largest_by_all_subsets]
     plain += [no_order_lost, connected_by_spreading, listing_as_filter, clash_unless_agreeing]
-    plain += [supports_by_orders, choices_leave_any, any_keeps_more]
+    plain += [supports_by_orders, choices_leave_any, any_keeps_more, only_tightens, all_connected_tighten]
     plain += [lists_agree, lists_are_varied, sheets_out_of_reach_keep_rows]
     plain += [first_of_several, refusals_occur, any_in_texts, answers_occur, shapes_occur, same_seed_same_draws]
     named = [(function.__name__, function) for function in plain]
@@ -1023,6 +1117,8 @@ def checks() -> list[Check]:
     any_too = functools.partial(sample, "any", 300)
     named += [(variant.__name__, functools.partial(told_apart, place, variant, any_too, 3)) for place, variant in ANY_VARIANTS]
     several_words = functools.partial(sample, "alike", 60)
+    for law in (over_bigger, over_all_connected):
+        named.append((f"chain_of_rows, {law.__name__}", functools.partial(breaks, law, "first_support", chain_of_rows)))
     named.append(("fit_in_remainders", functools.partial(told_apart, "fit", fit_in_remainders, several_words, 3)))
     return named + count_variants() + later_pairs()
 

@@ -48,7 +48,7 @@ module _ (lent after : List ℕ) (only : OnlyCounts lent after) where
   only-room : 6 * length (countsIn after) ≤ length lent
   only-room = omega (arith, counts-length after, only .long)
 
-  only-records : records after ≡ records lent
+  pub only-records : records after ≡ records lent
   only-records = ap records (only .same) ∙ written-records lent (countsIn after) only-room
 
   only-next : (later : List ℕ) → OnlyCounts after later → OnlyCounts lent later
@@ -102,7 +102,7 @@ module _ (q : ByteRequest) (o : Outcome) (kept : KeepsBytes q o) where
     back-refused : r .answer .kind ≡ 2 → o ≡ as-lent (packed (r .answer))
     back-refused k = back true (eq-eqb _ _ k)
 
-    back-accepted : (r .answer .kind ≡ 2 → ⊥) → o ≡ encoded r sheets
+    pub back-accepted : (r .answer .kind ≡ 2 → ⊥) → o ≡ encoded r sheets
     back-accepted k = back false (ne-eqb _ _ k)
 
     lists-whole : wholeLists (q .book) (q .marks) (q .supports) ≡ true
@@ -251,7 +251,7 @@ shared-lent none s = refl
 shared-lent (some own) s = refl
 
 -- What is left of the bytes lent: of the records only the counts differ, the marks are as many, and all are bytes.
-record Kept (lent left : ByteMarks) : Type 0 where
+pub record Kept (lent left : ByteMarks) : Type 0 where
   pub only : OnlyCounts (lent .sheets) (left .sheets)
   pub long : length (left .marks) ≡ length (lent .marks)
   pub are-bytes : Bytes (left .marks)
@@ -292,7 +292,7 @@ module _ (q : ByteRequest) (o : Outcome) (kept : KeepsBytes q o) (b : AreBytes (
         are-bytes = bytes-bytes 8 ws;
       })
 
-  leaves : Leaves o
+  pub leaves : Leaves o
   leaves = left-case (isWhole q) refl (ℕ-discrete ((reply (decoded q)) .answer .kind) 2)
 
   none-gone : Bytes (q .supports) → (x : Bool) → isWhole q ≡ x → (unpacked (o .answer)) .kind ≡ 2 → (unpacked (o .answer)) .withdrawn + (unpacked (o .answer)) .deleted ≡ 0

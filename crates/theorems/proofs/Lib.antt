@@ -1,3 +1,5 @@
 -- The three points of the functions for C, and the contracts that they rest on.
 pub mod Bytes
 pub mod Contracts
+pub mod Bits
+pub mod Tighter

@@ -1,3 +1,4 @@
 -- What the calls promise.
 pub mod Mission
 pub mod ByteCalls
+pub mod Tighter
