@@ -573,6 +573,22 @@ def all_connected_tighten() -> bool:
     return always_holds(over_all_connected, {3, 4, False, True})
 
 
+def sheet_beside_extends() -> bool:
+    """A connected combination lies in one of a sheet more exactly if a sheet outside it asks a question of one of its members."""
+    seen = set()
+    for request in few_sheets("small", 600):
+        asked = [set(questions) for questions in book.read_questions(request)]
+        for m in (2, 3):
+            small, large = (connected_combinations(request, size, 10**9) for size in (m, m + 1))
+            for members, holding in zip(small, around(small, large)):
+                own = set().union(*(asked[sheet] for sheet in members))
+                beside = any(own & asked[sheet] for sheet in range(len(asked)) if sheet not in members)
+                seen.add((m, beside))
+                if beside != bool(holding):
+                    return False
+    return seen == set(itertools.product((2, 3), (False, True)))
+
+
 def breaks(drawn: Callable[[], Iterator[Tightening]], place: str, variant: object) -> bool:
     """Whether the law fails of a wrong variant on some draw."""
     with mock.patch.object(book, place, variant), mock.patch.object(book, "supports_after"):
@@ -1107,6 +1123,7 @@ def checks() -> list[Check]:
     plain += [counts_add_up, old_counts_refused, filtering_repeats, spare_stays, refusals_change_nothing, largest_by_all_subsets]
     plain += [no_order_lost, connected_by_spreading, listing_as_filter, clash_unless_agreeing]
     plain += [supports_by_orders, choices_leave_any, any_keeps_more, only_tightens, all_connected_tighten]
+    plain += [sheet_beside_extends]
     plain += [lists_agree, lists_are_varied, sheets_out_of_reach_keep_rows]
     plain += [first_of_several, refusals_occur, any_in_texts, answers_occur, shapes_occur, same_seed_same_draws]
     named = [(function.__name__, function) for function in plain]

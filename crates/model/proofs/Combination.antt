@@ -44,6 +44,14 @@ module _ (m : ℕ) (list : List ℕ) where
   pub combination-within : (k : ℕ) → k < length list / m → k * m + m ≤ length list
   combination-within k h = omega (arith, suc-mul k m, mul-le-mul-right {m = suc k} m h, div-mul-le-self (length list) m)
 
+  -- each has m members
+  pub combination-length : {c : Combination} → List·Memᴰ c (combinations m list) → length c ≡ m
+  unfolding combinations
+  combination-length n =
+      let a = Memᴰ·of-map (λ (k : ℕ). take m (drop (k * m) list)) (from 0 (length list / m)) n in
+      let b = combination-within (a .0) (omega (arith, from-mem 0 (length list / m) (a .0) (a .1))) in
+      sym (ap length (a .2)) ∙ length-take-le m (drop (a .0 * m) list) (omega (arith, length-drop (a .0 * m) list))
+
   -- ---- Pairs of combination and member
 
   -- each member of each combination is some pair's
@@ -296,6 +304,36 @@ module _ (share : ℕ → ℕ → Bool) where
         (λ j. joined-turned xs ys j)
         (crossing (divides-turned div) k (reach s (divides-left div ms))))
         (divides-cases div m)))
+
+    -- groups of which the first has member s of a connected combination c are joined, if all that they have beyond c shares with s
+    group-joined : (c d xs ys : List ℕ) {r s b : ℕ} → connectedBy c ≡ true → ((t : ℕ) → List·Memᴰ t d → (t ≡ r) ⊎ List·Memᴰ t c) → ((t : ℕ) → List·Memᴰ t c → List·Memᴰ t d) → List·Memᴰ s c → share s r ≡ true → ((t : ℕ) → List·Memᴰ t d → share t t ≡ true) → Divides d xs ys → List·Memᴰ s xs → List·Memᴰ b ys → (x : Bool) → joinedBy (xs, ys) ≡ x → joinedBy (xs, ys) ≡ true
+    group-joined c d xs ys e of into ms shares self div m n true j = j
+    group-joined c d xs ys {r} {s} {b} e of into ms shares self div m n false j =
+        let within = divides-left (divides-turned div) n in
+        let one-side = connected-all c (λ (t : ℕ). elem t xs) e over ms (mem-elem xs m) in
+        ⊎-elim
+        (λ q. joined-intro xs ys m n (subst (λ (t : ℕ). share s t ≡ true) (sym q) shares))
+        (λ k. joined-intro xs ys (elem-mem b xs (all-at (λ (t : ℕ). elem t xs) c one-side k)) n (self b within))
+        (of b within)
+      where
+        over : (u v : ℕ) → List·Memᴰ u c → List·Memᴰ v c → elem u xs ≡ true → share u v ≡ true → elem v xs ≡ true
+        over u v mu mv p h =
+            ⊎-elim (λ k. mem-elem xs k) (λ k. absurd (not-both (joined-intro xs ys (elem-mem u xs p) k h) j)) (divides-cases div (into v mv))
+
+    -- a connected combination and one relation more, which shares with a member
+    pub joined-connected : (c d : Combination) {r s : ℕ} → connectedBy c ≡ true → ((t : ℕ) → List·Memᴰ t d → (t ≡ r) ⊎ List·Memᴰ t c) → ((t : ℕ) → List·Memᴰ t c → List·Memᴰ t d) → List·Memᴰ s c → share s r ≡ true → ((t : ℕ) → List·Memᴰ t d → share t t ≡ true) → connectedBy d ≡ true
+    joined-connected c d {s = s} e of into ms shares self =
+        all-intro undivided (divisions d)
+        (λ x n.
+        let xs = x .0 in
+        let ys = x .1 in
+        let div = division-divides d n in
+        undivided-intro xs ys
+        (λ a b ma mb.
+        ⊎-elim
+        (λ k. group-joined c d xs ys e of into ms shares self div k mb (joinedBy (xs, ys)) refl)
+        (λ k. joined-turned xs ys (group-joined c d ys xs e of into ms shares self (divides-turned div) k ma (joinedBy (ys, xs)) refl))
+        (divides-cases div (into s ms))))
 
 -- ---- Scopes
 

@@ -16,7 +16,7 @@ use Rattle.model.specs.Limits.{maxRelations, maxWidth, maxTuples, maxSup
 use Rattle.model.specs.Lists.{from, sum, all, pairwise, isNone}
 use Rattle.model.specs.declared.Relation.{Relation}
 use Rattle.model.specs.Network.{Network, total, variablesIn, tuplesIn, valuesIn, scopeOf}
-use Rattle.model.specs.Combination.{Combination}
+use Rattle.model.specs.Combination.{Combination, connected}
 use Rattle.model.specs.Consistency.{needed}
 use Rattle.model.specs.Request.{Change, filter, withdraw, choose, Instance, combinationsOf, Request}
 use Rattle.model.specs.Fault.{published, Fault, listFaults, untrue, firstFault, refusal, within, properWidth, different, properScope, properLengths, networkFaults, combinationFaults, wordsFault, supportsFault, changeFaults, properMembers, faultsOn, faults, accepts}
@@ -299,18 +299,22 @@ module _ (q : Request) (e : accepts q ≡ true) where
   unfolding listFaults
   combination-fault m = listed (Memᴰ·append-left lent (Memᴰ·append-right (networkFaults N) m))
 
-  proper : {c : Combination} → List·Memᴰ c (combinationsOf I) → properMembers N c ≡ true
-  proper m = all-at (properMembers N) (combinationsOf I) (not-false (all (properMembers N) (combinationsOf I)) (combination-fault (List·Memᴰ·tail (List·Memᴰ·tail here)))) m
+  pub accepts-proper : {c : Combination} → List·Memᴰ c (combinationsOf I) → properMembers N c ≡ true
+  accepts-proper m = all-at (properMembers N) (combinationsOf I) (not-false (all (properMembers N) (combinationsOf I)) (combination-fault (List·Memᴰ·tail (List·Memᴰ·tail here)))) m
 
   -- every member exists
   pub accepts-exist : (c : Combination) → List·Memᴰ c (combinationsOf I) → (r : ℕ) → List·Memᴰ r c → r < length (N .relations)
   accepts-exist c m r k =
       ltb-true r (length (N .relations))
-      (all-at (λ (r : ℕ). ltb r (length (N .relations))) c (and-left (all (λ (r : ℕ). ltb r (length (N .relations))) c) (pairwise ltb c) (proper m)) k)
+      (all-at (λ (r : ℕ). ltb r (length (N .relations))) c (and-left (all (λ (r : ℕ). ltb r (length (N .relations))) c) (pairwise ltb c) (accepts-proper m)) k)
 
   -- and the members rise
   pub accepts-rise : (c : Combination) → List·Memᴰ c (combinationsOf I) → pairwise ltb c ≡ true
-  accepts-rise c m = and-right (all (λ (r : ℕ). ltb r (length (N .relations))) c) (pairwise ltb c) (proper m)
+  accepts-rise c m = and-right (all (λ (r : ℕ). ltb r (length (N .relations))) c) (pairwise ltb c) (accepts-proper m)
+
+  -- and each is connected
+  pub accepts-connected : {c : Combination} → List·Memᴰ c (combinationsOf I) → connected N c ≡ true
+  accepts-connected m = all-at (connected N) (combinationsOf I) (not-false (all (connected N) (combinationsOf I)) (combination-fault (List·Memᴰ·tail (List·Memᴰ·tail (List·Memᴰ·tail here))))) m
 
   -- its change has no fault of its own
   pub accepts-change : firstFault (changeFaults N (q .change)) ≡ none

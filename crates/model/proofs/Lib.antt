@@ -23,6 +23,8 @@ pub mod Edges
 pub mod Calls
 pub mod Mission
 pub mod Tighter
+pub mod Extension
+pub mod Repeats
 pub mod Text
 pub mod ReadLines
 pub mod Reading

@@ -1,46 +1,41 @@
 -- Bigger combinations only tighten: a support in a combination, restricted to the members of one inside it, is a support there.
 -- From the laws of supports and of the largest consistent set; that two tuples agree is used pair by pair, and no more of it than
--- that it is symmetric. And filtering again changes nothing, since what is left is consistent.
+-- that it is symmetric.
 use mathlib.Core.Path.{_≡_, refl, sym, _∙_, ap, subst}
-use mathlib.Core.Bool.{Bool, true, false, not, cond, false≢true}
-use mathlib.Core.Option.{Option, none}
-use mathlib.Core.Logic.{_⊎_, inl, inr, ⊎-elim}
+use mathlib.Core.Bool.{Bool, true, false, cond}
+use mathlib.Core.Logic.{⊎-elim}
 use mathlib.Core.List.{List, [], _∷_, _++_, map, List·Memᴰ, List·Memᴰ·tail, List·Memᴰ·cases-cons, List·Memᴰ·not-nil, Memᴰ·of-map, Memᴰ·cast, Memᴰ·map}
-use Prim.Native.Nat.{ℕ, zero, suc, _+_, _-_, _*_, _/_, _%_, _≤_, _<_}
-use native.Mathlib.Omega.{arith}
-use lib.Dec.{ltb}
-use lib.ListN.{length, take, drop, length-append, length-drop, take-append-drop}
-use native.Mathlib.Decide.{decLt}
-use Rattle.model.specs.Limits.{wordBits}
-use lib.Seq.{take-at, drop-append-le, take-append-le}
+use Prim.Native.Nat.{ℕ, zero, suc, _+_, _*_, _/_, _≤_, _<_}
 use native.Mathlib.Nat.{suc-mul, div-zero, le-div-iff-mul-le}
-use borrow.Author.Tests.{not-true}
-use Rattle.model.specs.declared.Counts.{Counts}
-use Rattle.model.specs.declared.Answer.the-variants.{Settled, Emptied}
-use Rattle.model.proofs.Combination.{combination-within}
-use Rattle.model.proofs.LiveCounts.{untrue-written}
+use native.Mathlib.Omega.{arith}
+use native.Mathlib.Decide.{decLt}
+use lib.Dec.{ltb}
+use lib.ListN.{length, take, drop, length-append, length-drop}
+use lib.Seq.{drop-append-le, take-append-le}
+use Rattle.model.specs.Limits.{wordBits}
 use Rattle.model.specs.Lists.{all, any, elem, pairwise, from}
-use Rattle.model.specs.TupleSet.{TupleSet, has, count, restrict, without, Inside}
 use Rattle.model.specs.Network.{Network, total, idsOf, relationOf}
 use Rattle.model.specs.Agreement.{agree}
+use Rattle.model.specs.TupleSet.{TupleSet, has, count, restrict, without, Inside}
 use Rattle.model.specs.Combination.{Combination, combinations}
-use Rattle.model.specs.Consistency.{supported, filtered, supportList, needed}
-use Rattle.model.specs.LiveWords.{isLive, living, written}
-use Rattle.model.specs.Request.{combinationsOf, Request, removes, Change, filter, Instance}
-use Rattle.model.specs.Fault.{accepts, firstFault, changeFaults}
-use Rattle.model.specs.Reply.{Reply, remainder, countsFor, accepted, reply, answerNumbers, lowestEmpty, answerFor, leaving}
+use Rattle.model.specs.Consistency.{supported, filtered}
+use Rattle.model.specs.LiveWords.{isLive, living}
+use Rattle.model.specs.Request.{combinationsOf, Request, removes}
+use Rattle.model.specs.Fault.{accepts}
+use Rattle.model.specs.Reply.{Reply, remainder, countsFor, accepted, reply}
 use Rattle.model.specs.Promises.{entryTuples, givenTuples, leftTuples}
-use Rattle.model.specs.Tighter.{liesInside, allInside, SameStart, Tighter, IsConnected, HoldsConnected, Spent, again, nothingGone, Repeats}
+use Rattle.model.specs.Tighter.{liesInside, allInside, SameStart, Tighter, HoldsConnected, LieInConnected}
 use Rattle.model.proofs.Bools.{and-right, and-intro, not-both}
 use Rattle.model.proofs.Lists.{here, all-at, all-intro, any-at, pairwise-at, elem-mem, Picks, done, pick, any-intro, mem-elem, from-mem, mem-from}
-use Rattle.model.proofs.TupleSet.{count-inside, restrict-test, without-cong, without-none, without-count}
+use Rattle.model.proofs.TupleSet.{count-inside}
 use Rattle.model.proofs.Network.{relationOf-ids}
 use Rattle.model.proofs.Agreement.{agree-sym}
+use Rattle.model.proofs.Fault.{accepts-rise}
+use Rattle.model.proofs.Combination.{combination-within}
+use Rattle.model.proofs.LiveWords.{isLive-past}
 use Rattle.model.proofs.Support.{isSupport-intro, isSupport-self, isSupport-live, isSupport-agree, candidates-picks, picks-candidates, picks-member, rising-head, picks-same, Supported}
-use Rattle.model.proofs.Consistency.{supported-at, supported-intro, filtered-largest, filtered-filtered, supportList-length}
-use Rattle.model.proofs.LiveWords.{isLive-past, living-length, living-written, written-length}
-use Rattle.model.proofs.Fault.{accepts-rise, accepts-words, accepts-change, accepts-other}
-use Rattle.model.proofs.Reply.{reply-accepted, leaving-withdrawn, remainder-length, leaving-written}
+use Rattle.model.proofs.Consistency.{supported-at, supported-intro, filtered-largest}
+use Rattle.model.proofs.Reply.{reply-accepted, leaving-withdrawn}
 use Rattle.model.proofs.Mission.{filtering}
 
 -- ---- Combinations inside others
@@ -133,9 +128,6 @@ cond-follows true f g e = f e
 cond-follows false f g e = g e
 
 module _ (first second : Request) (same : SameStart first second) (e : accepts first ≡ true) (e′ : accepts second ≡ true) where
-  abbrev N : Network
-  N = first .given .network
-
   abbrev N′ : Network
   N′ = second .given .network
 
@@ -170,7 +162,7 @@ module _ (first second : Request) (same : SameStart first second) (e : accepts f
     tuples-inside =
         let l = filtering second e′ .largest in
         filtering first e .largest .above L′
-        (λ g h. supported-inside N cs ds (accepts-rise first e) (accepts-rise second e′) inside L′ g
+        (λ g h. supported-inside (first .given .network) cs ds (accepts-rise first e) (accepts-rise second e′) inside L′ g
         (subst (λ (M : Network). supported M ds L′ g ≡ true) (sym (same .network)) (l .consistent g h)))
         (λ g h. subst (λ (S : TupleSet). has S g ≡ true) same-given (l .inside g h))
 
@@ -234,94 +226,5 @@ pub added-inside : (m : ℕ) (xs ys : List ℕ) → allInside (combinations m xs
 added-inside m xs ys = more-inside (combinations m xs) (combinations m (xs ++ ys)) (λ c n. added-member m xs ys n)
 
 -- every connected combination of m, where each of the first list lies inside one
-pub connected-inside : (N : Network) (m : ℕ) (cs ds : List Combination) → HoldsConnected N m ds → ((c : Combination) → List·Memᴰ c cs → (d : Combination) × IsConnected N m d × (liesInside c d ≡ true)) → allInside cs ds ≡ true
+pub connected-inside : (N : Network) (m : ℕ) (cs ds : List Combination) → HoldsConnected N m ds → LieInConnected N m cs → allInside cs ds ≡ true
 connected-inside N m cs ds holds f = inside-intro cs ds (λ c n. let k = f c n in (k .0, holds (k .0) (k .1), k .2))
-
--- ---- A call after a call
-
--- the answer of the same set, with nothing withdrawn and nothing deleted
-nothing-gone : (r : ℕ) (k : Counts) (b : Bool) → answerNumbers (cond b (Emptied r (record { left = k .left; withdrawn = 0; deleted = 0 })) (Settled (record { left = k .left; withdrawn = 0; deleted = 0 }))) ≡ nothingGone (answerNumbers (cond b (Emptied r k) (Settled k)))
-nothing-gone r k true = refl
-nothing-gone r k false = refl
-
-module _ (q : Request) (e : accepts q ≡ true) where
-  abbrev I : Instance
-  I = q .given
-
-  abbrev k : ℕ
-  k = needed (I .network) (combinationsOf I)
-
-  -- what q leaves
-  abbrev rest : TupleSet
-  rest = remainder I (q .change) (entryTuples q)
-
-  abbrev p : Reply
-  p = leaving I rest (countsFor I (q .change) (entryTuples q)) (q .words) (q .supports)
-
-  rest-length : length rest ≡ total (I .network)
-  rest-length = remainder-length I (q .change) (entryTuples q) ∙ living-length (total (I .network)) (q .words)
-
-  reply-is : reply q ≡ p
-  unfolding accepted
-  reply-is = reply-accepted q e
-
-  -- filter removes nothing, and q's change nothing more
-  spent-removes : (change : Change) → Spent q change → (g : ℕ) → has rest g ≡ true → removes (I .network) change g ≡ false
-  unfolding remainder removes
-  spent-removes change (inl f) g h = ap (λ (c : Change). removes (I .network) c g) f
-  spent-removes change (inr f) g h =
-      ap (λ (c : Change). removes (I .network) c g) f
-      ∙ not-true _ (restrict-test (λ (g : ℕ). not (removes (I .network) (q .change) g)) (entryTuples q) g (filtered-largest (I .network) (combinationsOf I) (givenTuples q) .inside g h))
-
-  spent-faults : (change : Change) → Spent q change → firstFault (changeFaults (I .network) change) ≡ none
-  spent-faults change (inl f) = ap (λ (c : Change). firstFault (changeFaults (I .network) c)) f
-  spent-faults change (inr f) = ap (λ (c : Change). firstFault (changeFaults (I .network) c)) f ∙ accepts-change q e
-
-  module _ (change : Change) (spent : Spent q change) (supports : List ℕ) (enough : k ≤ length supports) where
-    none-removed : without (removes (I .network) change) rest ≡ rest
-    none-removed = without-cong (removes (I .network) change) (λ _. false) rest (spent-removes change spent) ∙ without-none rest
-
-    remainder-again : remainder I change rest ≡ rest
-    unfolding remainder
-    remainder-again = ap (filtered (I .network) (combinationsOf I)) none-removed ∙ filtered-filtered (I .network) (combinationsOf I) (givenTuples q)
-
-    counts-again : countsFor I change rest ≡ record { left = count rest; withdrawn = 0; deleted = 0 }
-    unfolding countsFor
-    counts-again =
-        let w : count (restrict (removes (I .network) change) rest) ≡ 0 = omega (arith, without-count (removes (I .network) change) rest, ap count none-removed) in
-        let d : count (without (removes (I .network) change) rest) - count (remainder I change rest) ≡ 0 = omega (arith, ap count none-removed, ap count remainder-again) in
-        λ i. record { left = count (remainder-again i); withdrawn = w i; deleted = d i }
-
-    accepts-again : accepts (again q p change supports) ≡ true
-    unfolding leaving
-    accepts-again =
-        accepts-other q e (p .words) supports (p .counts) change (written-length (total (I .network)) rest (q .words)) enough
-        (untrue-written (I .network) rest (q .words) rest-length (accepts-words q e)) (spent-faults change spent)
-
-    reply-again : reply (again q p change supports) ≡ leaving I rest (record { left = count rest; withdrawn = 0; deleted = 0 }) (q .words) supports
-    unfolding accepted leaving
-    reply-again =
-        reply-accepted (again q p change supports) accepts-again
-        ∙ ap (λ (S : TupleSet). leaving I (remainder I change S) (countsFor I change S) (p .words) supports) (living-written (total (I .network)) rest (q .words) rest-length (accepts-words q e))
-        ∙ (λ i. leaving I (remainder-again i) (counts-again i) (p .words) supports)
-        ∙ leaving-written I rest rest (record { left = count rest; withdrawn = 0; deleted = 0 }) (q .words) supports
-
-    repeats-leaving : Repeats q p supports (leaving I rest (record { left = count rest; withdrawn = 0; deleted = 0 }) (q .words) supports)
-    unfolding leaving answerFor countsFor
-    repeats-leaving =
-        let list = supportList (I .network) (combinationsOf I) rest in
-        let front : take k (list ++ drop k (q .supports)) ≡ list = take-at list (drop k (q .supports)) k (supportList-length (I .network) (combinationsOf I) rest) in
-        let numbers : list ++ drop k supports ≡ take k (list ++ drop k (q .supports)) ++ drop k supports = ap (λ (xs : List ℕ). xs ++ drop k supports) (sym front) in
-        record {
-          answer = nothing-gone (lowestEmpty (I .network) rest) (countsFor I (q .change) (entryTuples q)) (ltb (lowestEmpty (I .network) rest) (length (I .network .relations)));
-          words = refl;
-          counts = refl;
-          numbers = numbers;
-          same-numbers = λ same. numbers ∙ ap (λ (xs : List ℕ). take k (list ++ drop k (q .supports)) ++ drop k xs) same ∙ take-append-drop k (list ++ drop k (q .supports));
-        }
-
-    -- a filter, or the same change, after an accepted change changes nothing
-    pub repeats : Repeats q (reply q) supports (reply (again q (reply q) change supports))
-    repeats =
-        subst (λ (x : Reply). Repeats q x supports (reply (again q x change supports))) (sym reply-is)
-        (subst (Repeats q p supports) (sym reply-again) repeats-leaving)

@@ -1,14 +1,15 @@
 -- Bigger combinations only tighten, and filtering again changes nothing (card 14): what is promised of two change calls on one
--- network. proofs/Tighter.antt proves it of `reply`.
+-- network. proofs/Tighter.antt, Extension.antt and Repeats.antt prove it of `reply`.
 use mathlib.Core.Path.{_≡_}
 use mathlib.Core.Bool.{Bool, true}
 use mathlib.Core.Logic.{_⊎_}
 use mathlib.Core.List.{List, _++_, List·Memᴰ}
-use Prim.Native.Nat.{ℕ, _≤_}
+use Prim.Native.Nat.{ℕ, _≤_, _<_}
 use lib.ListN.{length, take, drop}
 use Rattle.model.specs.Lists.{all, any, elem}
 use Rattle.model.specs.TupleSet.{Inside}
 use Rattle.model.specs.Network.{Network}
+use Rattle.model.specs.Agreement.{share}
 use Rattle.model.specs.Combination.{Combination, connected}
 use Rattle.model.specs.Consistency.{needed}
 use Rattle.model.specs.LiveWords.{isLive}
@@ -27,7 +28,7 @@ liesInside c d = all (λ (r : ℕ). elem r d) c
 unfoldable pub allInside : List Combination → List Combination → Bool
 allInside cs ds = all (λ (c : Combination). any (liesInside c) ds) cs
 
--- a proper connected combination of m members
+-- A proper connected combination of m members.
 pub record IsConnected (N : Network) (m : ℕ) (c : Combination) : Type 0 where
   pub many : length c ≡ m
   pub proper : properMembers N c ≡ true
@@ -36,6 +37,23 @@ pub record IsConnected (N : Network) (m : ℕ) (c : Combination) : Type 0 where
 -- the list holds every one of them
 abbrev pub HoldsConnected : Network → ℕ → List Combination → Type 0
 HoldsConnected N m cs = (c : Combination) → IsConnected N m c → List·Memᴰ c cs
+
+-- each of the list lies inside one of them
+abbrev pub LieInConnected : Network → ℕ → List Combination → Type 0
+LieInConnected N m cs = (c : Combination) → List·Memᴰ c cs → (d : Combination) × IsConnected N m d × (liesInside c d ≡ true)
+
+-- A relation outside combination c that shares a variable with a member of c.
+pub record Beside (N : Network) (c : Combination) : Type 0 where
+  pub relation : ℕ
+  pub exists : relation < length (N .relations)
+  pub outside : List·Memᴰ relation c → ⊥
+  pub member : ℕ
+  pub listed : List·Memᴰ member c
+  pub shares : share N member relation ≡ true
+
+-- each of the list has one
+abbrev pub HaveBeside : Network → List Combination → Type 0
+HaveBeside N cs = (c : Combination) → List·Memᴰ c cs → Beside N c
 
 -- ---- Two calls from the same start
 

@@ -18,7 +18,8 @@ use Rattle.model.specs.Tighter.{allInside, SameStart, Tighter, Spent, again, Re
 use Rattle.model.proofs.Bools.{and-left, and-right, and-intro, not-both}
 use Rattle.model.proofs.Fault.{accepts-supports}
 use Rattle.model.proofs.Reply.{refused-not}
-use Rattle.model.proofs.Tighter.{tighter, repeats}
+use Rattle.model.proofs.Tighter.{tighter}
+use Rattle.model.proofs.Repeats.{repeats}
 use Rattle.wire.specs.Entries.{Bytes, entries16, entries64, bytes}
 use Rattle.wire.proofs.Entries.{entries16-length}
 use Rattle.encoding.specs.Records.{countsIn, withCounts}

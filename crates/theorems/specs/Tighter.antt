@@ -2,7 +2,7 @@
 -- from nothing but their contracts.
 --
 --   the calls                                             their contract   what follows of two of them
---   changes::filter, withdraw, choose, and the like       Keeps            only-tightens, adding-tightens, all-connected-tighten, changes-nothing
+--   changes::filter, withdraw, choose, and the like       Keeps            only-tightens, adding-tightens, all-connected-tighten, one-more-tightens, changes-nothing
 --   wakhvosi_filter, withdraw, choose, and the like       KeepsBytes       only-tightens-bytes, changes-nothing-bytes
 --
 -- The sentences are the records `Tighter` and `Repeats` of the model's specs/Tighter.antt, for every change there is. On bytes they are said of
@@ -11,8 +11,8 @@
 use mathlib.Core.Path.{_≡_, refl, sym, _∙_, ap, subst}
 use mathlib.Core.Bool.{true}
 use mathlib.Core.Logic.{_⊎_}
-use mathlib.Core.List.{List, _++_, List·Memᴰ}
-use Prim.Native.Nat.{ℕ, _≤_, _<_}
+use mathlib.Core.List.{List, _++_}
+use Prim.Native.Nat.{ℕ, suc, _≤_, _<_}
 use lib.ListN.{length, getD}
 use Rattle.model.specs.Combination.{Combination, combinations}
 use Rattle.model.specs.Consistency.{needed}
@@ -20,8 +20,10 @@ use Rattle.model.specs.LiveWords.{isSet}
 use Rattle.model.specs.Request.{Change, filter, combinationsOf, Request}
 use Rattle.model.specs.Fault.{accepts}
 use Rattle.model.specs.Reply.{Reply, reply, Keeps}
-use Rattle.model.specs.Tighter.{liesInside, allInside, IsConnected, HoldsConnected, SameStart, Tighter, Spent, again, Repeats}
-use Rattle.model.proofs.Tighter.{added-inside, connected-inside, tighter, repeats}
+use Rattle.model.specs.Tighter.{allInside, HoldsConnected, LieInConnected, HaveBeside, SameStart, Tighter, Spent, again, Repeats}
+use Rattle.model.proofs.Tighter.{added-inside, connected-inside, tighter}
+use Rattle.model.proofs.Extension.{accepts-extended}
+use Rattle.model.proofs.Repeats.{repeats}
 use Rattle.wire.specs.Entries.{Bytes, entries16}
 use Rattle.encoding.specs.Packed.{Outcome}
 use Rattle.encoding.specs.Call.{ByteBook, ByteRequest, byteRequest, decoded}
@@ -46,9 +48,14 @@ module _ (first second : Request) (p r : Reply) (kept : Keeps first p) (kept′ 
 
   -- filtering over all connected combinations of m leaves no tuple that filtering over those of m - 1 removes, or over any others of
   -- which each lies inside one of m
-  pub all-connected-tighten : (m : ℕ) → HoldsConnected (first .given .network) m (combinationsOf (second .given)) → ((c : Combination) → List·Memᴰ c (combinationsOf (first .given)) → (d : Combination) × IsConnected (first .given .network) m d × (liesInside c d ≡ true)) → Tighter first p second r
+  pub all-connected-tighten : (m : ℕ) → HoldsConnected (first .given .network) m (combinationsOf (second .given)) → LieInConnected (first .given .network) m (combinationsOf (first .given)) → Tighter first p second r
   all-connected-tighten m holds lies =
       only-tightens (connected-inside (first .given .network) m (combinationsOf (first .given)) (combinationsOf (second .given)) holds lies)
+
+  -- .. and each of m - 1 does lie inside one of m, where a relation outside it shares a variable with one of its members
+  pub one-more-tightens : HoldsConnected (first .given .network) (suc (first .given .m)) (combinationsOf (second .given)) → HaveBeside (first .given .network) (combinationsOf (first .given)) → Tighter first p second r
+  one-more-tightens holds beside =
+      all-connected-tighten (suc (first .given .m)) holds (accepts-extended first e beside)
 
 -- ---- A call after an accepted call, on the lists that it left, with room for the supports
 
