@@ -16,7 +16,7 @@ use Rattle.model.specs.declared.Counts.{Counts}
 use Rattle.model.specs.Network.{total}
 use Rattle.model.specs.TupleSet.{TupleSet, has, count, restrict, without}
 use Rattle.model.specs.Consistency.{filtered, supportList, needed}
-use Rattle.model.specs.Request.{combinationsOf, Request, removes, Change, filter, Instance}
+use Rattle.model.specs.Request.{combinationsOf, Request, removes, Change, Instance}
 use Rattle.model.specs.Fault.{accepts, firstFault, changeFaults}
 use Rattle.model.specs.Reply.{Reply, remainder, countsFor, accepted, reply, answerNumbers, lowestEmpty, answerFor, leaving}
 use Rattle.model.specs.Promises.{entryTuples, givenTuples}

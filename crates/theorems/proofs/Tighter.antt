@@ -1,17 +1,15 @@
 -- Bigger combinations only tighten and filtering again changes nothing, of the functions for C, on bytes. From those of `reply`, and
 -- from what the bytes that a call leaves hold.
-use mathlib.Core.Path.{_≡_, refl, sym, _∙_, ap, subst}
-use mathlib.Core.Bool.{Bool, true, _&&_}
-use mathlib.Core.Logic.{_⊎_, inl, inr}
+use mathlib.Core.Path.{_≡_, sym, _∙_, ap, subst}
+use mathlib.Core.Bool.{true}
+use mathlib.Core.Logic.{inl, inr}
 use mathlib.Core.List.{List}
-use Prim.Native.Nat.{ℕ, _+_, _*_, _/_, _%_, _≤_, _<_}
+use Prim.Native.Nat.{ℕ, _+_, _*_, _/_, _%_, _<_}
 use native.Mathlib.Omega.{arith}
 use native.Mathlib.Decide.{decLt}
 use lib.ListN.{length, getD, List·getD-eq-default}
-use Rattle.model.specs.Network.{Network}
-use Rattle.model.specs.Consistency.{needed}
 use Rattle.model.specs.LiveWords.{isSet}
-use Rattle.model.specs.Request.{Change, filter, combinationsOf, Request}
+use Rattle.model.specs.Request.{Change, combinationsOf, Request}
 use Rattle.model.specs.Fault.{accepts}
 use Rattle.model.specs.Reply.{Reply, reply}
 use Rattle.model.specs.Tighter.{allInside, SameStart, Tighter, Spent, again, Repeats}
@@ -25,7 +23,7 @@ use Rattle.wire.proofs.Entries.{entries16-length}
 use Rattle.encoding.specs.Records.{countsIn, withCounts}
 use Rattle.encoding.specs.Whole.{wholeChange}
 use Rattle.encoding.specs.Packed.{Outcome}
-use Rattle.encoding.specs.Call.{ByteBook, byteNetwork, byteInstance, ByteRequest, isWhole, wholeIds, wholeLists, decodedChange, decoded, acceptsBytes, KeepsBytes}
+use Rattle.encoding.specs.Call.{byteNetwork, byteInstance, ByteRequest, isWhole, wholeIds, wholeLists, decodedChange, decoded, acceptsBytes, KeepsBytes}
 use Rattle.encoding.proofs.Counts.{written-held}
 use Rattle.encoding.proofs.Whole.{whole-written}
 use Rattle.theorems.specs.ByteCalls.{decodedOutcome}

@@ -8,7 +8,7 @@
 -- The sentences are the records `Tighter` and `Repeats` of the model's specs/Tighter.antt, for every change there is. On bytes they are said of
 -- what the bytes hold, with what the bytes then are; proofs/Tighter.antt proves those. Tuples with any are tuples like others: nothing here
 -- rests on how values fit.
-use mathlib.Core.Path.{_≡_, refl, sym, _∙_, ap, subst}
+use mathlib.Core.Path.{_≡_, sym, subst}
 use mathlib.Core.Bool.{true}
 use mathlib.Core.Logic.{_⊎_}
 use mathlib.Core.List.{List, _++_}
@@ -26,7 +26,7 @@ use Rattle.model.proofs.Extension.{accepts-extended}
 use Rattle.model.proofs.Repeats.{repeats}
 use Rattle.wire.specs.Entries.{Bytes, entries16}
 use Rattle.encoding.specs.Packed.{Outcome}
-use Rattle.encoding.specs.Call.{ByteBook, ByteRequest, byteRequest, decoded}
+use Rattle.encoding.specs.Call.{ByteRequest, byteRequest, decoded}
 use Rattle.theorems.specs.ByteCalls.{decodedOutcome}
 
 -- ---- Two accepted calls on one network, with the same live words and the same change
