@@ -7,7 +7,7 @@ use Prim.Native.Nat.{ℕ, zero, suc, _+_, _*_, _/_, _%_, _≤_, _<_}
 use native.Mathlib.Nat.{mul-le-mul, mul-le-mul-right}
 use native.Mathlib.Omega.{arith}
 use lib.ListN.{length, getD}
-use Rattle.value_index.specs.Plan.{planWords, indexWords, columnStart, rowWords, digitCount, digitRows, factor, columnWords, anyRow, hashBehind, hashAt, rowOf, rowAt, ColumnRows, SoundPlan, SamePlan}
+use Rattle.value_index.specs.Plan.{planWords, indexWords, columnStart, rowWords, digitCount, digitRows, factor, columnWords, rowPlan, anyRow, hashBehind, hashAt, rowOf, rowAt, ColumnRows, SoundPlan, SamePlan}
 use Rattle.value_index.proofs.Products.{piece-within}
 
 module _ (index : List ℕ) (v : ℕ) where
@@ -88,6 +88,9 @@ module _ (before after : List ℕ) (same : SamePlan before after) where
   pub row-same : (start v i : ℕ) → rowAt after start v i ≡ rowAt before start v i
   unfolding rowAt
   row-same start v i = rw (hash-same v i, same 514 (omega arith), same 512 (omega arith)) refl
+
+  pub plan-same : rowPlan after ≡ rowPlan before
+  plan-same = rw (same 512 (omega arith), same 513 (omega arith), same 514 (omega arith), same 515 (omega arith)) refl
 
   pub any-same : (start : ℕ) → anyRow after start ≡ anyRow before start
   any-same start = rw (same 513 (omega arith), same 514 (omega arith), same 512 (omega arith)) refl

@@ -6,6 +6,7 @@ use mathlib.Core.List.{List}
 use Prim.Native.Nat.{ℕ, zero, suc, _+_, _*_, _/_, _%_, _≤_, _<_}
 use lib.ListN.{length, getD}
 use Rattle.model.specs.Limits.{maxRelations, maxWidth}
+use Rattle.value_index.specs.declared.digits.RowPlan.{RowPlan}
 
 -- the words of all rows
 abbrev pub rowsWords : ℕ
@@ -48,6 +49,10 @@ digitRows index = getD index 514 0
 -- what a value is multiplied by
 abbrev pub factor : List ℕ → ℕ
 factor index = getD index 515 0
+
+-- these four together
+abbrev pub rowPlan : List ℕ → RowPlan
+rowPlan index = record { words = rowWords index; digits = digitCount index; rows = digitRows index; factor = factor index }
 
 -- the words of one column's rows: those of the digits, and behind them the row of any
 abbrev pub columnWords : List ℕ → ℕ

@@ -8,10 +8,12 @@ ghost use lib.ListN.{length};
 ghost use Rattle.model.specs.Limits.{maxRelations, maxWidth, wordBits};
 ghost use Rattle.layout.specs.Loan.{entry, exit};
 ghost use Rattle.layout.specs.Setting.{lists, networkIn, SoundLists};
-ghost use Rattle.value_index.specs.Plan.{planWords, indexWords, hashes, columnStart, digitCount, hashAt, hashBehind, rowOf, ColumnRows, SoundPlan, SamePlan};
+ghost use Rattle.value_index.specs.Plan.{planWords, indexWords, hashes, columnStart, digitCount, rowPlan, hashAt, hashBehind, rowOf, ColumnRows, SoundPlan, SamePlan};
 ghost use Rattle.value_index.specs.Index.{Full, Laid, Raises, Grows, isIndexed, Indexed, Entered, EntersColumn, EntersTuples, IndexesTuples};
 use any::any_row;
 use any::spread_columns;
+use digits::RowPlan;
+use digits::row_plan;
 use layout::Starts;
 use layout::is_any;
 use layout::relation_count;
@@ -24,6 +26,7 @@ use model::Value;
 use plan::lay_out;
 
 pub mod plan; // how values are told apart
+pub mod digits; // the rows of a value's digits, by a plan that is read once
 pub mod any; // the row of any
 
 // The plan's words: where each column's rows begin, how many words a row has, how many digits a value has, how many rows a digit has,
@@ -79,7 +82,7 @@ pub fn hash_of(index: &Index, value: Value) -> u64
     requires { ⌜ SoundPlan (now index) ⌝ }
     ensures { λ h. ⌜ h ≡ hashAt (entry index) value 0 ⌝ }
 {
-    value as u64 * index[FACTOR] % HASHES
+    digits::hash_of(index, row_plan(index), value)
 }
 
 // What is left of a hash for the digits behind one that is made of it.
@@ -87,7 +90,7 @@ pub fn hash_behind(index: &Index, hash: u64) -> u64
     requires { ⌜ SoundPlan (now index) × (hash < hashes) ⌝ }
     ensures { λ h. ⌜ h ≡ hashBehind (entry index) hash ⌝ }
 {
-    hash * index[DIGIT_ROWS] % HASHES
+    digits::hash_behind(index, row_plan(index), hash)
 }
 
 // The word at which the row of digit i begins, which is made of what is left of a hash, among the rows that begin at `start`.
@@ -95,8 +98,7 @@ pub fn row_of(index: &Index, start: usize, hash: u64, i: u64) -> usize
     requires { ⌜ SoundPlan (now index) × (ColumnRows (now index) start × ((hash < hashes) × (i < digitCount (now index)))) ⌝ }
     ensures { λ n. ⌜ n ≡ rowOf (entry index) start hash i ⌝ }
 {
-    let rows = index[DIGIT_ROWS];
-    start + ((i * rows + hash * rows / HASHES) * index[ROW_WORDS]) as usize
+    digits::row_of(index, row_plan(index), start, hash, i)
 }
 
 // The bit of id g in the row that begins at word `row` is 1, and every other bit stays.
@@ -109,30 +111,31 @@ fn enter(index: &mut Index, row: usize, g: u16)
 }
 
 // The tuple with id g is in every row of the value, among the rows that begin at `start`; no bit is lost.
-fn enter_value(index: &mut Index, start: usize, value: Value, g: u16)
-    requires { ⌜ Laid (now index) (g + 1) × ColumnRows (now index) start ⌝ }
+fn enter_value(index: &mut Index, plan: RowPlan, start: usize, value: Value, g: u16)
+    requires { ⌜ (Laid (now index) (g + 1) × ColumnRows (now index) start) × (plan ≡ rowPlan (now index)) ⌝ }
     ensures { λ _. ⌜ Full (exit index) × (Grows (entry index) (exit index) × (isIndexed (exit index) start value g ≡ true)) ⌝ }
 {
-    let mut hash = hash_of(index, value);
+    let count = plan.digits;
+    let mut hash = digits::hash_of(index, plan, value);
     let mut i: u64 = 0;
-    while i < digit_count(index) {
-        enter(index, row_of(index, start, hash, i), g);
-        hash = hash_behind(index, hash);
+    while i < count {
+        enter(index, digits::row_of(index, plan, start, hash, i), g);
+        hash = digits::hash_behind(index, plan, hash);
         i += 1;
     }
 }
 
 // The tuple with id g is entered by its value among the rows that begin at `start`: in the row of any, or in those of the value; no bit is
 // lost.
-fn enter_cell(index: &mut Index, start: usize, value: Value, g: u16)
-    requires { ⌜ Laid (now index) (g + 1) × ColumnRows (now index) start ⌝ }
+fn enter_cell(index: &mut Index, plan: RowPlan, start: usize, value: Value, g: u16)
+    requires { ⌜ (Laid (now index) (g + 1) × ColumnRows (now index) start) × (plan ≡ rowPlan (now index)) ⌝ }
     ensures { λ _. ⌜ Full (exit index) × (Grows (entry index) (exit index) × Entered (exit index) start value g) ⌝ }
 {
     if is_any(value) {
         enter(index, any_row(index, start), g);
         return;
     }
-    enter_value(index, start, value, g);
+    enter_value(index, plan, start, value, g);
 }
 
 // The tuples from id first on and below id end, whose values begin at `at`, are entered by those in column c among the rows that begin at
@@ -154,10 +157,11 @@ fn enter_column(
     if start == 0 {
         return;
     }
+    let plan = row_plan(index);
     let mut g = first;
     let mut p = at + wide(c);
     while g < end {
-        enter_cell(index, start, values[p], g);
+        enter_cell(index, plan, start, values[p], g);
         g += 1;
         p += wide(width);
     }

@@ -19,8 +19,8 @@ enter-requires : tie.Need-enter-requires
 enter-requires c κs =
     let s = c .before .before .before .before .before in
     let index = s .args .index .now in
-    let d = s .pre .0 in
-    (d .full, (omega (arith, c .any-row .ensures, s .pre .1 .behind), omega (arith, c .any-row .ensures, nth-within (s .pre .1) (digitCount index * digitRows index) (omega arith), d .bits)))
+    let d = s .pre .0 .0 in
+    (d .full, (omega (arith, c .any-row .ensures, s .pre .0 .1 .behind), omega (arith, c .any-row .ensures, nth-within (s .pre .0 .1) (digitCount index * digitRows index) (omega arith), d .bits)))
 
 returns : tie.Need-returns
 returns c =
@@ -48,7 +48,7 @@ enter-cell-spec =
     tie.close
     (tie.spec
     (λ c κs. search needs)
-    (λ c κs. let s = c .before .before .before .before in (s .pre .0 .plan, s .pre .1))
+    (λ c κs. let s = c .before .before .before .before in (s .pre .0 .0 .plan, s .pre .0 .1))
     enter-requires
     returns
     (λ c κs. c .before .before .before .pre)
