@@ -22,7 +22,6 @@ use super::ROW_WORDS;
 use super::ROWS;
 use super::SCOPES;
 use layout::Starts;
-use layout::is_any;
 use layout::relation_count;
 use layout::tuple_count;
 use layout::variable_start;
@@ -105,13 +104,15 @@ fn most_columns(variables: &[u16], starts: &Starts, shared: u64) -> u64
     most
 }
 
-// The larger of two values, where any counts for the least.
+// One more than a value, and 0 for any, which is the last of its width.
+fn above(value: Value) -> Value {
+    ((value as u64 + 1) % HASHES) as Value
+}
+
+// The larger of two values.
 fn larger_value(a: Value, b: Value) -> Value
     ensures { λ n. ⌜ n < hashes ⌝ }
 {
-    if is_any(b) {
-        return a;
-    }
     if a < b {
         return b;
     }
@@ -125,10 +126,10 @@ fn value_bound(values: &[Value]) -> u64
     let mut most: Value = 0;
     let mut i = 0;
     while i < values.len() {
-        most = larger_value(most, values[i]);
+        most = larger_value(most, above(values[i]));
         i += 1;
     }
-    most as u64 + 1
+    larger(1, most as u64)
 }
 
 // Whether so many digits, of so many rows each, make at least `classes` classes of hashes.
