@@ -15,9 +15,9 @@ use Rattle.model.proofs.Bools.{and-intro, or-left, or-right}
 use Rattle.model.proofs.LiveWords.{isLive-at}
 use Rattle.live.proofs.Bits.{isSet-or}
 use Rattle.live.proofs.Stores.{isLive-set-same, isLive-set-other}
-use Rattle.narrowing.specs.Narrows.{Long, firstIn, endIn}
+use Rattle.narrowing.specs.Narrows.{Long}
 use Rattle.narrowing.specs.Gathers.{Joins, Gathers}
-use Rattle.narrowing.proofs.Words.{Edges, first-in, first-ends, last-begins, last-in, only-in, Passing}
+use Rattle.narrowing.proofs.Words.{Passing}
 
 module _ (passes : ℕ → Bool) (words : List ℕ) where
   pub joins-none : (start end : ℕ) (ws : List ℕ) → end ≤ start → Long ws → Joins passes start end words ws ws
@@ -36,22 +36,8 @@ module _ (passes : ℕ → Bool) (words : List ℕ) where
       go g l k e p (no d) = s .adds g (omega arith) k e p
 
   -- of fewer ids
-  pub joins-until : {start end stop : ℕ} {a b : List ℕ} → stop ≤ end → Joins passes start end words a b → Joins passes start stop words a b
-  joins-until h f = record { long = f .long; keeps = f .keeps; adds = λ g l k e p. f .adds g l (omega arith) e p }
-
-  -- all words of the ids: the only one, or the first, those between and the last
-  module _ {start end i last : ℕ} (e : Edges start end i last) {a b : List ℕ} (f : Joins passes (firstIn i start) (endIn i end) words a b) where
-    at : {from to from' to' : ℕ} {c d : List ℕ} → from ≡ from' → to ≡ to' → Joins passes from to words c d → Joins passes from' to' words c d
-    at {from} {to' = to'} {c} {d} p q j = subst (λ (n : ℕ). Joins passes n to' words c d) p (subst (λ (n : ℕ). Joins passes from n words c d) q j)
-
-    pub joins-only : i ≡ last → Joins passes start end words a b
-    joins-only h = at (first-in e) (only-in e h) f
-
-    pub joins-edges : {c d : List ℕ} → i < last → Joins passes (64 * (i + 1)) (64 * last) words b c → Joins passes (firstIn last start) (endIn last end) words c d → Joins passes start end words a d
-    joins-edges {c} {d} h m s =
-        joins-on start (64 * last) end a c d
-        (joins-on start (64 * (i + 1)) (64 * last) a b c (at (first-in e) (first-ends e h) f) m)
-        (at (last-begins e h) (last-in e) s)
+  pub joins-within : {start end from to : ℕ} {a b : List ℕ} → start ≤ from → to ≤ end → Joins passes start end words a b → Joins passes from to words a b
+  joins-within l h f = record { long = f .long; keeps = f .keeps; adds = λ g m k e p. f .adds g (omega arith) (omega arith) e p }
 
   -- by another test that says the same
   pub joins-as : (others : ℕ → Bool) (start end : ℕ) (a b : List ℕ) → ((g : ℕ) → passes g ≡ others g) → Joins passes start end words a b → Joins others start end words a b

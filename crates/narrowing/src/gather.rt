@@ -1,12 +1,11 @@
 // Live ids gathered in other words: of a relation's, those that may agree with a tuple.
-ghost use Prim.Native.Nat.{_+_, _*_, _<_};
+ghost use Prim.Native.Nat.{_*_, _<_};
 ghost use Rattle.model.specs.Limits.{maxRelations, wordBits};
 ghost use Rattle.layout.specs.Loan.{entry, exit};
 ghost use Rattle.layout.specs.Setting.{lists, networkIn};
-ghost use Rattle.narrowing.specs.Narrows.{Long, HasBits, Seeks, firstIn, endIn};
+ghost use Rattle.narrowing.specs.Narrows.{Long, HasBits, Seeks};
 ghost use Rattle.narrowing.specs.TupleRows.{Within, Spans, four, inRows};
 ghost use Rattle.narrowing.specs.Gathers.{Joins, Gathers};
-use super::between;
 use super::rows::Rows;
 use super::rows::TUPLE_ROWS;
 use super::rows::four_of;
@@ -16,25 +15,9 @@ use layout::Starts;
 use layout::tuple_start;
 use layout::wide;
 use live::Words;
+use live::words_for;
 use model::Value;
 use value_index::Index;
-
-// Of the ids from start on and below end, those of word i of the one array that are in all of the first n rows are live in the other too.
-fn gather_edge(
-    index: &Index,
-    rows: &Rows,
-    n: usize,
-    from: &Words,
-    to: &mut Words,
-    i: usize,
-    start: u16,
-    end: u16,
-)
-    requires { ⌜ (Long (now from) × Long (now to)) × (Within (now index) n (now rows) × Spans (now index) (i + 1)) ⌝ }
-    ensures { λ _. ⌜ Joins (inRows (entry index) (entry rows) n) (firstIn i start) (endIn i end) (entry from) (entry to) (exit to) ⌝ }
-{
-    to[i] = to[i] | in_rows(index, rows, n, from[i] & between(i, start, end), i);
-}
 
 // All ids of the words from `first` on and below `last` that are in all four rows.
 fn gather_four(
@@ -79,7 +62,7 @@ fn gather_all(
 }
 
 // The same, by the one or the other: one to four rows as four, where the last stands for those that are missing. Of two no third is read.
-fn gather_middle(
+fn gather_words(
     index: &Index,
     rows: &Rows,
     n: usize,
@@ -103,7 +86,7 @@ fn gather_middle(
     gather_four(index, f.a, f.b, f.c, f.d, from, to, first, last);
 }
 
-// All ids from start on and below end that are in all of the first n rows.
+// All ids from start on and below end that are in all of the first n rows, and whichever others have a bit in the same words.
 fn gather_rows(
     index: &Index,
     rows: &Rows,
@@ -116,16 +99,7 @@ fn gather_rows(
     requires { ⌜ (Long (now from) × Long (now to)) × (Within (now index) n (now rows) × HasBits (now index) end) ⌝ }
     ensures { λ _. ⌜ Joins (inRows (entry index) (entry rows) n) start end (entry from) (entry to) (exit to) ⌝ }
 {
-    if end <= start {
-        return;
-    }
-    let i = wide(start / 64);
-    let last = wide((end - 1) / 64);
-    gather_edge(index, rows, n, from, to, i, start, end);
-    if i < last {
-        gather_middle(index, rows, n, from, to, i + 1, last);
-        gather_edge(index, rows, n, from, to, last, start, end);
-    }
+    gather_words(index, rows, n, from, to, wide(start / 64), words_for(end));
 }
 
 // The live tuples of relation s that may agree with tuple x of relation r are live in `to` too.

@@ -4,7 +4,7 @@ use Prim.Native.Nat.{_+_, _-_, _*_, _<_}
 use native.Mathlib.Omega.{arith}
 use Rattle.narrowing.specs.Gathers.{Joins}
 use Rattle.narrowing.specs.TupleRows.{inRows}
-use Rattle.narrowing.proofs.Gathered.{joins-none, joins-on, joins-part, joins-until}
+use Rattle.narrowing.proofs.Gathered.{joins-none, joins-on, joins-part, joins-within}
 use Rattle.narrowing.proofs.gather.gather_all.Statement.{statement}
 use Rattle.narrowing.proofs.gather.gather_all.Tie as tie
 
@@ -39,7 +39,7 @@ returns : tie.Need-returns Inv-loop μ-loop
 returns c =
     let l = c .before .loop in
     let a = c .before .before .args in
-    joins-until (inRows (a .index .now) (a .rows .now) (a .n)) (a .from .now) (omega (arith, c .loop-test .left)) (l .inv)
+    joins-within (inRows (a .index .now) (a .rows .now) (a .n)) (a .from .now) (omega arith) (omega (arith, c .loop-test .left)) (l .inv)
 
 pub gather-all-spec : {M : Type 1} → statement M
 gather-all-spec =

@@ -6,7 +6,7 @@ use lib.ListN.{getD}
 use Rattle.narrowing.specs.Gathers.{Joins}
 use Rattle.narrowing.specs.TupleRows.{four, inRows}
 use Rattle.narrowing.proofs.TupleRows.{bits-four}
-use Rattle.narrowing.proofs.Gathered.{joins-none, joins-on, joins-part, joins-until}
+use Rattle.narrowing.proofs.Gathered.{joins-none, joins-on, joins-part, joins-within}
 use Rattle.narrowing.proofs.gather.gather_four.Statement.{statement}
 use Rattle.narrowing.proofs.gather.gather_four.Tie as tie
 
@@ -45,7 +45,7 @@ returns : tie.Need-returns Inv-loop μ-loop
 returns c =
     let l = c .before .loop in
     let a = c .before .before .args in
-    joins-until (inRows (a .index .now) (four (a .a) (a .b) (a .c) (a .d)) 4) (a .from .now) (omega (arith, c .loop-test .left)) (l .inv)
+    joins-within (inRows (a .index .now) (four (a .a) (a .b) (a .c) (a .d)) 4) (a .from .now) (omega arith) (omega (arith, c .loop-test .left)) (l .inv)
 
 pub gather-four-spec : {M : Type 1} → statement M
 gather-four-spec =

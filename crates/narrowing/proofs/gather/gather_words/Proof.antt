@@ -1,4 +1,4 @@
--- `gather_middle` is `gather_four` of one to four rows, and `gather_all` of others.
+-- `gather_words` is `gather_four` of one to four rows, and `gather_all` of others.
 -- From the contracts of these and of `four_of`, and the laws of one to four rows as four.
 use Prim.Native.Nat.{_*_, _≤_, _<_}
 use native.Mathlib.Omega.{arith}
@@ -6,8 +6,8 @@ use borrow.Author.Tests.{ltb-false}
 use Rattle.narrowing.specs.TupleRows.{four, inRows}
 use Rattle.narrowing.proofs.Gathered.{joins-as}
 use Rattle.narrowing.proofs.TupleRows.{two-of, four-within, four-rows}
-use Rattle.narrowing.proofs.gather.gather_middle.Statement.{statement}
-use Rattle.narrowing.proofs.gather.gather_middle.Tie as tie
+use Rattle.narrowing.proofs.gather.gather_words.Statement.{statement}
+use Rattle.narrowing.proofs.gather.gather_words.Tie as tie
 
 -- ---- One to four rows
 
@@ -55,8 +55,8 @@ returns-3 c =
     (four-rows (a .index .now) (f .four-of .ensures) (some f) (few f))
     (c .gather-four2 .ensures)
 
-pub gather-middle-spec : {M : Type 1} → statement M
-gather-middle-spec =
+pub gather-words-spec : {M : Type 1} → statement M
+gather-words-spec =
     tie.close
     (tie.spec
     (λ c κs. c .before .before .pre)
