@@ -148,6 +148,18 @@ fn tells(rows: u64, digits: u64, classes: u64) -> bool
     false
 }
 
+// At most so many rows, halved while so many digits still make at least `classes` classes: the row of any is spread over all of them.
+fn fewer_rows(rows: u64, digits: u64, classes: u64) -> u64
+    requires { ⌜ (0 < rows) × ((rows ≤ mostRows) × (classes ≤ hashes)) ⌝ }
+    ensures { λ n. ⌜ (0 < n) × (n ≤ rows) ⌝ }
+{
+    let mut fewer = rows;
+    while 2 <= fewer && tells(fewer / 2, digits, classes) {
+        fewer = fewer / 2;
+    }
+    fewer
+}
+
 // As few digits as tell all values below the bound apart, with so many rows; where four do not, those of a product that spreads the values.
 fn digits_for(rows: u64, bound: u64) -> Digits
     requires { ⌜ (maxDigits ≤ rows) × (rows ≤ mostRows) × (0 < bound) × (bound ≤ hashes) ⌝ }
@@ -161,7 +173,7 @@ fn digits_for(rows: u64, bound: u64) -> Digits
         if tells(each, count, classes) {
             return Digits {
                 count,
-                rows: each,
+                rows: fewer_rows(each, count, classes),
                 factor,
             };
         }

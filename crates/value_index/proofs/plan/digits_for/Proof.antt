@@ -38,21 +38,25 @@ loop-holds c = (omega arith, (omega arith, (factor-small c, classes-few c)))
 div-each : tie.Need-div-each Inv-loop μ-loop
 div-each c = c .before .loop .inv .0
 
-tells-requires : tie.Need-tells-requires Inv-loop μ-loop
-tells-requires c κs = let d = div-le-self (c .before .before .args .rows) (c .before .loop .count) in (omega (arith, d, c .before .before .pre .1), classes-few (c .before .before))
+-- a digit's share of the rows
+module _ (c : tie.In-loop Inv-loop μ-loop) where
+  abbrev start : tie.Start Inv-loop μ-loop
+  start = c .before .before
+
+  few : c .before .loop .count ≤ 4
+  few = omega (arith, c .loop-test .taken)
+
+  some : 0 < start .args .rows / c .before .loop .count
+  some = quotient-some (start .args .rows) (c .before .loop .count) (c .before .loop .inv .0) (omega (arith, few, start .pre .0))
+
+  short : start .args .rows / c .before .loop .count ≤ 1024
+  short = let d = div-le-self (start .args .rows) (c .before .loop .count) in omega (arith, d, start .pre .1)
 
 returns : tie.Need-returns Inv-loop μ-loop
 returns c =
-    let l = c .before .before .before .loop in
-    let s = c .before .before .before .before in
-    let d = div-le-self (s .args .rows) (l .count) in
-    let k : l .count ≤ 4 = omega (arith, c .before .before .loop-test .taken) in
-    record {
-      few = k;
-      some = quotient-some (s .args .rows) (l .count) (l .inv .0) (omega (arith, k, s .pre .0));
-      short = omega (arith, d, s .pre .1);
-      small = factor-small s;
-    }
+    let t = c .before .before .before in
+    let e = c .fewer-rows .ensures in
+    record { few = few t; some = e .0; short = omega (arith, e .1, short t); small = factor-small (start t) }
 
 returns-2 : tie.Need-returns-2 Inv-loop μ-loop
 returns-2 c =
@@ -72,7 +76,8 @@ digits-for-spec =
     add-classes
     loop-holds
     div-each
-    tells-requires
+    (λ c κs. (short c, classes-few (start c)))
+    (λ c κs. let t = c .before .before in (some t, (short t, classes-few (start t))))
     returns
     (λ c. search needs) (λ c. search needs) (λ c. search needs) (λ c. search needs)
     returns-2)
