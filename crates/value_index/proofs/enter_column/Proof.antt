@@ -4,7 +4,7 @@ use mathlib.Core.Path.{_≡_, sym, _∙_, subst}
 use Prim.Native.Nat.{ℕ, suc, _+_, _-_, _*_, _≤_, _<_}
 use native.Mathlib.Omega.{arith}
 use lib.ListN.{length}
-use Rattle.value_index.specs.Plan.{rowPlan, ColumnRows}
+use Rattle.value_index.specs.Plan.{indexWords, rowPlan, ColumnRows}
 use Rattle.value_index.specs.Index.{Grows, EntersColumn}
 use Rattle.value_index.proofs.Products.{piece-within}
 use Rattle.value_index.proofs.ValueRows.{plan-same, column-same}
@@ -15,7 +15,7 @@ use Rattle.value_index.proofs.enter_column.Tie as tie
 
 abbrev Inv-loop : tie.InvT-loop
 Inv-loop values at width c start first end index₀ plan g₀ p₀ index g p =
-    (first ≤ g) × ((g ≤ end) × ((p ≡ at + (g - first) * width + c) × ((length index ≡ 9796) × (Grows index₀ index × EntersColumn values at width c start first g index))))
+    (first ≤ g) × ((g ≤ end) × ((p ≡ at + (g - first) * width + c) × ((length index ≡ indexWords) × (Grows index₀ index × EntersColumn values at width c start first g index))))
 
 abbrev μ-loop : tie.MeasureT-loop
 μ-loop values at width c start first end index₀ plan g₀ p₀ index g p = end - g

@@ -4,7 +4,7 @@ use mathlib.Core.Path.{_≡_, sym, _∙_, ap, subst}
 use mathlib.Core.List.{List}
 use Prim.Native.Nat.{ℕ, _+_, _-_, _*_, _≤_, _<_}
 use native.Mathlib.Omega.{arith}
-use Rattle.value_index.specs.Plan.{digitCount, rowPlan, hashBehind, hashAt, rowOf, rowAt, rowWords, ColumnRows, SamePlan}
+use Rattle.value_index.specs.Plan.{indexWords, planWords, hashes, digitCount, rowPlan, hashBehind, hashAt, rowOf, rowAt, rowWords, ColumnRows, SamePlan}
 use Rattle.value_index.specs.declared.digits.RowPlan.{RowPlan}
 use Rattle.value_index.specs.Index.{Grows, Laid}
 use Rattle.value_index.proofs.ValueRows.{hash-below, hash-next, hash-same, digits-same, plan-same, column-same, row-within, row-behind, row-is}
@@ -45,16 +45,16 @@ module _ (c : tie.In-loop Inv-loop μ-loop) where
   reached : loop .loop .i < digitCount index
   reached = omega (arith, c .loop-test .taken, loop .loop .inv .0 .1)
 
-  below : loop .loop .hash < 65536
+  below : loop .loop .hash < hashes
   below = omega (arith, loop .loop .inv .1 .1 .0, hash-below index (start .args .value) (loop .loop .i))
 
   abbrev row : ℕ
   row = rowOf index (start .args .start) (loop .loop .hash) (loop .loop .i)
 
-  within : row + rowWords index ≤ 9796
+  within : row + rowWords index ≤ indexWords
   within = row-within (laid .plan) (loop .loop .hash) below (loop .loop .i) reached column
 
-  behind : 580 ≤ row
+  behind : planWords ≤ row
   behind = row-behind (laid .plan) (loop .loop .hash) below (loop .loop .i) reached column
 
 -- the row reached is entered

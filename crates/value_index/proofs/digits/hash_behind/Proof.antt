@@ -3,7 +3,7 @@
 use mathlib.Core.Path.{_≡_, ap}
 use Prim.Native.Nat.{ℕ, _*_, _%_, _≤_}
 use native.Mathlib.Omega.{arith}
-use Rattle.value_index.specs.Plan.{digitRows}
+use Rattle.value_index.specs.Plan.{hashes, digitRows}
 use Rattle.value_index.specs.declared.digits.RowPlan.{RowPlan}
 use Rattle.value_index.proofs.ValueRows.{hash-fits}
 use borrow.Author.Needs.{needs}
@@ -18,4 +18,4 @@ hash-behind-spec =
     tie.close
     (tie.spec
     (λ c. let s = c .before in let p = hash-fits (s .pre .0) (s .args .hash) (s .pre .1 .1) in rw (rows-are s) (omega (arith, p)))
-    (λ c. let s = c .before in ap (λ (n : ℕ). s .args .hash * n % 65536) (rows-are s)))
+    (λ c. let s = c .before in ap (λ (n : ℕ). s .args .hash * n % hashes) (rows-are s)))

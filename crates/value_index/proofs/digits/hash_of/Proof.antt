@@ -4,7 +4,7 @@ use mathlib.Core.Path.{_≡_, sym, _∙_, ap}
 use Prim.Native.Nat.{ℕ, _*_, _%_, _≤_}
 use native.Mathlib.Nat.{mul-le-mul}
 use native.Mathlib.Omega.{arith}
-use Rattle.value_index.specs.Plan.{factor}
+use Rattle.value_index.specs.Plan.{hashes, factor}
 use Rattle.value_index.specs.declared.digits.RowPlan.{RowPlan}
 use Rattle.value_index.proofs.ValueRows.{hash-first}
 use borrow.Author.Needs.{needs}
@@ -24,7 +24,7 @@ mul-result c =
 returns : tie.Need-returns
 returns c =
     let s = c .before in
-    ap (λ (f : ℕ). s .args .value * f % 65536) (factor-is s) ∙ sym (hash-first (s .args .index .now) (s .args .value))
+    ap (λ (f : ℕ). s .args .value * f % hashes) (factor-is s) ∙ sym (hash-first (s .args .index .now) (s .args .value))
 
 pub hash-of-spec : {M : Type 1} → statement M
 hash-of-spec =

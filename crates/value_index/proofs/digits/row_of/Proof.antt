@@ -3,7 +3,7 @@
 use mathlib.Core.Path.{_≡_, refl, ap}
 use Prim.Native.Nat.{ℕ, _+_, _*_, _/_, _≤_, _<_}
 use native.Mathlib.Omega.{arith}
-use Rattle.value_index.specs.Plan.{digitRows, rowWords, rowOf}
+use Rattle.value_index.specs.Plan.{indexWords, hashes, digitRows, rowWords, rowOf}
 use Rattle.value_index.specs.declared.digits.RowPlan.{RowPlan}
 use Rattle.value_index.proofs.ValueRows.{hash-fits, rows-few, row-within}
 use borrow.Author.Needs.{needs}
@@ -20,10 +20,10 @@ module _ (s : tie.Start) where
   short : s .args .hash * digitRows (s .args .index .now) ≤ 603979776
   short = hash-fits (s .pre .0 .0) (s .args .hash) (s .pre .0 .1 .1 .0)
 
-  few : s .args .i * digitRows (s .args .index .now) + s .args .hash * digitRows (s .args .index .now) / 65536 < 36865
+  few : s .args .i * digitRows (s .args .index .now) + s .args .hash * digitRows (s .args .index .now) / hashes < 36865
   few = rows-few (s .pre .0 .0) (s .args .hash) (s .pre .0 .1 .1 .0) (s .args .i) (s .pre .0 .1 .1 .1)
 
-  fits : rowOf (s .args .index .now) (s .args .start) (s .args .hash) (s .args .i) + rowWords (s .args .index .now) ≤ 9796
+  fits : rowOf (s .args .index .now) (s .args .start) (s .args .hash) (s .args .i) + rowWords (s .args .index .now) ≤ indexWords
   fits = row-within (s .pre .0 .0) (s .args .hash) (s .pre .0 .1 .1 .0) (s .args .i) (s .pre .0 .1 .1 .1) (s .pre .0 .1 .0)
 
 pub row-of-spec : {M : Type 1} → statement M
