@@ -3,6 +3,7 @@
 use mathlib.Core.Path.{_≡_, refl, sym, _∙_, ap, ap₂, subst}
 use mathlib.Core.Bool.{Bool, true, _&&_}
 use mathlib.Core.List.{List, map, List·Memᴰ}
+use mathlib.Core.Logic.{_⊎_}
 use Prim.Native.Nat.{ℕ, _+_, _-_, _≤_, _<_}
 use native.Mathlib.Decide.{ℕ-discrete, decLt}
 use native.Mathlib.Omega.{arith}
@@ -44,7 +45,20 @@ module _ (N : Network) (c : Combination) where
           keeps = λ t m p l. s .keeps t m p (f .keeps t m p l);
         }
 
-  module _ (M : Members N c) (i j : ℕ) (hi : i < length c) (hj : j < length c) (apart : i ≡ j → ⊥) (before after : List ℕ) (S : Spread N (getD c i 0) (getD c j 0) before after) where
+  -- the tuples of a candidate at two places agree
+  pub agree-two : {t : List ℕ} → List·Memᴰ t (candidates N c) → pairwise (agree N) t ≡ true → (i j : ℕ) → i < length c → j < length c → (i ≡ j → ⊥) → agree N (getD t i 0) (getD t j 0) ≡ true
+  agree-two {t} m agrees i j hi hj apart = go (decLt i j)
+    where
+      long : length t ≡ length c
+      long = candidates-length N c m
+
+      go : Dec (i < j) → agree N (getD t i 0) (getD t j 0) ≡ true
+      go (yes l) = pairwise-getD (agree N) t i j 0 agrees l (omega (arith, long, hj))
+      go (no l) = agree-sym N (getD t i 0) (getD t j 0) ∙ pairwise-getD (agree N) t j i 0 agrees (omega (arith, l, apart)) (omega (arith, long, hi))
+
+  -- ---- One member narrowed
+
+  module _ (M : Members N c) (j : ℕ) (hj : j < length c) (before after : List ℕ) where
     rises : pairwise ltb c ≡ true
     rises = and-right (all (λ (r : ℕ). ltb r (length (N .relations))) c) (pairwise ltb c) (M .proper)
 
@@ -56,51 +70,45 @@ module _ (N : Network) (c : Combination) where
         go (yes l) = let b = ltb-true (getD c p 0) (getD c q 0) (pairwise-getD ltb c p q 0 rises l hq) in omega arith
         go (no l) = let b = ltb-true (getD c q 0) (getD c p 0) (pairwise-getD ltb c q p 0 rises (omega arith) hp) in omega arith
 
-    module _ (t : List ℕ) (m : List·Memᴰ t (candidates N c)) (agrees : pairwise (agree N) t ≡ true) (live : AllLive before t) where
-      -- the two tuples agree
-      both : agree N (getD t i 0) (getD t j 0) ≡ true
-      both = go (decLt i j)
-        where
-          long : length t ≡ length c
-          long = candidates-length N c m
-
-          go : Dec (i < j) → agree N (getD t i 0) (getD t j 0) ≡ true
-          go (yes l) = pairwise-getD (agree N) t i j 0 agrees l (omega (arith, long, hj))
-          go (no l) = agree-sym N (getD t i 0) (getD t j 0) ∙ pairwise-getD (agree N) t j i 0 agrees (omega (arith, l, apart)) (omega (arith, long, hi))
-
-      -- member j's tuple stays
-      own : isLive after (getD t j 0) ≡ true
-      own =
-          let is-i = candidates-id N c m i hi in
-          let is-j = candidates-id N c m j hj in
-          subst (λ (g : ℕ). isLive after g ≡ true) is-j
-          (S .keeps (getD (map (indexOf N) t) i 0) (getD (map (indexOf N) t) j 0) (candidates-index N c m i hi) (candidates-index N c m j hj)
-          (ap₂ (agree N) is-i is-j ∙ both)
-          (ap (isLive before) is-i ∙ live (getD t i 0) (candidates-at N c m i hi .0))
-          (ap (isLive before) is-j ∙ live (getD t j 0) (candidates-at N c m j hj .0)))
-
-      -- .. and so does any other's
-      stays : (g : ℕ) → List·Memᴰ g t → Dec (getD c j 0 ≡ relationOf N g) → isLive after g ≡ true
-      stays g k (yes e) =
+    module _ (outside : (g : ℕ) → (g < firstId N (getD c j 0)) ⊎ (firstId N (getD c j 0) + size N (getD c j 0) ≤ g) → isLive after g ≡ isLive before g) where
+      -- where member j's tuple stays, so does any other's
+      stays : (t : List ℕ) → List·Memᴰ t (candidates N c) → AllLive before t → isLive after (getD t j 0) ≡ true → (g : ℕ) → List·Memᴰ g t → Dec (getD c j 0 ≡ relationOf N g) → isLive after g ≡ true
+      stays t m live own g k (yes e) =
           let at = candidates-at N c m j hj in
           let same = picks-same N c rises (candidates-picks N c m) (at .0) k (relationOf-ids N (getD c j 0) (at .1) ∙ e) in
           subst (λ (h : ℕ). isLive after h ≡ true) same own
-      stays g k (no d) =
+      stays t m live own g k (no d) =
           let b = below g k in
           let is-g : firstId N (relationOf N g) + (g - firstId N (relationOf N g)) ≡ g = omega (arith, index-bounds N g b .0) in
           let out = ids-apart N (relationOf N g) (g - firstId N (relationOf N g)) (getD c j 0) (omega (arith, index-bounds N g b)) d in
-          subst (λ (h : ℕ). isLive after h ≡ true) is-g (S .outside (firstId N (relationOf N g) + (g - firstId N (relationOf N g))) out ∙ ap (isLive before) is-g ∙ live g k)
+          subst (λ (h : ℕ). isLive after h ≡ true) is-g (outside (firstId N (relationOf N g) + (g - firstId N (relationOf N g))) out ∙ ap (isLive before) is-g ∙ live g k)
         where
           below : (h : ℕ) → List·Memᴰ h t → h < total N
           below h l =
               let q = mem-getD t 0 l in
               subst (λ (x : ℕ). x < total N) (q .2) (ids-below N (getD c (q .0) 0) (candidates-at N c m (q .0) (omega (arith, q .1, candidates-length N c m)) .1))
 
-    -- a member is narrowed that is not held
-    pub keeps-step : (place from : ℕ) → (Held place from j → ⊥) → KeepsSupports N c place from before after
-    keeps-step place from free =
-        record {
-          inside = S .inside;
-          held = λ i x h k l. S .outside (firstId N (getD c i 0) + x) (ids-apart N (getD c i 0) x (getD c j 0) l (differ j i hj h (λ e. free (subst (Held place from) (sym e) k))));
-          keeps = λ t m a l g k. stays t m a l g k (ℕ-discrete (getD c j 0) (relationOf N g));
-        }
+      -- a member is narrowed that is not held, and its tuple of a support stays
+      pub keeps-member :
+          ((g : ℕ) → isLive after g ≡ true → isLive before g ≡ true)
+          → ((t : List ℕ) → List·Memᴰ t (candidates N c) → pairwise (agree N) t ≡ true → AllLive before t → isLive after (getD t j 0) ≡ true)
+          → (place from : ℕ) → (Held place from j → ⊥) → KeepsSupports N c place from before after
+      keeps-member inside own place from free =
+          record {
+            inside = inside;
+            held = λ i x h k l. outside (firstId N (getD c i 0) + x) (ids-apart N (getD c i 0) x (getD c j 0) l (differ j i hj h (λ e. free (subst (Held place from) (sym e) k))));
+            keeps = λ t m a l g k. stays t m l (own t m a l) g k (ℕ-discrete (getD c j 0) (relationOf N g));
+          }
+
+  -- .. through another
+  pub keeps-step : Members N c → (i j : ℕ) → i < length c → j < length c → (i ≡ j → ⊥) → (before after : List ℕ) → Spread N (getD c i 0) (getD c j 0) before after → (place from : ℕ) → (Held place from j → ⊥) → KeepsSupports N c place from before after
+  keeps-step M i j hi hj apart before after S =
+      keeps-member M j hj before after (S .outside) (S .inside)
+      (λ t m a l.
+      let is-i = candidates-id N c m i hi in
+      let is-j = candidates-id N c m j hj in
+      subst (λ (g : ℕ). isLive after g ≡ true) is-j
+      (S .keeps (getD (map (indexOf N) t) i 0) (getD (map (indexOf N) t) j 0) (candidates-index N c m i hi) (candidates-index N c m j hj)
+      (ap₂ (agree N) is-i is-j ∙ agree-two m a i j hi hj apart)
+      (ap (isLive before) is-i ∙ l (getD t i 0) (candidates-at N c m i hi .0))
+      (ap (isLive before) is-j ∙ l (getD t j 0) (candidates-at N c m j hj .0))))

@@ -2,3 +2,4 @@
 pub mod Relations
 pub mod Kept
 pub mod Numbers
+pub mod Meeting

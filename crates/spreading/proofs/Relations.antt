@@ -3,7 +3,7 @@
 use mathlib.Core.Path.{_≡_, refl, sym, _∙_, ap, subst}
 use mathlib.Core.Bool.{Bool, true, _&&_, and-true}
 use mathlib.Core.List.{List}
-use mathlib.Core.Logic.{⊎-elim}
+use mathlib.Core.Logic.{_⊎_, ⊎-elim}
 use Prim.Native.Nat.{ℕ, _+_, _*_, _≤_, _<_}
 use native.Mathlib.Decide.{ℕ-discrete, decLt}
 use native.Mathlib.Omega.{arith}
@@ -17,16 +17,17 @@ use Rattle.narrowing.specs.Narrows.{stays, KeptIds}
 use Rattle.narrowing.specs.Gathers.{Gathers}
 use Rattle.narrowing.proofs.Words.{stays-before, stays-behind}
 use Rattle.spreading.specs.Spread.{Spread}
+use Rattle.spreading.specs.Fresh.{GathersFrom}
 
 module _ (N : Network) (r s : ℕ) where
-  -- what agrees with the live tuples of relation r below id g is gathered
-  abbrev pub Gathered : List ℕ → List ℕ → ℕ → Type 0
-  Gathered words sum g =
-      (x z : ℕ) → x < size N r → firstId N r + x < g → isLive words (firstId N r + x) ≡ true → z < size N s → agree N (firstId N r + x) (firstId N s + z) ≡ true → isLive words (firstId N s + z) ≡ true → isLive sum (firstId N s + z) ≡ true
+  -- what agrees with the fresh tuples of relation r below id g is gathered
+  abbrev pub Gathered : List ℕ → List ℕ → List ℕ → ℕ → Type 0
+  Gathered fresh words sum g =
+      (x z : ℕ) → x < size N r → firstId N r + x < g → isLive fresh (firstId N r + x) ≡ true → z < size N s → agree N (firstId N r + x) (firstId N s + z) ≡ true → isLive words (firstId N s + z) ≡ true → isLive sum (firstId N s + z) ≡ true
 
-  -- .. with one more of them, behind which the next live one is at h
-  pub gathered-more : (words sum after : List ℕ) (y h : ℕ) → ((k : ℕ) → firstId N r + y + 1 ≤ k → k < h → isLive words k ≡ true → ⊥) → Gathers N r y s words sum after → Gathered words sum (firstId N r + y) → Gathered words after h
-  gathered-more words sum after y h none one so-far x z hx below live hz agrees lives = go (decLt x y) (ℕ-discrete x y)
+  -- .. with one more of them, behind which the next fresh one is at h
+  pub gathered-more : (fresh words sum after : List ℕ) (y h : ℕ) → ((k : ℕ) → firstId N r + y + 1 ≤ k → k < h → isLive fresh k ≡ true → ⊥) → Gathers N r y s words sum after → Gathered fresh words sum (firstId N r + y) → Gathered fresh words after h
+  gathered-more fresh words sum after y h none one so-far x z hx below live hz agrees lives = go (decLt x y) (ℕ-discrete x y)
     where
       go : Dec (x < y) → Dec (x ≡ y) → isLive after (firstId N s + z) ≡ true
       go (yes l) d = one .keeps z hz (so-far x z hx (omega arith) live hz agrees lives)
@@ -37,14 +38,25 @@ module _ (N : Network) (r s : ℕ) where
   pub spread-none : (words : List ℕ) → Spread N r s words words
   spread-none words = record { inside = λ g l. l; outside = λ g o. refl; keeps = λ x z hx hz a lx lz. lz }
 
-  -- what is gathered is kept
-  pub spread-kept : (start end g : ℕ) (words sum after : List ℕ) → start ≡ firstId N s → end ≡ firstId N s + size N s → firstId N r + size N r ≤ g → Gathered words sum g → KeptIds (rowBit sum 0) start end words after → Spread N r s words after
-  spread-kept start end g words sum after es ee past all kept =
+-- ---- What is gathered of relation s is kept
+
+-- an id that is live in both is
+pub kept-both : (start end : ℕ) (words sum after : List ℕ) → KeptIds (rowBit sum 0) start end words after → (g : ℕ) → isLive words g ≡ true → isLive sum g ≡ true → isLive after g ≡ true
+kept-both start end words sum after kept i lz ls =
+    let n : 64 * 0 + i ≡ i = omega arith in
+    kept i ∙ and-intro lz (or-right (ltb i start) (or-right (leb end i) (ap (isLive sum) n ∙ ls)))
+
+module _ (N : Network) (s start end : ℕ) (words sum after : List ℕ) (es : start ≡ firstId N s) (ee : end ≡ firstId N s + size N s) (kept : KeptIds (rowBit sum 0) start end words after) where
+  pub kept-inside : (g : ℕ) → isLive after g ≡ true → isLive words g ≡ true
+  kept-inside h l = and-left (isLive words h) (stays (rowBit sum 0) start end h) (sym (kept h) ∙ l)
+
+  pub kept-outside : (g : ℕ) → (g < firstId N s) ⊎ (firstId N s + size N s ≤ g) → isLive after g ≡ isLive words g
+  kept-outside h o = kept h ∙ ap (λ (x : Bool). isLive words h && x) (⊎-elim (λ l. stays-before (rowBit sum 0) start end h (omega arith)) (λ l. stays-behind (rowBit sum 0) start end h (omega arith)) o) ∙ and-true (isLive words h)
+
+  pub spread-kept : (r : ℕ) (before : List ℕ) → GathersFrom N r s words words before sum → Spread N r s words after
+  spread-kept r before G =
       record {
-        inside = λ h l. and-left (isLive words h) (stays (rowBit sum 0) start end h) (sym (kept h) ∙ l);
-        outside = λ h o. kept h ∙ ap (λ (x : Bool). isLive words h && x) (⊎-elim (λ l. stays-before (rowBit sum 0) start end h (omega arith)) (λ l. stays-behind (rowBit sum 0) start end h (omega arith)) o) ∙ and-true (isLive words h);
-        keeps = λ x z hx hz a lx lz.
-            let i = firstId N s + z in
-            let n : 64 * 0 + i ≡ i = omega arith in
-            kept i ∙ and-intro lz (or-right (ltb i start) (or-right (leb end i) (ap (isLive sum) n ∙ all x z hx (omega arith) lx hz a lz)));
+        inside = kept-inside;
+        outside = kept-outside;
+        keeps = λ x z hx hz a lx lz. kept-both start end words sum after kept (firstId N s + z) lz (G .adds x z hx hz a lx lz);
       }

@@ -99,23 +99,25 @@ pub fn steps_of_pair(index: &Index, members: &[u16], m: usize, p: usize) -> u64
 }
 
 // How many live tuples relation r has.
-fn live_count(starts: &Starts, words: &Words, r: u16) -> u16
+pub fn live_count(starts: &Starts, words: &Words, r: u16) -> u16
     requires { ⌜ Long (now words) × (SoundStarts (now starts) × (r < maxRelations)) ⌝ }
 {
     count(words, tuple_start(starts, r), tuple_start(starts, r + 1))
 }
 
-// Whether relation r has not half as many live tuples as relation s, with which it shares a variable.
-fn is_narrower(index: &Index, starts: &Starts, words: &Words, r: u16, s: u16) -> bool
+// Whether relation r has not half as many live tuples as relation s, with which it shares a variable, or as are walked over.
+fn is_narrower(index: &Index, starts: &Starts, words: &Words, r: u16, s: u16, walked: u16) -> bool
     requires { ⌜ Long (now words) × (SoundStarts (now starts) × ((r < maxRelations) × (s < maxRelations))) ⌝ }
 {
     if scope_bits(index, r) & scope_bits(index, s) == 0 {
         return false;
     }
-    live_count(starts, words, r) < live_count(starts, words, s) / 2
+    let n = live_count(starts, words, r);
+    n < walked / 2 || n < live_count(starts, words, s) / 2
 }
 
-// Before these steps, those that narrow member j through each other one from `from` on, but the one at `place`, that is narrower.
+// Before these steps, those that narrow member j through each other one from `from` on, but the one at `place`, that is narrower than it, or
+// than the one whose live tuples are walked over.
 fn steps_through(
     index: &Index,
     starts: &Starts,
@@ -124,6 +126,7 @@ fn steps_through(
     place: usize,
     from: usize,
     j: usize,
+    walked: u16,
     steps: u64,
 ) -> u64
     requires { ⌜ Counted (now starts) (now words) (now members) × (j < length (now members)) ⌝ }
@@ -131,8 +134,8 @@ fn steps_through(
     let mut steps = steps;
     let mut i = from;
     while i < members.len() {
-        if i != place {
-            if is_narrower(index, starts, words, members[i], members[j]) {
+        if i != place && i != j {
+            if is_narrower(index, starts, words, members[i], members[j], walked) {
                 steps = steps % 1048576 * 16 + (4 * j + i) as u64;
             }
         }
@@ -150,13 +153,14 @@ pub fn steps_between(
     place: usize,
     from: usize,
 ) -> u64
-    requires { ⌜ Counted (now starts) (now words) (now members) ⌝ }
+    requires { ⌜ Counted (now starts) (now words) (now members) × (from < length (now members)) ⌝ }
 {
+    let walked = live_count(starts, words, members[from]);
     let mut steps: u64 = 0;
     let mut j = from;
     while j < members.len() {
         if j != place {
-            steps = steps_through(index, starts, words, members, place, from, j, steps);
+            steps = steps_through(index, starts, words, members, place, from, j, walked, steps);
         }
         j += 1;
     }

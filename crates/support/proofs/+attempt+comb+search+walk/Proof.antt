@@ -637,7 +637,7 @@ module _ (t : ℕ) where
   search-steps-between-requires : search-lts.Need-steps-between-requires (search-callees t) (search-at t) search′.Post
   search-steps-between-requires c κs =
       let a = entered (c .before .before .before .before .before .before) in
-      (a .pre .1 .0 .0, (sound a .laid .framed, (sound a .few, λ j h. member-below (sent a) (sound a) j h)))
+      ((a .pre .1 .0 .0, (sound a .laid .framed, (sound a .few, λ j h. member-below (sent a) (sound a) j h))), asked a .inside)
 
   search-spread-members-requires : search-lts.Need-spread-members-requires (search-callees t) (search-at t) search′.Post
   search-spread-members-requires c κs =

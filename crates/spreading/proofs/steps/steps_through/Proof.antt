@@ -7,15 +7,15 @@ use Rattle.spreading.proofs.steps.steps_through.Statement.{statement}
 use Rattle.spreading.proofs.steps.steps_through.Tie as tie
 
 abbrev Inv-loop : tie.InvT-loop
-Inv-loop index starts words members place from j steps steps₀ i₀ steps' i =
+Inv-loop index starts words members place from j walked steps steps₀ i₀ steps' i =
     Unit {0}
 
 abbrev μ-loop : tie.MeasureT-loop
-μ-loop index starts words members place from j steps steps₀ i₀ steps' i = length members - i
+μ-loop index starts words members place from j walked steps steps₀ i₀ steps' i = length members - i
 
 is-narrower-requires : tie.Need-is-narrower-requires Inv-loop μ-loop
 is-narrower-requires c κs =
-    let turn = c .before .before .before in
+    let turn = c .before .before .before .before in
     let s = turn .before .before .before in
     let n = s .pre .0 .1 .1 .1 in
     (s .pre .0 .0, (s .pre .0 .1 .0, (n (turn .before .loop .i) (turn .loop-test .taken), n (s .args .j) (s .pre .1))))

@@ -1,0 +1,166 @@
+// Members of a combination narrowed through fresh tuples: every support has one, so a tuple stays only if it is fresh or may agree with an
+// fresh one of another member.
+ghost use mathlib.Core.Path.{_≡_};
+ghost use Prim.Native.Nat.{_<_};
+ghost use lib.ListN.{length};
+ghost use Rattle.layout.specs.Loan.{entry, exit};
+ghost use Rattle.layout.specs.Setting.{lists, networkIn};
+ghost use Rattle.narrowing.specs.Narrows.{Long};
+ghost use Rattle.spreading.specs.Spread.{Counted, Spreadable, SpreadsMembers};
+ghost use Rattle.spreading.specs.Fresh.{GathersOthers, Meets};
+use super::gather_from;
+use super::steps::live_count;
+use layout::Starts;
+use layout::tuple_start;
+use live::Words;
+use live::next;
+use model::MAX_TUPLES;
+use model::Value;
+use narrowing::keep;
+use value_index::Index;
+
+// The live tuples of the member at j that may agree with a fresh one of another member, not that at `place`, are live in `sum` too.
+fn gather_others(
+    variables: &[u16],
+    values: &[Value],
+    starts: &Starts,
+    index: &Index,
+    fresh: &Words,
+    words: &Words,
+    sum: &mut Words,
+    members: &[u16],
+    place: usize,
+    j: usize,
+)
+    requires { ⌜ Long (now fresh) × (Long (now words) × Long (now sum)) ⌝ }
+    requires { ⌜ Spreadable (lists now variables values starts) (now index) (now members) place × (j < length (now members)) ⌝ }
+    ensures { λ _. ⌜ GathersOthers (networkIn (lists entry variables values starts)) (entry members) place j (entry fresh) (entry words) (entry sum) (exit sum) ⌝ }
+{
+    let mut i = 0;
+    while i < members.len() {
+        if i != place {
+            if i != j {
+                gather_from(
+                    variables,
+                    values,
+                    starts,
+                    index,
+                    fresh,
+                    words,
+                    sum,
+                    members[i],
+                    members[j],
+                );
+            }
+        }
+        i += 1;
+    }
+}
+
+// Whether each member but those at `place` and j has at most so many fresh tuples.
+fn few_fresh(
+    starts: &Starts,
+    fresh: &Words,
+    members: &[u16],
+    place: usize,
+    j: usize,
+    limit: u16,
+) -> bool
+    requires { ⌜ Counted (now starts) (now fresh) (now members) ⌝ }
+{
+    let mut i = 0;
+    while i < members.len() {
+        if i != place {
+            if i != j {
+                if limit < live_count(starts, fresh, members[i]) {
+                    return false;
+                }
+            }
+        }
+        i += 1;
+    }
+    true
+}
+
+// The member at j narrowed to its fresh tuples and those that may agree with a fresh one of another member, if those are few. False where
+// it has no live tuple left.
+fn narrow_fresh(
+    variables: &[u16],
+    values: &[Value],
+    starts: &Starts,
+    index: &Index,
+    fresh: &Words,
+    words: &mut Words,
+    members: &[u16],
+    place: usize,
+    j: usize,
+    limit: u16,
+) -> bool
+    requires { ⌜ Long (now fresh) × (Long (now words) × ((j < length (now members)) × (j ≡ place → ⊥))) ⌝ }
+    requires { ⌜ Spreadable (lists now variables values starts) (now index) (now members) place ⌝ }
+    requires { ⌜ Meets (networkIn (lists now variables values starts)) (now members) place (now words) (now fresh) ⌝ }
+    ensures { λ b. ⌜ SpreadsMembers (networkIn (lists entry variables values starts)) (entry members) place 0 (entry words) (exit words) b ⌝ }
+{
+    if !few_fresh(starts, fresh, members, place, j, limit) {
+        return true;
+    }
+    let mut sum = *fresh;
+    gather_others(
+        variables,
+        values,
+        starts,
+        index,
+        fresh,
+        words,
+        &mut sum,
+        members,
+        place,
+        j,
+    );
+    let from = tuple_start(starts, members[j]);
+    let to = tuple_start(starts, members[j] + 1);
+    keep(&sum, words, 0, from, to);
+    next(words, from, to) < to
+}
+
+// All members but the one at `place` narrowed so. False where one of them has no live tuple left.
+pub fn narrow_to_fresh(
+    variables: &[u16],
+    values: &[Value],
+    starts: &Starts,
+    index: &Index,
+    words: &mut Words,
+    members: &[u16],
+    place: usize,
+    fresh: &Words,
+    limit: u16,
+) -> bool
+    requires { ⌜ Long (now words) × Long (now fresh) ⌝ }
+    requires { ⌜ Spreadable (lists now variables values starts) (now index) (now members) place ⌝ }
+    requires { ⌜ Meets (networkIn (lists now variables values starts)) (now members) place (now words) (now fresh) ⌝ }
+    ensures { λ b. ⌜ SpreadsMembers (networkIn (lists entry variables values starts)) (entry members) place 0 (entry words) (exit words) b ⌝ }
+{
+    let mut left = *words;
+    keep(fresh, &mut left, 0, 0, MAX_TUPLES as u16);
+    let mut j = 0;
+    while j < members.len() {
+        if j != place {
+            if !narrow_fresh(
+                variables,
+                values,
+                starts,
+                index,
+                &left,
+                words,
+                members,
+                place,
+                j,
+                limit,
+            ) {
+                return false;
+            }
+        }
+        j += 1;
+    }
+    true
+}
