@@ -1,17 +1,19 @@
 // The call that tests whether the live tuples are consistent.
 ghost use mathlib.Core.Path.{_≡_};
 ghost use Rattle.model.specs.Reply.{verdictNumbers, Tested};
-ghost use Rattle.layout.specs.Loan.{entry};
+ghost use Rattle.layout.specs.Loan.{entry, exit};
 ghost use Rattle.layout.specs.Shape.{instanceOf};
 ghost use Rattle.layout.specs.Setting.{setting, Sound};
 ghost use Rattle.narrowing.specs.Narrows.{Long};
 ghost use Rattle.support.specs.Search.{searching, Seeking};
+ghost use Rattle.support.specs.Spent.{MeetsBeside};
 ghost use Rattle.consistency.specs.Consistent.{lowest, hasSupport, PairAt, pairConsistent, allConsistent};
 use layout::Shape;
 use layout::Starts;
 use layout::tuple_count;
 use layout::tuple_start;
 use layout::wide;
+use live::WORDS;
 use live::Words;
 use live::copied;
 use live::next;
@@ -38,9 +40,12 @@ fn has_support(
     place: usize,
     own: u16,
     steps: u64,
+    fresh: &mut Words,
 ) -> bool
     requires { ⌜ Long (now words) × Seeking (searching now variables values starts words members place own (lowest place own)) (now index) ⌝ }
+    requires { ⌜ Long (now fresh) × MeetsBeside (searching now variables values starts words members place own (lowest place own)) (now fresh) ⌝ }
     ensures { λ b. ⌜ b ≡ hasSupport (searching entry variables values starts words members place own (lowest place own)) ⌝ }
+    ensures { λ _. ⌜ Long (exit fresh) × MeetsBeside (searching entry variables values starts words members place own (lowest place own)) (exit fresh) ⌝ }
 {
     let mut low = [0u16; MAX_MEMBERS];
     low[place] = own;
@@ -55,6 +60,7 @@ fn has_support(
         own,
         low,
         steps,
+        fresh,
     );
     found.kind == FOUND
 }
@@ -79,6 +85,7 @@ fn pair_supported(
     let r = members[p];
     let first = tuple_start(starts, r);
     let end = tuple_start(starts, r + 1);
+    let mut fresh = [!0u64; WORDS];
     let mut g = next(words, first, end);
     while g < end {
         if !has_support(
@@ -91,6 +98,7 @@ fn pair_supported(
             p % m,
             g - first,
             steps,
+            &mut fresh,
         ) {
             return false;
         }

@@ -3,7 +3,7 @@ use mathlib.Core.Path.{_≡_}
 use mathlib.Core.Bool.{Bool, true, false}
 use mathlib.Core.Logic.{_⊎_}
 use mathlib.Core.List.{List, _++_, map, List·Memᴰ}
-use Prim.Native.Nat.{ℕ, _+_, _*_, _≤_, _<_}
+use Prim.Native.Nat.{ℕ, _+_, _*_, _%_, _≤_, _<_}
 use lib.ListN.{length, take, drop, replicate}
 use Rattle.model.specs.Limits.{wordBits, noSupport, maxSupportNumbers}
 use Rattle.model.specs.Lists.{pairwise, earlier}
@@ -15,6 +15,8 @@ use Rattle.model.specs.Support.{candidates, isSupport, firstSupport}
 use Rattle.model.specs.Consistency.{filtered, supportList, needed}
 use Rattle.model.specs.LiveWords.{isLive, cleared, written}
 use Rattle.value_index.specs.Index.{Indexed}
+use Rattle.narrowing.specs.Narrows.{Long}
+use Rattle.spreading.specs.Fresh.{Meets}
 use Rattle.sweeping.specs.Shrunk.{Shrunk}
 use Rattle.worklist.specs.Supports.{SupportsFit, PairsBegin, Supported, Done}
 use Rattle.doubles.specs.Alike.{Common}
@@ -89,6 +91,10 @@ pub record RenewAt (G : Setting) (index words numbers sought : List ℕ) (p x at
   pub done : Done G words numbers p x
   pub noted : Noted G words p x sought
   pub common : Common G p set
+
+-- what is known of fresh tuples in a visit of pair p: every support in its combination has one beside the member's own
+abbrev pub Beside : Setting → ℕ → List ℕ → List ℕ → Type 0
+Beside G p words fresh = Long fresh × (1 < length (combinationOf G p) → Meets (network G) (combinationOf G p) (p % G .m) words fresh)
 
 -- Tuple x of pair p's member has its first support in the list, or has none and is dead; nothing else changes.
 pub record Renewed (G : Setting) (p x : ℕ) (words numbers : List ℕ) (found : Bool) (words′ numbers′ : List ℕ) : Type 0 where

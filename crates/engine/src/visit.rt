@@ -5,13 +5,14 @@ ghost use Rattle.narrowing.specs.Narrows.{Long};
 ghost use Rattle.live.specs.Words.{WordArray};
 ghost use Rattle.spreading.specs.Spread.{PairNumbers};
 ghost use Rattle.doubles.specs.Doubles.{Entered};
-ghost use Rattle.engine.specs.Work.{SeekAt, RenewAt, Renewed, VisitAt, Visited};
+ghost use Rattle.engine.specs.Work.{SeekAt, RenewAt, Beside, Renewed, VisitAt, Visited};
 use doubles::PLACES;
 use doubles::Table;
 use doubles::alike::variables_of_others;
 use layout::Starts;
 use layout::tuple_start;
 use layout::wide;
+use live::WORDS;
 use live::Words;
 use live::clear;
 use live::next;
@@ -54,9 +55,12 @@ fn seek(
     x: u16,
     at: usize,
     steps: u64,
+    fresh: &mut Words,
 ) -> bool
     requires { ⌜ Long (now words) × SeekAt (setting now variables values starts members m) (now index) (now words) (now numbers) p x at ⌝ }
+    requires { ⌜ Beside (setting now variables values starts members m) p (now words) (now fresh) ⌝ }
     ensures { λ r. ⌜ Renewed (setting entry variables values starts members m) p x (entry words) (entry numbers) r (exit words) (exit numbers) ⌝ }
+    ensures { λ _. ⌜ Beside (setting entry variables values starts members m) p (entry words) (exit fresh) ⌝ }
 {
     let each = wide(m);
     let pair = wide(p);
@@ -78,6 +82,7 @@ fn seek(
         x,
         low,
         steps,
+        fresh,
     );
     if found.kind == FOUND {
         let tuples = found.tuples;
@@ -104,11 +109,13 @@ fn replace(
     at: usize,
     common: u64,
     steps: u64,
+    fresh: &mut Words,
 ) -> bool
-    requires { ⌜ Long (now words) ⌝ }
+    requires { ⌜ Long (now words) × Beside (setting now variables values starts members m) p (now words) (now fresh) ⌝ }
     requires { ⌜ RenewAt (setting now variables values starts members m) (now index) (now words) (now numbers) (now sought) p x at common ⌝ }
     ensures { λ r. ⌜ Renewed (setting entry variables values starts members m) p x (entry words) (entry numbers) r (exit words) (exit numbers) ⌝ }
     ensures { λ _. ⌜ Entered x (entry sought) (exit sought) ⌝ }
+    ensures { λ _. ⌜ Beside (setting entry variables values starts members m) p (entry words) (exit fresh) ⌝ }
 {
     let twin = take_twin(
         variables,
@@ -143,6 +150,7 @@ fn replace(
             x,
             at,
             steps,
+            fresh,
         ),
     }
 }
@@ -164,11 +172,13 @@ pub fn renew(
     at: usize,
     common: u64,
     steps: u64,
+    fresh: &mut Words,
 ) -> bool
-    requires { ⌜ Long (now words) ⌝ }
+    requires { ⌜ Long (now words) × Beside (setting now variables values starts members m) p (now words) (now fresh) ⌝ }
     requires { ⌜ RenewAt (setting now variables values starts members m) (now index) (now words) (now numbers) (now sought) p x at common ⌝ }
     ensures { λ r. ⌜ Renewed (setting entry variables values starts members m) p x (entry words) (entry numbers) r (exit words) (exit numbers) ⌝ }
     ensures { λ _. ⌜ Entered x (entry sought) (exit sought) ⌝ }
+    ensures { λ _. ⌜ Beside (setting entry variables values starts members m) p (entry words) (exit fresh) ⌝ }
 {
     let each = wide(m);
     if numbers[at] != NO_SUPPORT {
@@ -192,6 +202,7 @@ pub fn renew(
         at,
         common,
         steps,
+        fresh,
     )
 }
 
@@ -219,6 +230,7 @@ pub fn visit(
     let end = tuple_start(starts, r + 1);
     let start = wide(pair_starts[wide(p)]);
     let mut sought = [NO_SUPPORT; PLACES];
+    let mut fresh = [!0u64; WORDS];
     let mut waiting = queue;
     let mut shrunk = false;
     let mut g = next(words, first, end);
@@ -240,6 +252,7 @@ pub fn visit(
             at,
             common,
             steps,
+            &mut fresh,
         ) {
             if !shrunk {
                 waiting = requeue(waiting, members, m, p);

@@ -8,3 +8,4 @@ pub mod Ends
 pub mod Last
 pub mod Narrow
 pub mod Failed
+pub mod Spent

@@ -2,15 +2,16 @@
 // the tuples that may agree with it, but for the last one, whose tuples are tried at once.
 ghost use mathlib.Core.Path.{_≡_};
 ghost use mathlib.Core.Bool.{true};
-ghost use Prim.Native.Nat.{_+_, _<_};
+ghost use Prim.Native.Nat.{_+_, _≤_, _<_};
 ghost use Rattle.model.specs.Limits.{maxRelations, maxMembers};
 ghost use lib.ListN.{length, set};
 ghost use Rattle.doubles.specs.Alike.{MembersIn};
 ghost use Rattle.doubles.specs.Doubles.{places};
 ghost use Rattle.layout.specs.Loan.{entry, exit};
-ghost use Rattle.layout.specs.Starts.{tupleStart};
+ghost use Rattle.layout.specs.Starts.{tupleStart, SoundStarts};
 ghost use Rattle.layout.specs.Setting.{lists, networkIn};
 ghost use Rattle.narrowing.specs.Narrows.{Long};
+ghost use Rattle.support.specs.Spent.{SpendAt, Spent, EndBelow, FreshAt, Spends, NoteAt, Notes, Rooted, MeetsIn, MeetsBeside, FreshFrom};
 ghost use Rattle.support.specs.Search.{searching, Seeking, SearchAt, pastOwn, placeBehind, spanAt, fits, Trial, FittingAt, FirstFitting, TurnOf, Sifts, MayLead, AttemptAt, Attempts, WalkAt, Walks, Finds, FindsFirst};
 use doubles::PLACES;
 use doubles::Table;
@@ -18,9 +19,12 @@ use doubles::alike::variables_from;
 use doubles::first_alike;
 use layout::Starts;
 use layout::tuple_start;
+use live::WORDS;
 use live::Words;
+use live::clear;
 use live::is_live;
 use live::next;
+use live::put_back;
 use model::MAX_MEMBERS;
 use model::MAX_WIDTH;
 use model::NO_SUPPORT;
@@ -33,6 +37,7 @@ use narrowing::sieve::Sieve;
 use narrowing::sieve::passes;
 use narrowing::sieve::sieve_for;
 use network::agreement::tuples_agree;
+use spreading::fresh::narrow_to_fresh;
 use spreading::spread_members;
 use spreading::steps::steps_between;
 use value_index::Index;
@@ -45,6 +50,9 @@ const MANY: u16 = 64;
 
 // A search is hard where so many choices of one member have failed.
 const FAILURES: u16 = 16;
+
+// .. and long where so many were tried once it was hard: what it has come to is kept in mind.
+const LONG: u16 = 256;
 
 // One tuple of each member, by its index.
 pub type Indices = [u16; MAX_MEMBERS];
@@ -71,11 +79,12 @@ const NONE: u16 = 0;
 
 const HARD: u16 = 2;
 
-// The indices of a support, one for each member, if the kind is FOUND. Its fields are of one width and are read back as they are written: a
-// word made of two flags would be waited for.
+// The indices of a support, one for each member, if the kind is FOUND; and how many choices a hard search has tried, if they are fewer than
+// LONG. Its fields are of one width and are read back as they are written: a word made of two flags would be waited for.
 pub struct Found {
     pub tuples: Indices,
     pub kind: u16,
+    pub tried: u16,
 }
 
 // How a walk over a member's tuples ended: with a support, or at an id before which no tuple leads to one.
@@ -273,10 +282,15 @@ fn attempt_last(
             return Found {
                 tuples,
                 kind: FOUND,
+                tried: 0,
             };
         }
     }
-    Found { tuples, kind: NONE }
+    Found {
+        tuples,
+        kind: NONE,
+        tried: 0,
+    }
 }
 
 // The first support at or after `low` that has the tuples chosen for the members before k, and tuple x for member k, which is not the last.
@@ -352,7 +366,11 @@ fn attempt(
             );
         }
     }
-    Found { tuples, kind: NONE }
+    Found {
+        tuples,
+        kind: NONE,
+        tried: 0,
+    }
 }
 
 // The walk over member k's live tuples from id `from` on, at the turn that `search` is called for. It stops where the search is hard.
@@ -489,6 +507,17 @@ fn may_lead(
     x <= first_alike(variables, values, starts, failed, members[k], x, common)
 }
 
+// One choice more, and those tried behind it; not more than are needed to call it long.
+fn one_more(tried: u16, behind: u16) -> u16 {
+    if LONG <= tried {
+        return tried;
+    }
+    if LONG <= behind {
+        return behind;
+    }
+    tried + behind + 1
+}
+
 // What `search` is called for, sought from id `from` on, where it is hard: a tuple is passed over that has the values of one that failed, under
 // all variables of the members behind.
 fn comb(
@@ -517,6 +546,7 @@ fn comb(
     let common = variables_from(variables, values, starts, members, place, k + 1);
     let sieve = sieve_behind(variables, values, starts, words, members, place, k);
     let mut failed = [NO_SUPPORT; PLACES];
+    let mut tried: u16 = 0;
     let mut g = from;
     while g < end {
         let x = g - first;
@@ -552,8 +582,14 @@ fn comb(
                 x,
                 true,
             );
+            tried = one_more(tried, found.tried);
             if found.kind == FOUND {
-                return found;
+                let tuples = found.tuples;
+                return Found {
+                    tuples,
+                    kind: FOUND,
+                    tried,
+                };
             }
         }
         g = next(words, g + 1, end);
@@ -561,6 +597,7 @@ fn comb(
     Found {
         tuples: chosen,
         kind: HARD,
+        tried,
     }
 }
 
@@ -624,7 +661,11 @@ fn search(
     let kind = walked.kind;
     let at = walked.at;
     if kind == FOUND || end <= at {
-        return Found { tuples, kind };
+        return Found {
+            tuples,
+            kind,
+            tried: 0,
+        };
     }
     let mut fewer = *words;
     let steps = steps_between(index, starts, words, members, place, k);
@@ -640,7 +681,11 @@ fn search(
         steps,
         MANY,
     ) {
-        return Found { tuples, kind };
+        return Found {
+            tuples,
+            kind,
+            tried: 0,
+        };
     }
     let again = next(&fewer, at, end);
     comb(
@@ -698,6 +743,7 @@ fn search_last(
         return Found {
             tuples: chosen,
             kind: NONE,
+            tried: 0,
         };
     }
     let full = past_own(place, own, k + 1, put(chosen, k, g - span.first));
@@ -705,11 +751,219 @@ fn search_last(
     Found {
         tuples,
         kind: FOUND,
+        tried: 0,
     }
 }
 
-// The first support at or after `low` of tuple `own` of the member at `place`. Before the search, members are narrowed through others by these
-// steps (spreading::steps).
+// ---- What a long search has come to
+
+// Of relation s, the tuples among these candidates below id `end` that agree with tuple x of relation r are no longer fresh.
+fn spend_member(
+    variables: &[u16],
+    values: &[Value],
+    starts: &Starts,
+    words: &Words,
+    fresh: &mut Words,
+    r: u16,
+    x: u16,
+    s: u16,
+    end: u16,
+)
+    requires { ⌜ Long (now words) × Long (now fresh) ⌝ }
+    requires { ⌜ SpendAt (lists now variables values starts) r x s end ⌝ }
+    ensures { λ _. ⌜ Spent (networkIn (lists entry variables values starts)) r x s end (entry fresh) (exit fresh) ⌝ }
+{
+    let first = tuple_start(starts, s);
+    let mut g = next(words, first, end);
+    while g < end {
+        if tuples_agree(variables, values, starts, r, x, s, g - first) {
+            clear(fresh, g);
+        }
+        g = next(words, g + 1, end);
+    }
+}
+
+// The end of relation s's ids, or the bound if that is below it and j is k.
+fn end_below(starts: &Starts, s: u16, j: usize, k: usize, bound: u16) -> u16
+    requires { ⌜ SoundStarts (now starts) × (s < maxRelations) ⌝ }
+    ensures { λ n. ⌜ EndBelow (tupleStart (entry starts) (s + 1)) j k bound n ⌝ }
+{
+    let end = tuple_start(starts, s + 1);
+    if j == k {
+        if bound < end {
+            return bound;
+        }
+    }
+    end
+}
+
+// All tuples but those among these candidates that agree with tuple `own` of the member at `place`; of the member at k only those below the
+// bound. Of the member at `place` the first is not fresh: that is how it is known that some others may not be.
+fn fresh_after(
+    variables: &[u16],
+    values: &[Value],
+    starts: &Starts,
+    words: &Words,
+    members: &[u16],
+    place: usize,
+    own: u16,
+    k: usize,
+    bound: u16,
+) -> Words
+    requires { ⌜ Long (now words) × FreshAt (lists now variables values starts) (now words) (now members) place own k bound ⌝ }
+    ensures { λ fresh. ⌜ Long fresh × Spends (networkIn (lists entry variables values starts)) (entry members) place own k bound fresh ⌝ }
+{
+    let r = members[place];
+    let mut fresh = [!0u64; WORDS];
+    let mut j = 0;
+    while j < members.len() {
+        if j != place {
+            let s = members[j];
+            let end = end_below(starts, s, j, k, bound);
+            spend_member(variables, values, starts, words, &mut fresh, r, own, s, end);
+        }
+        j += 1;
+    }
+    clear(&mut fresh, tuple_start(starts, r));
+    fresh
+}
+
+// After a long search over these candidates which found none, or the support with tuple t of the member at k: the candidates that agree with
+// the seeking tuple are no longer fresh, but for those of member k from t on.
+fn note(
+    variables: &[u16],
+    values: &[Value],
+    starts: &Starts,
+    words: &Words,
+    members: &[u16],
+    place: usize,
+    own: u16,
+    k: usize,
+    found: bool,
+    t: u16,
+    fresh: &mut Words,
+)
+    requires { ⌜ (Long (now words) × Long (now fresh)) × NoteAt (lists now variables values starts) (now words) (now members) place own k found t ⌝ }
+    ensures { λ _. ⌜ Notes (networkIn (lists entry variables values starts)) (entry members) place own k found t (exit fresh) ⌝ }
+{
+    let r = members[k];
+    let mut bound = tuple_start(starts, r + 1);
+    if found {
+        bound = tuple_start(starts, r) + t;
+    }
+    let now = fresh_after(
+        variables,
+        values,
+        starts,
+        words,
+        members,
+        place,
+        own,
+        k,
+        bound,
+    );
+    put_back(&now, fresh, WORDS);
+}
+
+// ---- The first support
+
+// What `first_support` is called for, over words narrowed for the seeking tuple, which lives, with two other members or more.
+fn search_all(
+    variables: &[u16],
+    values: &[Value],
+    starts: &Starts,
+    index: &Index,
+    words: &Words,
+    members: &[u16],
+    place: usize,
+    own: u16,
+    low: Indices,
+) -> Found
+    requires { ⌜ Long (now words) × Rooted (searching now variables values starts words members place own low) (now index) ⌝ }
+    ensures { λ f. ⌜ FindsFirst (searching entry variables values starts words members place own low) f ⌝ }
+{
+    let stage = past_own(place, own, 0, low);
+    let tuples = stage.chosen;
+    search(
+        variables,
+        values,
+        starts,
+        index,
+        words,
+        members,
+        place,
+        own,
+        low,
+        stage.k,
+        true,
+        tuples,
+        false,
+    )
+}
+
+// The same, where every support has a fresh tuple: if some are known not to be, members are narrowed through those that are.
+fn search_fresh(
+    variables: &[u16],
+    values: &[Value],
+    starts: &Starts,
+    index: &Index,
+    words: &Words,
+    members: &[u16],
+    place: usize,
+    own: u16,
+    low: Indices,
+    fresh: &Words,
+) -> Found
+    requires { ⌜ Long (now words) × Rooted (searching now variables values starts words members place own low) (now index) ⌝ }
+    requires { ⌜ Long (now fresh) × MeetsIn (searching now variables values starts words members place own low) (now fresh) ⌝ }
+    ensures { λ f. ⌜ FindsFirst (searching entry variables values starts words members place own low) f ⌝ }
+{
+    if is_live(fresh, tuple_start(starts, members[place])) {
+        return search_all(
+            variables,
+            values,
+            starts,
+            index,
+            words,
+            members,
+            place,
+            own,
+            low,
+        );
+    }
+    let mut fewer = *words;
+    if !narrow_to_fresh(
+        variables,
+        values,
+        starts,
+        index,
+        &mut fewer,
+        members,
+        place,
+        fresh,
+        MANY,
+    ) {
+        return Found {
+            tuples: low,
+            kind: NONE,
+            tried: 0,
+        };
+    }
+    search_all(
+        variables,
+        values,
+        starts,
+        index,
+        &fewer,
+        members,
+        place,
+        own,
+        low,
+    )
+}
+
+// The first support at or after `low` of tuple `own` of the member at `place`, which has none before. Before the search, members are narrowed
+// through others by these steps (spreading::steps). Every support of a tuple of that member has a fresh tuple, and has one afterwards.
 pub fn first_support(
     variables: &[u16],
     values: &[Value],
@@ -721,13 +975,17 @@ pub fn first_support(
     own: u16,
     low: Indices,
     steps: u64,
+    fresh: &mut Words,
 ) -> Found
     requires { ⌜ Long (now words) × Seeking (searching now variables values starts words members place own low) (now index) ⌝ }
+    requires { ⌜ Long (now fresh) × FreshFrom (searching now variables values starts words members place own low) (now fresh) ⌝ }
     ensures { λ f. ⌜ FindsFirst (searching entry variables values starts words members place own low) f ⌝ }
+    ensures { λ _. ⌜ Long (exit fresh) × MeetsBeside (searching entry variables values starts words members place own low) (exit fresh) ⌝ }
 {
     let none = Found {
         tuples: low,
         kind: NONE,
+        tried: 0,
     };
     let r = members[place];
     if !is_live(words, tuple_start(starts, r) + own) {
@@ -740,6 +998,7 @@ pub fn first_support(
         return Found {
             tuples,
             kind: FOUND,
+            tried: 0,
         };
     }
     if place_behind(place, k) == members.len() {
@@ -786,7 +1045,7 @@ pub fn first_support(
     ) {
         return none;
     }
-    search(
+    let found = search_fresh(
         variables,
         values,
         starts,
@@ -796,9 +1055,23 @@ pub fn first_support(
         place,
         own,
         low,
-        k,
-        true,
-        tuples,
-        false,
-    )
+        fresh,
+    );
+    if LONG <= found.tried {
+        let tuples = found.tuples;
+        note(
+            variables,
+            values,
+            starts,
+            &candidates,
+            members,
+            place,
+            own,
+            k,
+            found.kind == FOUND,
+            tuples[k],
+            fresh,
+        );
+    }
+    found
 }

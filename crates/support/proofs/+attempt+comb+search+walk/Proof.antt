@@ -58,6 +58,7 @@ use Rattle.support.proofs.place_behind.Reads as place-behind-reads
 use Rattle.support.proofs.put.Reads as put-reads
 use Rattle.support.proofs.span_of.Reads as span-of-reads
 use Rattle.support.proofs.may_lead.Reads as may-lead-reads
+use Rattle.support.proofs.one_more.Reads as one-more-reads
 use Rattle.support.proofs.sieve_behind.Reads as sieve-behind-reads
 use Rattle.support.proofs.+attempt+comb+search+walk.{statement}
 use Rattle.support.proofs.+attempt+comb+search+walk.Tie.{close}
@@ -125,7 +126,7 @@ walk-callees t =
 
 abbrev comb-callees : ℕ → comb-lts.Claims
 comb-callees t =
-    (tuple-start-reads.Asked, tuple-start-reads.Learnt, variables-from-reads.Asked, variables-from-reads.Learnt, sieve-behind-reads.Asked, sieve-behind-reads.Learnt, may-lead-reads.Asked, may-lead-reads.Learnt, attempt-below t, attempt.Post, next-reads.Asked, next-reads.Learnt)
+    (tuple-start-reads.Asked, tuple-start-reads.Learnt, variables-from-reads.Asked, variables-from-reads.Learnt, sieve-behind-reads.Asked, sieve-behind-reads.Learnt, may-lead-reads.Asked, may-lead-reads.Learnt, attempt-below t, attempt.Post, one-more-reads.Asked, one-more-reads.Learnt, next-reads.Asked, next-reads.Learnt)
 
 -- ---- The turn of a member
 
@@ -416,11 +417,11 @@ module _ (t : ℕ) where
 -- ---- comb
 
 abbrev comb-Inv-loop : comb-lts.InvT-loop
-comb-Inv-loop variables values starts index words members place own k resumes chosen from low r first end lowest common sieve failed₀ g₀ failed g =
+comb-Inv-loop variables values starts index words members place own k resumes chosen from low r first end lowest common sieve failed₀ tried₀ g₀ failed tried g =
     let Q = searchOn variables values starts words members place own low in WalkAt Q k resumes chosen g × Known Q k resumes chosen failed
 
 abbrev comb-μ-loop : comb-lts.MeasureT-loop
-comb-μ-loop variables values starts index words members place own k resumes chosen from low r first end lowest common sieve failed₀ g₀ failed g = end - g
+comb-μ-loop variables values starts index words members place own k resumes chosen from low r first end lowest common sieve failed₀ tried₀ g₀ failed tried g = end - g
 
 module _ (t : ℕ) where
   abbrev Comb : Type 0
@@ -519,8 +520,8 @@ module _ (t : ℕ) where
         let l = at-loop in
         let a = origin l in
         ⊎-elim
-        (λ w. sym (w .1 .ensures) ∙ ap (λ (b : Bool). answer b (take (length (a .args .members .now)) (w .1 .result .tuples))) (ne-eqb (w .1 .result .kind) 1 (w .3 .left)))
-        (λ w. leads-nowhere (l .before .loop .inv .1) (lead led) (combing a) (covering l .variables-from .ensures) (x-from l) (x-to l) (l .before .before .sieve-behind .ensures) (w .left))
+        (λ w. sym (w .1 .ensures) ∙ ap (λ (b : Bool). answer b (take (length (a .args .members .now)) (w .1 .result .tuples))) (ne-eqb (w .1 .result .kind) 1 (w .4 .left)))
+        (λ w. leads-nowhere (l .before .loop .inv .1) (lead led) (combing a) (covering l .variables-from .ensures) (x-from l) (x-to l) (l .before .before .sieve-behind .ensures) (w .0 .left))
         (joined .if2 .came)
 
     nextly : WalkAt (combed (origin at-loop)) (origin at-loop .args .k) (origin at-loop .args .resumes) (origin at-loop .args .chosen) (c .next .result)
@@ -708,13 +709,14 @@ pub +attempt+comb+search+walk-spec : {M : Type 1} → statement M
     let l = here t (c .before) in
     let a = origin t l in
     (omega (arith, a .pre .0), (a .pre .1 .0 .0, record { turn = from-pre t a; from-start = x-from t l; to-end = x-to t l; lives = x-lives t l; further = a .pre .1 .1 .1 })))
+    (λ c κs. search needs)
     (λ c.
-    let u = c .before .before in
+    let u = c .before .before .before .before in
     let l = here t (u .before .before) in
     let a = origin t l in
     let ts = take (length (a .args .members .now)) (u .attempt .result .tuples) in
-    let e = ap (λ (b : Bool). answer b ts) (eq-eqb (u .attempt .result .kind) 1 (c .if3 .taken)) in
-    e ∙ sym (come-found (combing t a) (l .before .loop .g) (arrived t l) (in-line t l) ts (ap (onward (combed t a) (a .args .k) (a .args .chosen)) (sym (x-is t l)) ∙ sym (u .attempt .ensures) ∙ e)))
+    let e = ap (λ (b : Bool). answer b ts) (eq-eqb (u .attempt .result .kind) 1 (c .before .if3 .taken)) in
+    sym (come-found (combing t a) (l .before .loop .g) (arrived t l) (in-line t l) ts (ap (onward (combed t a) (a .args .k) (a .args .chosen)) (sym (x-is t l)) ∙ sym (u .attempt .ensures) ∙ e)))
     (λ c. let l = here t (c .before .before) in omega (arith, in-line t l, next-asks t l (l .before .loop .g) (arrived t l .from-start) (arrived t l .to-end) .2))
     (λ c κs.
     let l = here t (c .before .before) in
