@@ -190,7 +190,7 @@ module _ {G : Setting} {words numbers : List ℕ} {p x : ℕ} (A : Seeker G word
       bounded
 
   -- no support is earlier
-  low-lowest : (u : List ℕ) → List·Memᴰ u (candidates N c) → isSupport N S g u ≡ true → earlier (map (indexOf N) u) lowOf ≡ false
+  pub low-lowest : (u : List ℕ) → List·Memᴰ u (candidates N c) → isSupport N S g u ≡ true → earlier (map (indexOf N) u) lowOf ≡ false
   low-lowest u m s =
       ⊎-elim
       (λ e. ap (earlier (map (indexOf N) u)) e ∙ none-earlier G (A .sound) p (A .pair) x (A .index) u m (isSupport-self N S g u s))
@@ -207,6 +207,10 @@ module _ {G : Setting} {words numbers : List ℕ} {p x : ℕ} (A : Seeker G word
 
   abbrev pub searched : Search
   searched = record { lists = G .lists; words = words; members = c; place = p % G .m; own = x; low = lowOf }
+
+  -- .. and none of the search's
+  pub searched-lowest : (u : List ℕ) → List·Memᴰ u (candidates N c) → isSupport N S (seeker searched) u ≡ true → earlier (map (indexOf N) u) lowOf ≡ false
+  searched-lowest u m s = low-lowest u m (ap (λ (r : ℕ). isSupport N S (firstId N r + x) u) (sym (member-at (A .sound .laid .framed) (A .sound .paired) p (A .pair))) ∙ s)
 
   size-is : size N (getD c (p % G .m) 0) ≡ sizeOf G p
   size-is = ap (size N) (member-at (A .sound .laid .framed) (A .sound .paired) p (A .pair))

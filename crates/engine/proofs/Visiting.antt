@@ -1,19 +1,21 @@
 -- Laws of a visit under way: what holds once its walk has come to a tuple, and what each turn of the walk makes of it.
 -- From the laws of one step of a visit, and of live words.
 use mathlib.Core.Path.{_≡_, refl, sym, _∙_, ap, subst}
-use mathlib.Core.Bool.{Bool, true, false, _||_, true≢false}
+use mathlib.Core.Bool.{Bool, true, false, not, _||_, true≢false}
 use mathlib.Core.Logic.{_⊎_, inl, inr}
 use mathlib.Core.List.{List}
-use Prim.Native.Nat.{ℕ, suc, _≤_, _<_}
+use Prim.Native.Nat.{ℕ, suc, _*_, _≤_, _<_}
 use native.Mathlib.Decide.{ℕ-discrete}
 use native.Mathlib.Omega.{arith}
+use lib.Dec.{eqb}
 use lib.ListN.{length, drop}
 use Rattle.model.specs.Limits.{maxPairs}
 use Rattle.model.specs.TupleSet.{has, count}
 use Rattle.model.specs.Consistency.{needed}
 use Rattle.model.specs.LiveWords.{isLive, cleared}
-use Rattle.model.proofs.Bools.{not-both}
+use Rattle.model.proofs.Bools.{not-both, and-left}
 use Rattle.model.proofs.LiveWords.{cleared-below, cleared-length}
+use Rattle.live.proofs.Stores.{cleared-live}
 use Rattle.worklist.specs.Pairs.{queues}
 use Rattle.sweeping.specs.Shrunk.{Shrunk}
 use Rattle.sweeping.proofs.Shrunk.{shrunk-refl, shrunk-trans}
@@ -38,6 +40,14 @@ pub record VisitOf (G : Setting) (p : ℕ) (queue words numbers queue′ words�
   pub done : Done G words′ numbers′ p k
   pub same : shrunk ≡ false → (queue′ ≡ queue) × (words′ ≡ words)
   pub less : shrunk ≡ true → (count (liveIn G words′) < count (liveIn G words)) × ((q : ℕ) → q < length (G .members) → queues (G .m) (G .members) p q ≡ true → isLive queue′ q ≡ true)
+
+-- no tuple is live after a renewal that was not before
+pub renewed-inside : {G : Setting} {p x : ℕ} {words numbers words′ numbers′ : List ℕ} {found : Bool} → Renewed G p x words numbers found words′ numbers′ → tupleId G p x < 64 * length words → (g : ℕ) → isLive words′ g ≡ true → isLive words g ≡ true
+renewed-inside {G} {p} {x} {words} {numbers} {words′} {numbers′} {found} R l g e = go found refl
+  where
+    go : (b : Bool) → found ≡ b → isLive words g ≡ true
+    go true q = subst (λ (ws : List ℕ). isLive ws g ≡ true) (R .kept q .0) e
+    go false q = and-left (isLive words g) (not (eqb (tupleId G p x) g)) (sym (cleared-live words (tupleId G p x) g l) ∙ subst (λ (ws : List ℕ). isLive ws g ≡ true) (R .removed q .0) e)
 
 module _ {G : Setting} (sound : Sound G) {p : ℕ} (hp : p < length (G .members)) where
   -- nothing is done yet

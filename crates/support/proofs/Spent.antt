@@ -67,6 +67,17 @@ ones-live g h =
     ∙ isSet-not 64 0 (g % 64) (omega arith) (omega arith)
     ∙ ap not (isSet-nought (g % 64))
 
+-- .. so that every support has one beside a tuple of its own, if there is another member
+pub meets-ones : (N : Network) → total N ≤ 4096 → (c : Combination) (place : ℕ) (words : List ℕ) → 1 < length c → Meets N c place words (replicate 64 (2 ^ 64 - 1 - 0))
+meets-ones N few c place words two t m a l = go (ℕ-discrete place 0)
+  where
+    at : (j : ℕ) → j < length c → (j ≡ place → ⊥) → HasFresh t place (replicate 64 (2 ^ 64 - 1 - 0))
+    at j h d = record { j = j; inside = omega (arith, h, candidates-length N c m); other = d; is-fresh = ones-live (getD t j 0) (omega (arith, few, ids-below N (getD c j 0) (candidates-at N c m j h .1))) }
+
+    go : Dec (place ≡ 0) → HasFresh t place (replicate 64 (2 ^ 64 - 1 - 0))
+    go (yes e) = at 1 two (λ q. omega (arith, e, q))
+    go (no d) = at 0 (omega (arith, two)) (λ q. d (sym q))
+
 module _ (Q : Search) (R : SoundSearch Q) (k bound : ℕ) where
   abbrev Reached : List ℕ → Type 0
   Reached fresh = Spends (netOf Q) (Q .members) (Q .place) (Q .own) k bound fresh

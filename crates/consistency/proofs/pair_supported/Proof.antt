@@ -1,8 +1,8 @@
 -- `pair_supported` walks from one live tuple of the pair's member to the next. The invariant: every live tuple passed has a support.
 -- From what `next` and `has_support` ensure, and the laws of the test of one pair.
-use mathlib.Core.Path.{_≡_, sym, subst, _∙_}
+use mathlib.Core.Path.{_≡_, refl, sym, subst, _∙_}
 use mathlib.Core.List.{List}
-use Prim.Native.Nat.{ℕ, _+_, _-_, _*_, _/_, _≤_, _<_}
+use Prim.Native.Nat.{ℕ, _+_, _-_, _*_, _/_, _%_, _≤_, _<_}
 use native.Mathlib.Nat.{add-sub-cancel-left}
 use native.Mathlib.Omega.{arith}
 use denote.Ref.{now}
@@ -10,7 +10,11 @@ use lib.ListN.{length, getD}
 use borrow.Author.Needs.{needs}
 use Rattle.spreading.proofs.Numbers.{pair-numbers}
 use borrow.Author.Tests.{not-true, not-false}
-use Rattle.layout.specs.Setting.{Setting, setting}
+use Rattle.layout.specs.Setting.{Setting, setting, network}
+use Rattle.layout.specs.Pairs.{combinationOf}
+use Rattle.layout.proofs.SoundStarts.{tuples-few}
+use Rattle.spreading.specs.Fresh.{Meets}
+use Rattle.support.proofs.Spent.{meets-ones}
 use Rattle.layout.proofs.Pairs.{base-within, member-below}
 use Rattle.consistency.specs.Consistent.{hasSupport, PairAt}
 use Rattle.consistency.proofs.Pairs.{WalkAt, words-enough, searched, searched-sound, walk-starts, walk-goes, walk-fails, walk-ends}
@@ -19,12 +23,17 @@ use Rattle.layout.proofs.Rows.{Row, row-of, row-asks, next-ahead}
 use Rattle.consistency.proofs.pair_supported.Statement.{statement}
 use Rattle.consistency.proofs.pair_supported.Tie as tie
 
+-- every support in pair p's combination has a fresh tuple beside the member's own, if there is another member
+abbrev FreshIn : Setting → ℕ → List ℕ → List ℕ → Type 0
+FreshIn G p words fresh = Long fresh × (1 < length (combinationOf G p) → Meets (network G) (combinationOf G p) (p % G .m) words fresh)
+
 abbrev Inv-loop : tie.InvT-loop
-Inv-loop variables values starts index words members m p steps base stop r first end g₀ g =
+Inv-loop variables values starts index words members m p steps base stop r first end fresh₀ g₀ fresh g =
     WalkAt (setting (λ xs. xs) variables values starts members m) words p first end g
+    × FreshIn (setting (λ xs. xs) variables values starts members m) p words fresh
 
 abbrev μ-loop : tie.MeasureT-loop
-μ-loop variables values starts index words members m p steps base stop r first end g₀ g = end - g
+μ-loop variables values starts index words members m p steps base stop r first end fresh₀ g₀ fresh g = end - g
 
 -- ---- What it is called on
 
@@ -72,37 +81,48 @@ begun c = c .before .before .before .before
 
 has-support-requires : tie.Need-has-support-requires Inv-loop μ-loop
 has-support-requires c κs =
-    let b = begun (c .before) in
-    let a = entry b in (
-      a .pre .0,
-      record {
-        sound = rw add-sub-cancel-left (searched-sound (words-of b) (long b) (row b) (c .before .before .loop .inv) (c .before .loop-test .taken));
-        indexed = asked a .indexed;
-      },
+    let turn = c .before .before in
+    let b = begun turn in
+    let a = entry b in
+    let l = turn .before .loop in (
+      (
+        a .pre .0,
+        record {
+          sound = rw add-sub-cancel-left (searched-sound (words-of b) (long b) (row b) (l .inv .0) (turn .loop-test .taken));
+          indexed = asked a .indexed;
+        },
+      ),
+      (l .inv .1 .0, rw add-sub-cancel-left (l .inv .1 .1)),
     )
 
 -- what is answered of the tuple at g
-decided : (c : tie.After-has-support Inv-loop μ-loop) → (let turn = c .before .before in c .has-support .result ≡ hasSupport (searched (words-of (begun turn)) (long (begun turn)) (row (begun turn)) (turn .before .loop .inv) (turn .loop-test .taken)))
-decided c = rw add-sub-cancel-left at (c .has-support .ensures)
+decided : (c : tie.After-has-support Inv-loop μ-loop) → (let turn = c .before .before .before in c .has-support .result ≡ hasSupport (searched (words-of (begun turn)) (long (begun turn)) (row (begun turn)) (turn .before .loop .inv .0) (turn .loop-test .taken)))
+decided c = rw add-sub-cancel-left at (c .has-support .ensures .0)
+
+-- the fresh tuples afterwards
+beside : (c : tie.After-has-support Inv-loop μ-loop) → (let a = entry (begun (c .before .before .before)) in FreshIn (G a) (a .args .p) (a .args .words .now) (c .has-support .last .1 .1 .1 .1 .1 .1 .1 .1 .1 .0))
+beside c = (c .has-support .ensures .1 .0, rw add-sub-cancel-left at (c .has-support .ensures .1 .1))
 
 returns : tie.Need-returns Inv-loop μ-loop
 returns c =
-    let turn = c .before .before .before in
-    walk-fails (words-of (begun turn)) (long (begun turn)) (row (begun turn)) (turn .before .loop .inv) (turn .loop-test .taken) (sym (not-true _ (c .if1 .taken)) ∙ decided (c .before))
+    let turn = c .before .before .before .before in
+    walk-fails (words-of (begun turn)) (long (begun turn)) (row (begun turn)) (turn .before .loop .inv .0) (turn .loop-test .taken) (sym (not-true _ (c .if1 .taken)) ∙ decided (c .before))
 
 loop-less : tie.Need-loop-less Inv-loop μ-loop
 loop-less c =
-    let turn = c .before .before .before .before .before in
+    let turn = c .before .before .before .before .before .before in
     let f = next-ahead (entry (begun turn) .args .words .now) (turn .loop-test .taken) in
     omega (arith, f .0, f .1, c .next2 .ensures, turn .loop-test .taken)
 
 loop-again : tie.Need-loop-again Inv-loop μ-loop
 loop-again c =
-    let turn = c .before .before .before .before .before in
+    let turn = c .before .before .before .before .before .before in
     let b = begun turn in
-    let a = entry b in
-    subst (WalkAt (G a) (a .args .words .now) (a .args .p) (first b) (b .tuple-start2 .result)) (sym (c .next2 .ensures))
-    (walk-goes (words-of b) (long b) (row b) (turn .before .loop .inv) (turn .loop-test .taken) (sym (not-false _ (c .before .before .if1 .left)) ∙ decided (c .before .before .before)))
+    let a = entry b in (
+      subst (WalkAt (G a) (a .args .words .now) (a .args .p) (first b) (b .tuple-start2 .result)) (sym (c .next2 .ensures))
+          (walk-goes (words-of b) (long b) (row b) (turn .before .loop .inv .0) (turn .loop-test .taken) (sym (not-false _ (c .before .before .if1 .left)) ∙ decided (c .before .before .before))),
+      beside (c .before .before .before),
+    )
 
 pub pair-supported-spec : {M : Type 1} → statement M
 pair-supported-spec =
@@ -119,17 +139,17 @@ pair-supported-spec =
     (λ c. omega (arith, few (c .before .before .before .before .before .before)))
     (λ c κs. omega (arith, few (c .before .before .before .before .before .before)))
     (λ c κs. asks (c .before) (first (c .before)) (omega (arith, row (c .before) .is-end)))
-    (λ c. let b = c .before .before in let a = entry b in subst (WalkAt (G a) (a .args .words .now) (a .args .p) (first b) (b .tuple-start2 .result)) (sym (c .next .ensures)) (walk-starts (words-of b) (long b) (row b)))
+    (λ c. let b = c .before .before in let a = entry b in (subst (WalkAt (G a) (a .args .words .now) (a .args .p) (first b) (b .tuple-start2 .result)) (sym (c .next .ensures)) (walk-starts (words-of b) (long b) (row b)), (refl, meets-ones (network (G a)) (tuples-few (asked a .sound .laid .framed)) (combinationOf (G a) (a .args .p)) (a .args .p % a .args .m) (a .args .words .now))))
     (λ c. omega (arith, within (entry (begun c))))
     (λ c. omega (arith, within (entry (begun c))))
     (λ c. omega (arith, within (entry (begun c))))
     (λ c. omega (arith, within (entry (begun c))))
-    (λ c. omega (arith, asked (entry (begun (c .before))) .sound .paired .list .positive))
-    (λ c. c .before .before .loop .inv .from-first)
+    (λ c. omega (arith, asked (entry (begun (c .before .before))) .sound .paired .list .positive))
+    (λ c. c .before .before .before .loop .inv .0 .from-first)
     has-support-requires
     returns
-    (λ c. let turn = c .before .before .before .before in omega (arith, turn .loop-test .taken, asks (begun turn) (turn .before .loop .g) (turn .before .loop .inv .to-end) .2))
-    (λ c κs. let turn = c .before .before .before .before in asks (begun turn) (turn .before .loop .g + 1) (omega (arith, turn .loop-test .taken)))
+    (λ c. let turn = c .before .before .before .before .before in omega (arith, turn .loop-test .taken, asks (begun turn) (turn .before .loop .g) (turn .before .loop .inv .0 .to-end) .2))
+    (λ c κs. let turn = c .before .before .before .before .before in asks (begun turn) (turn .before .loop .g + 1) (omega (arith, turn .loop-test .taken)))
     loop-less
     loop-again
-    (λ c. let l = c .before in walk-ends (words-of (l .before .before .before)) (long (l .before .before .before)) (row (l .before .before .before)) (l .loop .inv) (c .loop-test .left)))
+    (λ c. let l = c .before in walk-ends (words-of (l .before .before .before)) (long (l .before .before .before)) (row (l .before .before .before)) (l .loop .inv .0) (c .loop-test .left)))

@@ -97,7 +97,7 @@ returns c =
           ∙ ap₂ (λ (b n : ℕ). live b n (l .load .result)) (base-is q) (each-is w)
           ∙ ap (live (a .args .p / a .args .m * a .args .m) (a .args .m)) (loaded-is l))
           ∙ c .if2 .taken),
-      entered-none (a .args .x) (a .args .sought .now),
+      (entered-none (a .args .x) (a .args .sought .now), a .pre .0 .1),
     )
 
 pub renew-spec : {M : Type 1} → statement M
@@ -113,6 +113,6 @@ renew-spec =
     all-live-requires
     (λ c. search needs)
     returns
-    (λ c κs. entry (c .before .before .before .before .before) .pre)
+    (λ c κs. entry (c .before .before .before .before .before .before) .pre)
     (λ c. search needs)
     (λ c. c .before .before .replace .ensures))

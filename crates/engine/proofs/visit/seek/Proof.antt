@@ -16,13 +16,14 @@ use Rattle.model.specs.LiveWords.{cleared}
 use Rattle.model.specs.Support.{supportFrom}
 use Rattle.support.specs.Search.{Search, netOf, liveOf, SoundSearch, isFound, answer}
 use Rattle.support.specs.Search as support
+use Rattle.support.specs.Spent.{FreshFrom, MeetsBeside}
 use Rattle.layout.specs.Starts.{tupleStart}
 use Rattle.layout.specs.Setting.{Setting, network, Sound}
 use Rattle.layout.specs.Pairs.{combinationOf, tupleId, placeOf}
-use Rattle.engine.specs.Work.{Seeker, Renewed}
+use Rattle.engine.specs.Work.{Seeker, Beside, Renewed}
 use Rattle.layout.proofs.SoundStarts.{tuples-few, tuple-start}
 use Rattle.layout.proofs.Pairs.{member-below, tuple-below, base-within}
-use Rattle.engine.proofs.Bounds.{held-inside, loaded, lead, lowOf, low-none, low-held, searched, ready, renewed-found, renewed-none}
+use Rattle.engine.proofs.Bounds.{held-inside, loaded, lead, lowOf, low-none, low-held, searched, searched-lowest, ready, renewed-found, renewed-none}
 use Rattle.engine.proofs.visit.seek.Statement.{statement}
 use Rattle.engine.proofs.visit.seek.Tie as tie
 
@@ -38,7 +39,7 @@ module _ (a : tie.Start) where
       }
 
   abbrev seeker : Seeker G (a .args .words .now) (a .args .numbers .now) (a .args .p) (a .args .x)
-  seeker = a .pre .1 .seeker
+  seeker = a .pre .0 .1 .seeker
 
   abbrev sound : Sound G
   sound = seeker .sound
@@ -47,7 +48,7 @@ module _ (a : tie.Start) where
   in-members = seeker .pair
 
   abbrev is-at : a .args .at ≡ placeOf G (a .args .p) (a .args .x)
-  is-at = a .pre .1 .place
+  is-at = a .pre .0 .1 .place
 
   inside : a .args .at + a .args .m ≤ length (a .args .numbers .now)
   inside = omega (arith, is-at, held-inside seeker)
@@ -119,16 +120,21 @@ search-is c =
     ∙ ap (searchOf a (combinationOf (G a) (a .args .p)) (a .args .p % a .args .m)) (low-is c)
 
 -- what it answers
-answer-is : (c : tie.After-first-support) → (let a = entry (c .before .before .before .before .before .before) in let Q = searched (seeker a) in answer (isFound (c .first-support .result .kind)) (take (length (Q .members)) (c .first-support .result .tuples)) ≡ supportFrom (netOf Q) (liveOf Q) (Q .members) (support.seeker Q) (Q .low))
+answer-is : (c : tie.After-first-support) → (let a = entry (c .before .before .before .before .before .before .before) in let Q = searched (seeker a) in answer (isFound (c .first-support .result .kind)) (take (length (Q .members)) (c .first-support .result .tuples)) ≡ supportFrom (netOf Q) (liveOf Q) (Q .members) (support.seeker Q) (Q .low))
 answer-is c =
     subst (λ (Q : Search). answer (isFound (c .first-support .result .kind)) (take (length (Q .members)) (c .first-support .result .tuples)) ≡ supportFrom (netOf Q) (liveOf Q) (Q .members) (support.seeker Q) (Q .low))
-    (search-is (c .before .before .before))
-    (c .first-support .ensures)
+    (search-is (c .before .before .before .before))
+    (c .first-support .ensures .0)
+
+-- what is known of fresh tuples afterwards
+beside : (c : tie.After-first-support) → (let a = entry (c .before .before .before .before .before .before .before) in Beside (G a) (a .args .p) (a .args .words .now) (c .first-support .last .1 .1 .1 .1 .1 .1 .1 .1 .1 .1 .0))
+beside c =
+    (c .first-support .ensures .1 .0, subst (λ (Q : Search). MeetsBeside Q (c .first-support .last .1 .1 .1 .1 .1 .1 .1 .1 .1 .1 .0)) (search-is (c .before .before .before .before)) (c .first-support .ensures .1 .1))
 
 -- ---- The tuple's id
 
 abbrev looked : tie.After-tuple-start → tie.After-wide2
-looked c = c .before .before .before .before .before .before .before .before .before .before .before
+looked c = c .before .before .before .before .before .before .before .before .before .before .before .before
 
 id-is : (c : tie.After-tuple-start) → (let a = entry (looked c) in c .tuple-start .result + a .args .x ≡ tupleId (G a) (a .args .p) (a .args .x))
 id-is c =
@@ -152,38 +158,44 @@ load-requires c κs =
 
 first-support-requires : tie.Need-first-support-requires
 first-support-requires c κs =
-    let b = c .before .before in
+    let b = c .before .before .before in
     let w = b .before .before .before in
-    let a = entry w in
-    (a .pre .0, record { sound = subst SoundSearch (sym (search-is b)) (ready (seeker a)); indexed = a .pre .1 .indexed })
+    let a = entry w in (
+      (a .pre .0 .0, record { sound = subst SoundSearch (sym (search-is b)) (ready (seeker a)); indexed = a .pre .0 .1 .indexed }),
+      (a .pre .1 .0, subst (λ (Q : Search). FreshFrom Q (a .args .fresh .now)) (sym (search-is b)) (record { meets = a .pre .1 .1; lowest = searched-lowest (seeker a) })),
+    )
 
 store-requires : tie.Need-store-requires
 store-requires c κs =
-    let w = c .before .before .before .before .before .before .before .before .before .before in
+    let w = c .before .before .before .before .before .before .before .before .before .before .before in
     let a = entry w in
     (omega (arith, each-is w, inside a), omega (arith, each-is w, sound a .paired .list .few))
 
 returns : tie.Need-returns
 returns c =
     let f = c .before .before .before .before .before .before .before in
-    let w = f .before .before .before .before .before .before in
-    let a = entry w in
-    subst (Renewed (G a) (a .args .p) (a .args .x) (a .args .words .now) (a .args .numbers .now) true (a .args .words .now))
-    (sym
-    (c .before .before .store .ensures
-    ∙ ap₂ (λ (at n : ℕ). take at (a .args .numbers .now) ++ take n (f .first-support .result .tuples) ++ drop (at + n) (a .args .numbers .now)) (is-at a) (each-is w)))
-    (renewed-found (seeker a)
-    (isFound (f .first-support .result .kind)) (f .first-support .result .tuples) (answer-is f) (eq-eqb (f .first-support .result .kind) 1 (c .before .before .before .before .before .if2 .taken)))
+    let w = f .before .before .before .before .before .before .before in
+    let a = entry w in (
+      subst (Renewed (G a) (a .args .p) (a .args .x) (a .args .words .now) (a .args .numbers .now) true (a .args .words .now))
+          (sym
+          (c .before .before .store .ensures
+          ∙ ap₂ (λ (at n : ℕ). take at (a .args .numbers .now) ++ take n (f .first-support .result .tuples) ++ drop (at + n) (a .args .numbers .now)) (is-at a) (each-is w)))
+          (renewed-found (seeker a)
+          (isFound (f .first-support .result .kind)) (f .first-support .result .tuples) (answer-is f) (eq-eqb (f .first-support .result .kind) 1 (c .before .before .before .before .before .if2 .taken))),
+      beside f,
+    )
 
 returns-2 : tie.Need-returns-2
 returns-2 c =
     let l = c .before in
     let f = l .before .before .before .before .before in
-    let a = entry (looked l) in
-    subst (λ (ws : List ℕ). Renewed (G a) (a .args .p) (a .args .x) (a .args .words .now) (a .args .numbers .now) false ws (a .args .numbers .now))
-    (sym (c .clear .ensures ∙ ap (λ (g : ℕ). cleared g (a .args .words .now)) (id-is l)))
-    (renewed-none (seeker a)
-    (isFound (f .first-support .result .kind)) (f .first-support .result .tuples) (answer-is f) (ne-eqb (f .first-support .result .kind) 1 (l .before .before .before .if2 .left)))
+    let a = entry (looked l) in (
+      subst (λ (ws : List ℕ). Renewed (G a) (a .args .p) (a .args .x) (a .args .words .now) (a .args .numbers .now) false ws (a .args .numbers .now))
+          (sym (c .clear .ensures ∙ ap (λ (g : ℕ). cleared g (a .args .words .now)) (id-is l)))
+          (renewed-none (seeker a)
+          (isFound (f .first-support .result .kind)) (f .first-support .result .tuples) (answer-is f) (ne-eqb (f .first-support .result .kind) 1 (l .before .before .before .if2 .left))),
+      beside f,
+    )
 
 pub seek-spec : {M : Type 1} → statement M
 seek-spec =
@@ -205,8 +217,8 @@ seek-spec =
     (λ c. search needs)
     returns
     (λ c. search needs)
-    (λ c. let w = c .before .before .before .before .before .before .before .before .before .before in omega (arith, pair-is w, in-members (entry w)))
-    (λ c κs. let w = c .before .before .before .before .before .before .before .before .before .before in let a = entry w in let h = member-below (sound a .laid .framed) (sound a .paired) (a .args .p) (in-members a) in subst (λ (q : ℕ). getD (a .args .members .now) q 0 < 65) (sym (pair-is w)) (omega arith))
+    (λ c. let w = c .before .before .before .before .before .before .before .before .before .before .before in omega (arith, pair-is w, in-members (entry w)))
+    (λ c κs. let w = c .before .before .before .before .before .before .before .before .before .before .before in let a = entry w in let h = member-below (sound a .laid .framed) (sound a .paired) (a .args .p) (in-members a) in subst (λ (q : ℕ). getD (a .args .members .now) q 0 < 65) (sym (pair-is w)) (omega arith))
     (λ c. let a = entry (looked c) in omega (arith, id-below c, tuples-few (sound a .laid .framed)))
     (λ c κs. let a = entry (looked c) in omega (arith, id-below c, seeker a .working .space .enough))
     returns-2)

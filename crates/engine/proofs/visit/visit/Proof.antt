@@ -1,10 +1,10 @@
 -- `visit::visit` meets its contract. The loop's invariant: the walk has come to `g`, and all before it is done. The measure is what is left of the walk.
 -- From the laws of a visit's walk, and the contracts of the functions called.
-use mathlib.Core.Path.{_≡_, sym, _∙_, ap, ap₂, subst}
+use mathlib.Core.Path.{_≡_, refl, sym, _∙_, ap, ap₂, subst}
 use mathlib.Core.Bool.{Bool, true, false}
 use mathlib.Core.Logic.{⊎-elim}
 use mathlib.Core.List.{List}
-use Prim.Native.Nat.{ℕ, suc, _+_, _-_, _*_, _≤_, _<_}
+use Prim.Native.Nat.{ℕ, suc, _+_, _-_, _*_, _%_, _≤_, _<_}
 use native.Mathlib.Nat.{zero-mul}
 use native.Mathlib.Omega.{arith}
 use lib.ListN.{length, getD}
@@ -16,15 +16,17 @@ use Rattle.model.specs.LiveWords.{isLive}
 use Rattle.worklist.specs.Pairs.{queues}
 use Rattle.worklist.specs.declared.queue.Queue.{Queue}
 use Rattle.layout.specs.Starts.{tupleStart}
-use Rattle.layout.specs.Setting.{Setting, Sound}
-use Rattle.layout.specs.Pairs.{placeOf}
+use Rattle.layout.specs.Setting.{Setting, network, Sound}
+use Rattle.layout.specs.Pairs.{combinationOf, placeOf}
 use Rattle.twins.specs.Twins.{Noted}
 use Rattle.twins.proofs.Sought.{noted-none, noted-more}
-use Rattle.engine.specs.Work.{Working}
+use Rattle.spreading.proofs.Meeting.{meets-fewer}
+use Rattle.support.proofs.Spent.{meets-ones}
+use Rattle.engine.specs.Work.{Working, Beside}
 use Rattle.layout.proofs.SoundStarts.{tuples-few}
 use Rattle.layout.proofs.Outline.{supportStart-outline}
-use Rattle.layout.proofs.Pairs.{member-below}
-use Rattle.engine.proofs.Visiting.{VisitOf, going-kept, going-removed, going-noted, still-waits, requeued-waits}
+use Rattle.layout.proofs.Pairs.{member-below, tuple-below}
+use Rattle.engine.proofs.Visiting.{VisitOf, renewed-inside, going-kept, going-removed, going-noted, still-waits, requeued-waits}
 use Rattle.engine.proofs.Walking.{WalkAt, come-first, come-end, index-lives, come-more, place-short}
 use Rattle.layout.proofs.Rows.{Row, row-of, row-total, row-asks, row-index, next-ahead}
 use Rattle.engine.proofs.visit.visit.Statement.{statement}
@@ -35,12 +37,13 @@ settingOf variables values starts members m =
     record { lists = record { variables = variables; values = values; starts = starts }; members = members; m = m }
 
 abbrev Inv-loop : tie.InvT-loop
-Inv-loop variables values starts index members m pair-starts words₀ numbers₀ p common steps r first end start sought₀ waiting₀ shrunk₀ g₀ words numbers sought waiting shrunk g =
+Inv-loop variables values starts index members m pair-starts words₀ numbers₀ p common steps r first end start sought₀ fresh₀ waiting₀ shrunk₀ g₀ words numbers sought fresh waiting shrunk g =
     WalkAt (settingOf variables values starts members m) p first end (waiting₀ .words) words₀ numbers₀ (waiting .words) words numbers shrunk g
     × Noted (settingOf variables values starts members m) words p (g - first) sought
+    × Beside (settingOf variables values starts members m) p words fresh
 
 abbrev μ-loop : tie.MeasureT-loop
-μ-loop variables values starts index members m pair-starts words₀ numbers₀ p common steps r first end start sought₀ waiting₀ shrunk₀ g₀ words numbers sought waiting shrunk g = end - g
+μ-loop variables values starts index members m pair-starts words₀ numbers₀ p common steps r first end start sought₀ fresh₀ waiting₀ shrunk₀ g₀ words numbers sought fresh waiting shrunk g = end - g
 
 -- ---- What it is called on
 
@@ -117,7 +120,7 @@ place-small c =
 -- ---- After the tuple's renewal
 
 abbrev turning : tie.After-renew Inv-loop μ-loop → tie.In-loop Inv-loop μ-loop
-turning c = c .before .before .before .before .before .before
+turning c = c .before .before .before .before .before .before .before
 
 abbrev words-after : tie.After-renew Inv-loop μ-loop → List ℕ
 words-after c = c .renew .last .1 .1 .1 .1 .1 .1 .0
@@ -169,7 +172,19 @@ noted c =
     (c .renew .ensures .0)
     (index-lives (row b) (l .inv .0) (i .loop-test .taken))
     (l .inv .1)
-    (c .renew .ensures .1)
+    (c .renew .ensures .1 .0)
+
+abbrev fresh-after : tie.After-renew Inv-loop μ-loop → List ℕ
+fresh-after c = c .renew .last .1 .1 .1 .1 .1 .1 .1 .1 .1 .1 .1 .1 .1 .1 .0
+
+beside : (c : tie.After-renew Inv-loop μ-loop) → (let a = entry (begun (turning c)) in Beside (G a) (a .args .p) (words-after c) (fresh-after c))
+beside c =
+    let i = turning c in
+    let a = entry (begun i) in
+    let l = i .before .loop in
+    let N = network (G a) in
+    let E = c .renew .ensures in
+    (E .1 .1 .0, λ two. meets-fewer N (combinationOf (G a) (a .args .p)) (a .args .p % a .args .m) (l .words) (words-after c) (fresh-after c) (renewed-inside (E .0) (omega (arith, tuple-below (sound a) (a .args .p) (l .g - first (begun i)) (in-members a) (row-index (row (begun i)) (l .inv .0 .from-first) (i .loop-test .taken)), l .inv .0 .going .working .space .enough))) (E .1 .1 .1 two))
 
 abbrev renewed : tie.Joined1 Inv-loop μ-loop → tie.After-renew Inv-loop μ-loop
 renewed c = c .before .before .before
@@ -206,16 +221,16 @@ loop-holds : tie.Need-loop-holds Inv-loop μ-loop
 loop-holds c =
     let b = c .before .before .before in
     let a = entry b in
-    (subst (WalkAt (G a) (a .args .p) (first b) (end b) (a .args .queue .words) (a .args .words .now) (a .args .numbers .now) (a .args .queue .words) (a .args .words .now) (a .args .numbers .now) false) (sym (c .next .ensures)) (come-first (row b) (a .pre .0 .small) (work a)), noted-none (a .args .words .now) (c .next .result - first b))
+    (subst (WalkAt (G a) (a .args .p) (first b) (end b) (a .args .queue .words) (a .args .words .now) (a .args .numbers .now) (a .args .queue .words) (a .args .words .now) (a .args .numbers .now) false) (sym (c .next .ensures)) (come-first (row b) (a .pre .0 .small) (work a)), noted-none (a .args .words .now) (c .next .result - first b), (refl, meets-ones (network (G a)) (tuples-few (sound a .laid .framed)) (combinationOf (G a) (a .args .p)) (a .args .p % a .args .m) (a .args .words .now)))
 
 renew-requires : tie.Need-renew-requires Inv-loop μ-loop
 renew-requires c κs =
-    let w = c .before .before .before in
+    let w = c .before .before .before .before in
     let i = w .before .before in
     let b = begun i in
     let a = entry b in
     let l = i .before .loop in (
-      l .inv .0 .going .wide ∙ a .pre .0 .long,
+      (l .inv .0 .going .wide ∙ a .pre .0 .long, l .inv .2),
       record {
         seek = record {
           seeker = record {
@@ -236,7 +251,7 @@ renew-requires c κs =
 
 requeue-requires : tie.Need-requeue-requires Inv-loop μ-loop
 requeue-requires c κs =
-    let a = entry (begun (c .before .before .before .before .before .before .before .before .before .before)) in
+    let a = entry (begun (c .before .before .before .before .before .before .before .before .before .before .before)) in
     (sound a .paired .list, in-members a)
 
 add-next : tie.Need-add-next Inv-loop μ-loop
@@ -276,6 +291,7 @@ loop-again c =
       subst (WalkAt (G a) (a .args .p) (first b) (end b) (a .args .queue .words) (a .args .words .now) (a .args .numbers .now) (j .if1 .waiting .words) (words-after n) (numbers-after n) (j .if1 .shrunk)) (sym (c .next2 .ensures))
           (come-more (row b) (l .inv .0) (i .loop-test .taken) (turned j)),
       noted-more (omega (arith, f .0, c .next2 .ensures, l .inv .0 .from-first)) (noted n),
+      beside n,
     )
 
 returns : tie.Need-returns Inv-loop μ-loop
