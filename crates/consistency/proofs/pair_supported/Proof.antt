@@ -144,8 +144,8 @@ pair-supported-spec =
     (λ c. omega (arith, within (entry (begun c))))
     (λ c. omega (arith, within (entry (begun c))))
     (λ c. omega (arith, within (entry (begun c))))
-    (λ c. omega (arith, asked (entry (begun (c .before .before))) .sound .paired .list .positive))
-    (λ c. c .before .before .before .loop .inv .0 .from-first)
+    (λ c. omega (arith, asked (entry (begun (c .before))) .sound .paired .list .positive))
+    (λ c. c .before .before .loop .inv .0 .from-first)
     has-support-requires
     returns
     (λ c. let turn = c .before .before .before .before .before in omega (arith, turn .loop-test .taken, asks (begun turn) (turn .before .loop .g) (turn .before .loop .inv .0 .to-end) .2))
