@@ -62,7 +62,7 @@ fn has_support(
         steps,
         fresh,
     );
-    found.kind == FOUND
+    found.kind % 2 == FOUND
 }
 
 // Whether every live tuple of pair p's member has a support in the pair's combination.

@@ -84,7 +84,7 @@ fn seek(
         steps,
         fresh,
     );
-    if found.kind == FOUND {
+    if found.kind % 2 == FOUND {
         let tuples = found.tuples;
         store(numbers, at, each, tuples);
         return true;

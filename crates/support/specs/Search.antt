@@ -4,7 +4,7 @@ use mathlib.Core.Bool.{Bool, true, false, _&&_, cond}
 use mathlib.Core.Option.{Option, none, some}
 use mathlib.Core.Logic.{_⊎_}
 use mathlib.Core.List.{List, [], _∷_, _++_, map}
-use Prim.Native.Nat.{ℕ, suc, _+_, _-_, _*_, _≤_, _<_}
+use Prim.Native.Nat.{ℕ, suc, _+_, _-_, _*_, _%_, _≤_, _<_}
 use lib.Dec.{eqb}
 use lib.ListN.{length, getD, take, drop, set}
 use Rattle.model.specs.Limits.{wordBits, maxRelations, maxMembers}
@@ -182,7 +182,7 @@ left Q k resumes chosen g =
 
 -- what a search came to is a support
 abbrev pub isFound : ℕ → Bool
-isFound kind = eqb kind 1
+isFound kind = eqb (kind % 2) 1
 
 -- what this and the first m indices stand for
 abbrev pub answer : Bool → List ℕ → Option (List ℕ)

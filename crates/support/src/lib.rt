@@ -12,7 +12,7 @@ ghost use Rattle.layout.specs.Starts.{tupleStart, SoundStarts};
 ghost use Rattle.layout.specs.Setting.{lists, networkIn};
 ghost use Rattle.narrowing.specs.Narrows.{Long};
 ghost use Rattle.support.specs.Spent.{SpendAt, Spent, EndBelow, FreshAt, Spends, NoteAt, Notes, Rooted, MeetsIn, MeetsBeside, FreshFrom};
-ghost use Rattle.support.specs.Search.{searching, Seeking, SearchAt, pastOwn, placeBehind, spanAt, fits, Trial, FittingAt, FirstFitting, TurnOf, Sifts, MayLead, AttemptAt, Attempts, WalkAt, Walks, Finds, FindsFirst};
+ghost use Rattle.support.specs.Search.{searching, Seeking, SearchAt, pastOwn, placeBehind, spanAt, fits, Trial, FittingAt, FirstFitting, TurnOf, Sifts, MayLead, AttemptAt, Attempts, WalkAt, Walks, isFound, Finds, FindsFirst};
 use doubles::PLACES;
 use doubles::Table;
 use doubles::alike::variables_from;
@@ -72,19 +72,18 @@ pub fn put(tuples: Indices, k: usize, x: u16) -> Indices
     t
 }
 
-// What a search came to: a support, or none, after a search that was hard or not.
+// What a search came to: a support, or none; and from HARD on it was hard.
 pub const FOUND: u16 = 1;
 
 const NONE: u16 = 0;
 
 const HARD: u16 = 2;
 
-// The indices of a support, one for each member, if the kind is FOUND; and how many choices a hard search has tried, if they are fewer than
-// LONG. Its fields are of one width and are read back as they are written: a word made of two flags would be waited for.
+// The indices of a support, one for each member, if the kind is odd; half of the kind is how many choices a hard search has tried, if they are
+// fewer than LONG. Its fields are of one width and are read back as they are written: a word made of two flags would be waited for.
 pub struct Found {
     pub tuples: Indices,
     pub kind: u16,
-    pub tried: u16,
 }
 
 // How a walk over a member's tuples ended: with a support, or at an id before which no tuple leads to one.
@@ -282,15 +281,10 @@ fn attempt_last(
             return Found {
                 tuples,
                 kind: FOUND,
-                tried: 0,
             };
         }
     }
-    Found {
-        tuples,
-        kind: NONE,
-        tried: 0,
-    }
+    Found { tuples, kind: NONE }
 }
 
 // The first support at or after `low` that has the tuples chosen for the members before k, and tuple x for member k, which is not the last.
@@ -366,11 +360,7 @@ fn attempt(
             );
         }
     }
-    Found {
-        tuples,
-        kind: NONE,
-        tried: 0,
-    }
+    Found { tuples, kind: NONE }
 }
 
 // The walk over member k's live tuples from id `from` on, at the turn that `search` is called for. It stops where the search is hard.
@@ -416,7 +406,7 @@ fn walk(
             false,
         );
         let kind = found.kind;
-        if kind == FOUND {
+        if kind % 2 == FOUND {
             let tuples = found.tuples;
             return Walked {
                 tuples,
@@ -426,7 +416,7 @@ fn walk(
         }
         g = next(words, g + 1, end);
         failures += 1;
-        if kind == HARD || failures == FAILURES {
+        if HARD <= kind || failures == FAILURES {
             return Walked {
                 tuples: chosen,
                 kind: HARD,
@@ -518,6 +508,17 @@ fn one_more(tried: u16, behind: u16) -> u16 {
     tried + behind + 1
 }
 
+// The kind, FOUND or HARD, after so many choices.
+fn after(tried: u16, kind: u16) -> u16
+    requires { ⌜ kind < 3 ⌝ }
+    ensures { λ k. ⌜ isFound k ≡ isFound kind ⌝ }
+{
+    if LONG <= tried {
+        return 2 * LONG + kind;
+    }
+    2 * tried + kind
+}
+
 // What `search` is called for, sought from id `from` on, where it is hard: a tuple is passed over that has the values of one that failed, under
 // all variables of the members behind.
 fn comb(
@@ -582,13 +583,13 @@ fn comb(
                 x,
                 true,
             );
-            tried = one_more(tried, found.tried);
-            if found.kind == FOUND {
+            let kind = found.kind;
+            tried = one_more(tried, kind / 2);
+            if kind % 2 == FOUND {
                 let tuples = found.tuples;
                 return Found {
                     tuples,
-                    kind: FOUND,
-                    tried,
+                    kind: after(tried, FOUND),
                 };
             }
         }
@@ -596,8 +597,7 @@ fn comb(
     }
     Found {
         tuples: chosen,
-        kind: HARD,
-        tried,
+        kind: after(tried, HARD),
     }
 }
 
@@ -660,12 +660,8 @@ fn search(
     let tuples = walked.tuples;
     let kind = walked.kind;
     let at = walked.at;
-    if kind == FOUND || end <= at {
-        return Found {
-            tuples,
-            kind,
-            tried: 0,
-        };
+    if kind % 2 == FOUND || end <= at {
+        return Found { tuples, kind };
     }
     let mut fewer = *words;
     let steps = steps_between(index, starts, words, members, place, k);
@@ -681,11 +677,7 @@ fn search(
         steps,
         MANY,
     ) {
-        return Found {
-            tuples,
-            kind,
-            tried: 0,
-        };
+        return Found { tuples, kind };
     }
     let again = next(&fewer, at, end);
     comb(
@@ -743,7 +735,6 @@ fn search_last(
         return Found {
             tuples: chosen,
             kind: NONE,
-            tried: 0,
         };
     }
     let full = past_own(place, own, k + 1, put(chosen, k, g - span.first));
@@ -751,7 +742,6 @@ fn search_last(
     Found {
         tuples,
         kind: FOUND,
-        tried: 0,
     }
 }
 
@@ -946,7 +936,6 @@ fn search_fresh(
         return Found {
             tuples: low,
             kind: NONE,
-            tried: 0,
         };
     }
     search_all(
@@ -985,7 +974,6 @@ pub fn first_support(
     let none = Found {
         tuples: low,
         kind: NONE,
-        tried: 0,
     };
     let r = members[place];
     if !is_live(words, tuple_start(starts, r) + own) {
@@ -998,7 +986,6 @@ pub fn first_support(
         return Found {
             tuples,
             kind: FOUND,
-            tried: 0,
         };
     }
     if place_behind(place, k) == members.len() {
@@ -1057,7 +1044,7 @@ pub fn first_support(
         low,
         fresh,
     );
-    if LONG <= found.tried {
+    if 2 * LONG <= found.kind {
         let tuples = found.tuples;
         note(
             variables,
@@ -1068,7 +1055,7 @@ pub fn first_support(
             place,
             own,
             k,
-            found.kind == FOUND,
+            found.kind % 2 == FOUND,
             tuples[k],
             fresh,
         );

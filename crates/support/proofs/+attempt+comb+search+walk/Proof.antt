@@ -6,7 +6,7 @@ use mathlib.Core.Bool.{Bool, true, false, _&&_}
 use mathlib.Core.Option.{Option, none, some}
 use mathlib.Core.List.{List, List·Memᴰ}
 use mathlib.Core.Logic.{_⊎_, ⊎-elim}
-use Prim.Native.Nat.{ℕ, _+_, _-_, _*_, _≤_, _<_}
+use Prim.Native.Nat.{ℕ, _+_, _-_, _*_, _%_, _≤_, _<_}
 use native.Mathlib.Omega.{arith}
 use lib.Dec.{eqb}
 use lib.ListN.{length, getD, take, set, length-set}
@@ -59,6 +59,7 @@ use Rattle.support.proofs.put.Reads as put-reads
 use Rattle.support.proofs.span_of.Reads as span-of-reads
 use Rattle.support.proofs.may_lead.Reads as may-lead-reads
 use Rattle.support.proofs.one_more.Reads as one-more-reads
+use Rattle.support.proofs.after.Reads as after-reads
 use Rattle.support.proofs.sieve_behind.Reads as sieve-behind-reads
 use Rattle.support.proofs.+attempt+comb+search+walk.{statement}
 use Rattle.support.proofs.+attempt+comb+search+walk.Tie.{close}
@@ -126,7 +127,7 @@ walk-callees t =
 
 abbrev comb-callees : ℕ → comb-lts.Claims
 comb-callees t =
-    (tuple-start-reads.Asked, tuple-start-reads.Learnt, variables-from-reads.Asked, variables-from-reads.Learnt, sieve-behind-reads.Asked, sieve-behind-reads.Learnt, may-lead-reads.Asked, may-lead-reads.Learnt, attempt-below t, attempt.Post, one-more-reads.Asked, one-more-reads.Learnt, next-reads.Asked, next-reads.Learnt)
+    (tuple-start-reads.Asked, tuple-start-reads.Learnt, variables-from-reads.Asked, variables-from-reads.Learnt, sieve-behind-reads.Asked, sieve-behind-reads.Learnt, may-lead-reads.Asked, may-lead-reads.Learnt, attempt-below t, attempt.Post, one-more-reads.Asked, one-more-reads.Learnt, after-reads.Asked, after-reads.Learnt, next-reads.Asked, next-reads.Learnt)
 
 -- ---- The turn of a member
 
@@ -361,7 +362,7 @@ module _ (t : ℕ) where
         (come-next (walking a) (l .before .loop .g) (reached l) (inside l)
         (ap (onward (walked a) (a .args .k) (a .args .chosen)) (sym (is-g l))
         ∙ sym (tried .attempt .ensures)
-        ∙ ap (λ (b : Bool). answer b (take (length (a .args .members .now)) (tried .attempt .result .tuples))) (ne-eqb (tried .attempt .result .kind) 1 (c .before .before .if1 .left))))
+        ∙ ap (λ (b : Bool). answer b (take (length (a .args .members .now)) (tried .attempt .result .tuples))) (ne-eqb (tried .attempt .result .kind % 2) 1 (c .before .before .if1 .left))))
 
     further-on : (l₀ : ℕ) → l₀ ≡ looped .before .loop .g → l₀ < c .next .result
     further-on l₀ e =
@@ -391,7 +392,7 @@ module _ (t : ℕ) where
       let l = u .before in
       let a = begun l in
       let ts = take (length (a .args .members .now)) (u .attempt .result .tuples) in
-      let found = eq-eqb (u .attempt .result .kind) 1 (c .before .if1 .taken) in
+      let found = eq-eqb (u .attempt .result .kind % 2) 1 (c .before .if1 .taken) in
       record {
         found =
             λ e.
@@ -520,7 +521,7 @@ module _ (t : ℕ) where
         let l = at-loop in
         let a = origin l in
         ⊎-elim
-        (λ w. sym (w .1 .ensures) ∙ ap (λ (b : Bool). answer b (take (length (a .args .members .now)) (w .1 .result .tuples))) (ne-eqb (w .1 .result .kind) 1 (w .4 .left)))
+        (λ w. sym (w .1 .ensures) ∙ ap (λ (b : Bool). answer b (take (length (a .args .members .now)) (w .1 .result .tuples))) (ne-eqb (w .1 .result .kind % 2) 1 (w .3 .left)))
         (λ w. leads-nowhere (l .before .loop .inv .1) (lead led) (combing a) (covering l .variables-from .ensures) (x-from l) (x-to l) (l .before .before .sieve-behind .ensures) (w .0 .left))
         (joined .if2 .came)
 
@@ -607,7 +608,7 @@ module _ (t : ℕ) where
     same = turn-sought (sent input) fewest (input .args .k) (p .spread-members .ensures .0) (p .spread-members .ensures .1 .0) (sound input) (asked input .inside) (input .args .resumes) (input .args .chosen) (asked input .prefix)
 
     unfound : isFound (first-walk .walk .result .kind) ≡ false
-    unfound = ne-eqb (first-walk .walk .result .kind) 1 (stopped .before .if2 .left)
+    unfound = ne-eqb (first-walk .walk .result .kind % 2) 1 (stopped .before .if2 .left)
 
     came : WalkAt (sent input) (input .args .k) (input .args .resumes) (input .args .chosen) (first-walk .walk .result .at)
     came = first-walk .walk .ensures .on unfound
@@ -710,13 +711,14 @@ pub +attempt+comb+search+walk-spec : {M : Type 1} → statement M
     let a = origin t l in
     (omega (arith, a .pre .0), (a .pre .1 .0 .0, record { turn = from-pre t a; from-start = x-from t l; to-end = x-to t l; lives = x-lives t l; further = a .pre .1 .1 .1 })))
     (λ c κs. search needs)
+    (λ c κs. search needs)
     (λ c.
     let u = c .before .before .before .before in
     let l = here t (u .before .before) in
     let a = origin t l in
     let ts = take (length (a .args .members .now)) (u .attempt .result .tuples) in
-    let e = ap (λ (b : Bool). answer b ts) (eq-eqb (u .attempt .result .kind) 1 (c .before .if3 .taken)) in
-    sym (come-found (combing t a) (l .before .loop .g) (arrived t l) (in-line t l) ts (ap (onward (combed t a) (a .args .k) (a .args .chosen)) (sym (x-is t l)) ∙ sym (u .attempt .ensures) ∙ e)))
+    let e = ap (λ (b : Bool). answer b ts) (eq-eqb (u .attempt .result .kind % 2) 1 (c .before .before .if3 .taken)) in
+    ap (λ (b : Bool). answer b ts) (c .after .ensures) ∙ sym (come-found (combing t a) (l .before .loop .g) (arrived t l) (in-line t l) ts (ap (onward (combed t a) (a .args .k) (a .args .chosen)) (sym (x-is t l)) ∙ sym (u .attempt .ensures) ∙ e)))
     (λ c. let l = here t (c .before .before) in omega (arith, in-line t l, next-asks t l (l .before .loop .g) (arrived t l .from-start) (arrived t l .to-end) .2))
     (λ c κs.
     let l = here t (c .before .before) in
@@ -726,9 +728,12 @@ pub +attempt+comb+search+walk-spec : {M : Type 1} → statement M
     (λ c.
     let l = at-loop t c in
     (nextly t c, known-next (l .before .loop .inv .1) (lead t (led t c)) (x-from t l) (x-to t l) (x-lives t l) (barren t c)))
+    (λ c κs. search needs)
     (λ c.
-    let a = c .before .before .before .before .before .before .before .before .before .before in
-    sym (come-none (combing t a) (c .before .loop .g) (c .before .loop .inv .0) (omega (arith, c .loop-test .left, c .before .before .before .before .tuple-start2 .ensures)))))
+    let e = c .before in
+    let a = e .before .before .before .before .before .before .before .before .before .before in
+    ap (λ (b : Bool). answer b (take (length (a .args .members .now)) (a .args .chosen))) (c .after2 .ensures)
+    ∙ sym (come-none (combing t a) (e .before .loop .g) (e .before .loop .inv .0) (omega (arith, e .loop-test .left, e .before .before .before .before .tuple-start2 .ensures)))))
     (λ t. search-lts.spec (search-callees t) (search-at t) search′.Post
     (λ c. let a = c .before .before .before in omega (arith, sound t a .few, asked t a .inside))
     (λ c. asked t (c .before .before .before .before) .inside)
@@ -751,9 +756,9 @@ pub +attempt+comb+search+walk-spec : {M : Type 1} → statement M
     let ts = take (length (a .args .members .now)) (w .walk .result .tuples) in
     let kind = w .walk .result .kind in
     ⊎-elim
-    (λ v. let e = eq-eqb kind 1 (v .taken) in ap (λ (b : Bool). answer b ts) e ∙ sym (w .walk .ensures .found e))
+    (λ v. let e = eq-eqb (kind % 2) 1 (v .taken) in ap (λ (b : Bool). answer b ts) e ∙ sym (w .walk .ensures .found e))
     (λ v.
-    let e = ne-eqb kind 1 (v .0 .left) in
+    let e = ne-eqb (kind % 2) 1 (v .0 .left) in
     ap (λ (b : Bool). answer b ts) e ∙ sym (come-none (going t a) (w .walk .result .at) (w .walk .ensures .on e) (omega (arith, leb-true (spanned t n .span-of .result .end) (w .walk .result .at) (v .1 .taken), stop-is t n))))
     (c .if2 .came))
     (search-steps-between-requires t)

@@ -298,6 +298,7 @@ first-support-spec =
     spread-members-requires
     returns-5
     search-fresh-requires
+    (λ c. search needs)
     (λ c. let f = c .before .before .before .before .before in omega (arith, at-inside f, asked f .pre .0 .1 .sound .few))
     (λ c. let f = c .before .before .before .before .before in omega (arith, at-inside f, asked f .pre .0 .1 .sound .few))
     note-requires

@@ -181,7 +181,7 @@ returns c =
           (c .before .before .store .ensures
           ∙ ap₂ (λ (at n : ℕ). take at (a .args .numbers .now) ++ take n (f .first-support .result .tuples) ++ drop (at + n) (a .args .numbers .now)) (is-at a) (each-is w)))
           (renewed-found (seeker a)
-          (isFound (f .first-support .result .kind)) (f .first-support .result .tuples) (answer-is f) (eq-eqb (f .first-support .result .kind) 1 (c .before .before .before .before .before .if2 .taken))),
+          (isFound (f .first-support .result .kind)) (f .first-support .result .tuples) (answer-is f) (eq-eqb (f .first-support .result .kind % 2) 1 (c .before .before .before .before .before .if2 .taken))),
       beside f,
     )
 
@@ -193,7 +193,7 @@ returns-2 c =
       subst (λ (ws : List ℕ). Renewed (G a) (a .args .p) (a .args .x) (a .args .words .now) (a .args .numbers .now) false ws (a .args .numbers .now))
           (sym (c .clear .ensures ∙ ap (λ (g : ℕ). cleared g (a .args .words .now)) (id-is l)))
           (renewed-none (seeker a)
-          (isFound (f .first-support .result .kind)) (f .first-support .result .tuples) (answer-is f) (ne-eqb (f .first-support .result .kind) 1 (l .before .before .before .if2 .left))),
+          (isFound (f .first-support .result .kind)) (f .first-support .result .tuples) (answer-is f) (ne-eqb (f .first-support .result .kind % 2) 1 (l .before .before .before .if2 .left))),
       beside f,
     )
 
