@@ -1,11 +1,11 @@
 /* The filter in plain C, by the algorithm of the proved engine: an index of values by digits, sweeps, a queue of pairs of combination and
  * member; in a visit twins, the seeking tuple tried first, members spread to and narrowed, each search resumed at the fallen support; in
- * a hard search members spread to each other, a sieve of values, and tuples like one that failed passed over. Tuples are known by id, so
- * that candidates of all relations are one array of words. */
+ * a hard search members spread to each other, a sieve of values, and tuples like one that failed passed over; in a visit, what a long
+ * search has come to narrows those after it. Tuples are known by id, so that candidates of all relations are one array of words. */
 #include "leaves.h"
 #include <string.h>
 
-enum { TABLE = 9216, MAX_DIGITS = 4, MAX_ROWS = 1024, MAX_SWEEPS = 2, FEW = 8, MANY = 64, FAILURES = 16, PLACES = 2048, SAMPLE = 32 };
+enum { TABLE = 9216, MAX_DIGITS = 4, MAX_ROWS = 1024, MAX_SWEEPS = 2, FEW = 8, MANY = 64, FAILURES = 16, LONG = 256, PLACES = 2048, SAMPLE = 32 };
 enum { MAX_SHARED = MAX_WIDTH, MAX_KEPT = MAX_SHARED * MAX_DIGITS };
 
 /* A relation: its tuples have the ids from first on and below end; these are in the words from word on and below last. */
@@ -50,6 +50,8 @@ typedef struct {
     columns shared[MAX_MEMBERS][MAX_MEMBERS];
     int steps, nearer[MAX_MEMBERS], farther[MAX_MEMBERS]; /* which members are spread to, through which */
     uint16_t low[MAX_MEMBERS];                            /* where the search resumes */
+    bool noted;              /* a long search has ended: */
+    uint64_t fresh[WORDS];   /* every support has one of these beside the member's own tuple */
 } visit;
 
 static inline bool is_live(const uint64_t *words, int g) { return words[g / 64] >> g % 64 & 1; }
@@ -283,7 +285,7 @@ static void find_steps(visit *v) {
 
 static void plan(visit *v, const filtering *f, size_t p) {
     const network *n = f->n;
-    v->f = f, v->m = (int)n->m, v->place = (int)(p % n->m), v->common = 0, v->bare = false;
+    v->f = f, v->m = (int)n->m, v->place = (int)(p % n->m), v->common = 0, v->bare = v->noted = false;
     for (int j = 0; j < v->m; j++) {
         const relation *r = v->members[j] = f->relations + n->members[p - p % n->m + (size_t)j];
         v->bare |= is_empty(f->live, r);
@@ -393,13 +395,14 @@ static int first_alike(uint16_t *table, const relation *r, int x, uint64_t varia
 
 /* ---- A hard search. */
 
-/* The open members from j on, spread to from those that have not half as many candidates. */
+/* The open members from j on, spread to from those that have not half as many candidates as they or as member j. */
 static bool spread_open(const visit *v, uint64_t *words, int j) {
     int count[MAX_MEMBERS] = {0};
     for (int k = j; k < v->m; k++) count[k] = count_of(words, v->members[k]);
     for (int to = j; to < v->m; to++)
         for (int from = j; from < v->m; from++) {
-            if (to == v->place || from == v->place || count[from] >= count[to] / 2 || !v->shared[from][to].count) continue;
+            if (to == from || to == v->place || from == v->place || !v->shared[from][to].count) continue;
+            if (count[from] >= count[to] / 2 && count[from] >= count[j] / 2) continue;
             if (!spread(v, words, from, to, MANY)) return false;
         }
     return true;
@@ -419,24 +422,24 @@ static int find_sieve(const visit *v, const uint64_t *words, int j, uint64_t *bi
     return v->shared[j][last].from[0];
 }
 
-static bool search(const visit *v, const uint64_t *words, int j, bool resumes, uint16_t *chosen, bool eager, bool *hard);
+/* Of a search that is hard, how many choices were tried since, and one more. */
+static bool search(const visit *v, const uint64_t *words, int j, bool resumes, uint16_t *chosen, bool eager, int *tried);
 
 /* Tuple x chosen for member j. */
-static bool attempt(const visit *v, const uint64_t *words, int j, bool resumes, uint16_t *chosen, int x, bool eager, bool *hard) {
+static bool attempt(const visit *v, const uint64_t *words, int j, bool resumes, uint16_t *chosen, int x, bool eager, int *tried) {
     uint64_t fewer[WORDS];
     int on = j + 1 == v->place ? j + 2 : j + 1;
     chosen[j] = (uint16_t)x;
     if (on == v->m) return fits(v, j, chosen, x);
     memcpy(fewer, words, (size_t)v->f->words * sizeof *words);
-    return narrow_members(v, fewer, j, x, on) && fits(v, j, chosen, x) && search(v, fewer, on, resumes && x == v->low[j], chosen, eager, hard);
+    return narrow_members(v, fewer, j, x, on) && fits(v, j, chosen, x) && search(v, fewer, on, resumes && x == v->low[j], chosen, eager, tried);
 }
 
 /* Member j's candidates from g on, where the search is hard: those are passed over that the sieve stops, or that are like one that failed. */
-static bool comb(const visit *v, const uint64_t *words, int j, bool resumes, uint16_t *chosen, int g) {
+static bool comb(const visit *v, const uint64_t *words, int j, bool resumes, uint16_t *chosen, int g, int *tried) {
     const relation *r = v->members[j];
     uint64_t bits, variables = 0;
     uint16_t failed[PLACES];
-    bool hard;
     int column = find_sieve(v, words, j, &bits);
     for (int k = j + 1; k < v->m; k++)
         if (k != v->place) variables |= v->members[k]->variables;
@@ -446,36 +449,91 @@ static bool comb(const visit *v, const uint64_t *words, int j, bool resumes, uin
         if (column >= 0 && !(bits & bits_of(tuple_of(r, x)[column]))) continue;
         if (!fits(v, j, chosen, x)) continue;
         if (!(resumes && x == v->low[j]) && first_alike(failed, r, x, variables) != x) continue;
-        if (attempt(v, words, j, resumes, chosen, x, true, &hard)) return true;
+        int behind = 0;
+        bool found = attempt(v, words, j, resumes, chosen, x, true, &behind);
+        *tried += 1 + behind;
+        if (found) return true;
     }
     return false;
 }
 
-static bool search(const visit *v, const uint64_t *words, int j, bool resumes, uint16_t *chosen, bool eager, bool *hard) {
+static bool search(const visit *v, const uint64_t *words, int j, bool resumes, uint16_t *chosen, bool eager, int *tried) {
     const relation *r = v->members[j];
     int g = next_of(words, r, resumes ? r->first + v->low[j] : r->first);
-    if (*hard = eager, eager) return comb(v, words, j, resumes, chosen, g);
-    for (int failures = 0; g < r->end && failures < FAILURES && !*hard; failures++) {
-        if (attempt(v, words, j, resumes, chosen, g - r->first, false, hard)) return true;
+    if (*tried = eager, eager) return comb(v, words, j, resumes, chosen, g, tried);
+    for (int failures = 0; g < r->end && failures < FAILURES && !*tried; failures++) {
+        if (attempt(v, words, j, resumes, chosen, g - r->first, false, tried)) return true;
         g = next_of(words, r, g + 1);
     }
     if (g == r->end) return false;
     uint64_t fewer[WORDS];
-    *hard = true;
+    *tried = 1;
     memcpy(fewer, words, (size_t)v->f->words * sizeof *words);
-    return spread_open(v, fewer, j) && comb(v, fewer, j, resumes, chosen, next_of(fewer, r, g));
+    return spread_open(v, fewer, j) && comb(v, fewer, j, resumes, chosen, next_of(fewer, r, g), tried);
 }
 
-static bool first_support(const visit *v, uint16_t *chosen) {
+/* ---- What a long search has come to. */
+
+/* Of member j, the candidates below end that agree with the seeking tuple are no longer fresh. */
+static void spend(visit *v, const uint64_t *words, int j, int end) {
+    const relation *r = v->members[j];
+    for (int g = next_of(words, r, r->first); g < end; g = next_of(words, r, g + 1))
+        if (agree_at(v->members[v->place], v->own, r, g - r->first)) take(v->fresh, g);
+}
+
+/* No support has candidates alone that agree with the seeking tuple, but for those of the first member from the one chosen on. */
+static void note(visit *v, const uint64_t *words, bool found, const uint16_t *chosen) {
+    memset(v->fresh, 255, sizeof v->fresh);
+    for (int j = 0; j < v->m; j++)
+        if (j != v->place) spend(v, words, j, found && j == (v->place == 0) ? v->members[j]->first + chosen[j] : v->members[j]->end);
+    v->noted = true;
+}
+
+/* Member j's candidates narrowed to the fresh ones and those that may agree with a fresh one of another, if those are few. */
+static bool narrow_fresh(const visit *v, uint64_t *words, const uint64_t *fresh, int j) {
+    const relation *s = v->members[j];
+    const uint64_t *rows[MAX_KEPT], *outside = v->outside[j];
+    uint64_t sum[WORDS], any = 0;
+    for (int i = 0; i < v->m; i++)
+        if (i != j && i != v->place && count_of(fresh, v->members[i]) > MANY) return true;
+    for (int w = s->word; w < s->last; w++) sum[w] = fresh[w] | outside[w];
+    for (int i = 0; i < v->m; i++) {
+        const relation *r = v->members[i];
+        if (i == j || i == v->place) continue;
+        for (int g = next_of(fresh, r, r->first); g < r->end; g = next_of(fresh, r, g + 1))
+            gather(sum, rows, rows_of_tuple(v->f, rows, tuple_of(r, g - r->first), s, &v->shared[i][j]), s);
+    }
+    for (int w = s->word; w < s->last; w++) any |= (words[w] &= sum[w]) & ~outside[w];
+    return any;
+}
+
+static bool narrow_to_fresh(const visit *v, uint64_t *words) {
+    uint64_t left[WORDS];
+    for (int w = 0; w < v->f->words; w++) left[w] = words[w] & v->fresh[w];
+    for (int j = 0; j < v->m; j++)
+        if (j != v->place && !narrow_fresh(v, words, left, j)) return false;
+    return true;
+}
+
+static bool search_fresh(const visit *v, const uint64_t *words, uint16_t *chosen, int *tried) {
+    uint64_t fewer[WORDS];
+    if (!v->noted) return search(v, words, v->place == 0, true, chosen, false, tried);
+    memcpy(fewer, words, (size_t)v->f->words * sizeof *words);
+    return narrow_to_fresh(v, fewer) && search(v, fewer, v->place == 0, true, chosen, false, tried);
+}
+
+static bool first_support(visit *v, uint16_t *chosen) {
     uint64_t candidates[WORDS];
-    bool hard = false;
+    int tried = 0;
     if (v->bare) return false;
     memcpy(candidates, v->f->live, (size_t)v->f->words * sizeof *candidates);
     if (!narrow_members(v, candidates, v->place, v->own, 0)) return false;
     for (int i = 0; i < v->steps; i++)
         if (!spread(v, candidates, v->nearer[i], v->farther[i], FEW)) return false;
     chosen[v->place] = (uint16_t)v->own;
-    return search(v, candidates, v->place == 0, true, chosen, false, &hard);
+    bool found = search_fresh(v, candidates, chosen, &tried);
+    if (tried >= LONG) note(v, candidates, found, chosen);
+    return found;
 }
 
 /* ---- Twins. */

@@ -26,6 +26,7 @@ typedef struct {
     unsigned width, variables;                   /* of scattered scopes, at most */
     unsigned values[MAX_VARIABLES];              /* of each variable */
     unsigned modulus, jokers, late;              /* late: so many last rows keep to no rule */
+    unsigned closing;                            /* the last row of this relation, counted from 1, keeps to another one's */
     unsigned codes, factor;                      /* as in a description */
     unsigned thinned, repeated;                  /* one combination in so many; all of them so many times */
     uint64_t scopes, rows;                       /* seeds */
@@ -137,6 +138,7 @@ static void fill_relation(const plan *p, network *n, size_t r) {
     }
     compared_width = width;
     if (p->ways[s] == SORTED && size > p->late) qsort(rows, size - p->late, width * sizeof *rows, compare_rows);
+    if (p->closing == s + 1) rows[size * width - 1] ^= 1;
     write_codes(p, scope, width, s, rows, size);
 }
 
@@ -191,6 +193,10 @@ static const plan made[] = {
      .ways = {ALL, ALL, ALL, DRAWN}},
     {NOTHING_CLOSES, IN_A_ROW, ANY_FOR_THE_FIRST, .values = {2384, 1, 44, 1, 44, 44}, .sizes = {298, 242, 242, 242}, .ways = EACH(ALL)},
     {NOTHING_CLOSES, IN_A_ROW, ANY_FOR_THE_FIRST, .values = {5120, 1, 32, 1, 32, 32}, .sizes = {5, 1, 1, 1}, .ways = EACH(ALL)},
+    {NOTHING_CLOSES, IN_A_ROW, ANY_FOR_THE_FIRST, .values = {2384, 1, 44, 1, 44, 44}, .sizes = {298, 242, 242, 242}, .ways = EACH(ALL), .closing = 2},
+    {NOTHING_CLOSES, IN_A_ROW, ANY_FOR_THE_FIRST, .values = {2384, 1, 44, 1, 44, 44}, .sizes = {298, 242, 242, 242}, .ways = EACH(ALL), .closing = 3},
+    {NOTHING_CLOSES, IN_A_ROW, ANY_FOR_THE_FIRST, .values = {400, 40, 30, 40, 30, 30}, .sizes = {298, 242, 242, 242}},
+    {NOTHING_CLOSES, IN_A_ROW, ANY_FOR_THE_FIRST, .values = {400, 40, 30, 40, 30, 30}, .sizes = {298, 242, 242, 242}, .late = 4},
 };
 
 static void draw_relation(plan *p, unsigned r) {

@@ -807,7 +807,7 @@ fn fresh_after(
     let mut fresh = [!0u64; WORDS];
     let mut j = 0;
     while j < members.len() {
-        if j != place {
+        if place != j {
             let s = members[j];
             let end = end_below(starts, s, j, k, bound);
             spend_member(variables, values, starts, words, &mut fresh, r, own, s, end);
@@ -872,8 +872,8 @@ fn search_all(
     requires { ⌜ Long (now words) × Rooted (searching now variables values starts words members place own low) (now index) ⌝ }
     ensures { λ f. ⌜ FindsFirst (searching entry variables values starts words members place own low) f ⌝ }
 {
-    let stage = past_own(place, own, 0, low);
-    let tuples = stage.chosen;
+    let begun = past_own(place, own, 0, low);
+    let tuples = begun.chosen;
     search(
         variables,
         values,
@@ -884,7 +884,7 @@ fn search_all(
         place,
         own,
         low,
-        stage.k,
+        begun.k,
         true,
         tuples,
         false,
