@@ -20,12 +20,13 @@ pub const PLACES: usize = 2048;
 // By the hash of its values, the index of the first tuple that was entered, or 65,535.
 pub type Table = [u16; PLACES];
 
-// The hash of the values so far and of one more.
+// The hash of the values so far and of one more: the upper half of a product added to its lower one, so that all bits count.
 fn mixed(hash: u64, value: Value) -> u64
     requires { ⌜ hash < hashBound ⌝ }
     ensures { λ h. ⌜ h < hashBound ⌝ }
 {
-    (hash + value as u64) * 1640531527 % 4294967296
+    let product = (hash + value as u64) * 1640531527;
+    (product / 4294967296 + product % 4294967296) % 4294967296
 }
 
 // A place in the table, by the values in every column whose variable is in the set.

@@ -17,9 +17,9 @@ maxTuples = 4096
 abbrev pub variableCount : ℕ
 variableCount = 64
 
--- "code 65,535 for 'any code'" (card 4)
+-- "'any' becomes 4,294,967,295" (card 9); it stands for every code (card 4)
 abbrev pub anyValue : ℕ
-anyValue = 65535
+anyValue = 4294967295
 
 -- named in place of a variable where two tuples agree (card 3)
 abbrev pub noVariable : ℕ

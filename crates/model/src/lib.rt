@@ -12,7 +12,7 @@ pub const MAX_TUPLES: usize = 4096;
 pub const VARIABLES: usize = 64;
 
 // stands for every value (card 4)
-pub const ANY_VALUE: Value = 65535;
+pub const ANY_VALUE: Value = 4294967295;
 
 // in place of a variable where two tuples agree (card 3)
 pub const NO_VARIABLE: u16 = 64;
@@ -74,5 +74,11 @@ pub enum Comparison {
     Refused(u8),
 }
 
+// What a move answers (card 9).
+pub enum Moved {
+    Done,
+    Refused(u8),
+}
+
 // A value (document 01: code).
-pub type Value = u16;
+pub type Value = u32;

@@ -44,3 +44,9 @@ pub const ID: u8 = 13;
 
 // The variable chosen is above 63.
 pub const VARIABLE: u8 = 14;
+
+// A value has no place in the old form (card 9).
+pub const TOO_WIDE: u8 = 23;
+
+// The second list is too short (card 9).
+pub const TARGET: u8 = 24;

@@ -24,7 +24,7 @@ use Rattle.layout.proofs.SoundStarts.{width-in}
 use Rattle.layout.proofs.Places.{below-limit, scope-length, values-length, value-at, place-within}
 use Rattle.narrowing.specs.declared.sieve.Shared.{Shared}
 use Rattle.narrowing.specs.declared.sieve.Sieve.{Sieve}
-use Rattle.narrowing.specs.Sieve.{allOr, bitsOf, bitsAt, passesSieve, Sieves, Shares, Masks}
+use Rattle.narrowing.specs.Sieve.{allOr, bitOf, bitsOf, bitsAt, passesSieve, Sieves, Shares, Masks}
 use Rattle.narrowing.proofs.TupleRows.{values-fit}
 
 -- ---- The bits of a value
@@ -33,7 +33,7 @@ use Rattle.narrowing.proofs.TupleRows.{values-fit}
 bits-any : (v k : ℕ) → isAny v ≡ true → k < 64 → isSet (bitsOf v) k ≡ true
 unfolding bitsOf
 bits-any v k e h =
-    ap (λ (b : Bool). isSet (allOr b (v * 40503 % 65536 / 1024)) k) e ∙ isSet-not 64 0 k (omega arith) h ∙ ap not (isSet-nought k)
+    ap (λ (b : Bool). isSet (allOr b (bitOf v)) k) e ∙ isSet-not 64 0 k (omega arith) h ∙ ap not (isSet-nought k)
 
 -- every value has one
 bits-some : (v : ℕ) → (k : ℕ) × (k < 64) × (isSet (bitsOf v) k ≡ true)
@@ -43,7 +43,7 @@ bits-some v = go (isAny v) refl
     go : (b : Bool) → isAny v ≡ b → (k : ℕ) × (k < 64) × (isSet (bitsOf v) k ≡ true)
     go true e = (0, omega arith, bits-any v 0 e (omega arith))
     go false e =
-        let k = v * 40503 % 65536 / 1024 in
+        let k = bitOf v in
         (k, omega arith, ap (λ (b : Bool). isSet (allOr b k) k) e ∙ isSet-pow k k ∙ eq-eqb k k refl)
 
 -- values that fit have one in common

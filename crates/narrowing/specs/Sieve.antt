@@ -19,9 +19,13 @@ abbrev pub allOr : Bool → ℕ → ℕ
 allOr true k = 2 ^ wordBits - 1
 allOr false k = 2 ^ k
 
+-- the number of a value's bit, 0 to 63
+abbrev pub bitOf : ℕ → ℕ
+bitOf v = v * 2654435769 % 4294967296 / 67108864
+
 -- the bits of a value, as a word: of any all, and otherwise one
 unfoldable pub bitsOf : ℕ → ℕ
-bitsOf v = allOr (isAny v) (v * 40503 % 65536 / 1024)
+bitsOf v = allOr (isAny v) (bitOf v)
 
 -- the bits of the value that tuple x of relation r has in a column
 abbrev pub bitsAt : Network → ℕ → ℕ → ℕ → ℕ

@@ -39,7 +39,7 @@ fn bits_of(value: Value) -> u64
     if is_any(value) {
         return !0u64;
     }
-    1u64 << (value as u64 * 40503 % 65536 / 1024)
+    1u64 << (value as u64 * 2654435769 % 4294967296 / 67108864)
 }
 
 // The bits of the value that tuple x of relation r has in the column.

@@ -15,13 +15,14 @@ fn uniform(count: usize, width: u16, tuples: u16) -> Shape {
 
 // Relations of one variable each, without tuples.
 fn sheets(variables: &[u16]) -> u8 {
-    let none = [0u16; 0];
+    let values = [0u32; 0];
+    let members = [0u16; 0];
     checked(
         uniform(variables.len(), 1, 0),
         variables,
-        &none,
+        &values,
         2,
-        &none,
+        &members,
         0,
         0,
     ).fault
@@ -45,14 +46,14 @@ fn rows(count: u16, values: &[Value], words: usize) -> u8 {
 // One combination of m of five relations that share a variable.
 fn combination(m: u16, members: &[u16]) -> u8 {
     let variables = [0u16; 5];
-    let values = [0u16; 5];
+    let values = [0u32; 5];
     checked(uniform(5, 1, 1), &variables, &values, m, members, 1, 25).fault
 }
 
 // Two relations of two tuples each, of which three live; these counts.
 fn counts(counts: &[u16]) -> u8 {
     let variables = [0u16; 2];
-    let values = [0u16; 4];
+    let values = [0u32; 4];
     let members = [0u16; 0];
     let words = [11u64; 1];
     opened(
@@ -80,9 +81,9 @@ fn main() {
     say(b"65 sheets: ", sheets(&[0u16; 65]));
     say(b"question 63: ", sheets(&[63u16]));
     say(b"question 64: ", sheets(&[64u16]));
-    say(b"4,096 rows: ", rows(4096, &[0u16; 4096], 64));
-    say(b"4,097 rows: ", rows(4097, &[0u16; 4097], 65));
-    say(b"4,096 rows, 63 words: ", rows(4096, &[0u16; 4096], 63));
+    say(b"4,096 rows: ", rows(4096, &[0u32; 4096], 64));
+    say(b"4,097 rows: ", rows(4097, &[0u32; 4097], 65));
+    say(b"4,096 rows, 63 words: ", rows(4096, &[0u32; 4096], 63));
     say(b"m = 1: ", combination(1, &[0u16]));
     say(b"m = 4: ", combination(4, &[0u16, 1, 2, 3]));
     say(b"m = 5: ", combination(5, &[0u16, 1, 2, 3, 4]));

@@ -164,7 +164,7 @@ fn chosen(
 // P1 to P5 and P9, on book A; and its withdrawal with a count that is untrue.
 fn book_a() {
     let variables = [0u16, 1, 1, 2, 2, 0];
-    let values = [1u16, 1, 1, 2, 2, 2, 1, 5, 2, 6, 5, 1, 6, 1];
+    let values = [1u32, 1, 1, 2, 2, 2, 1, 5, 2, 6, 5, 1, 6, 1];
     let mut words = [127u64; 1];
     let mut supports = [7u16; 40];
     let mut counts = [3u16, 2, 2];
@@ -216,7 +216,7 @@ fn book_a() {
 fn triples() {
     let shape = triangle(2, 2, 2);
     let variables = [0u16, 1, 1, 2, 2, 0];
-    let values = [0u16, 1, 1, 0, 0, 1, 1, 0, 0, 1, 1, 0];
+    let values = [0u32, 1, 1, 0, 0, 1, 1, 0, 0, 1, 1, 0];
     let mut words = [63u64; 1];
     let mut supports = [7u16; 40];
     let mut counts = [2u16; 3];
@@ -262,7 +262,7 @@ fn empty_sheet() {
     let p8 = filter(
         shape,
         &[0u16, 0],
-        &[4u16],
+        &[4u32],
         2,
         &none,
         &mut words,

@@ -24,7 +24,7 @@ use Rattle.layout.specs.Starts.{valueStart}
 use Rattle.layout.specs.Setting.{Lists, networkIn, SoundLists}
 use Rattle.layout.proofs.Places.{exists, value-at, below-limit}
 use Rattle.layout.proofs.SoundStarts.{columns-few}
-use Rattle.value_index.specs.Plan.{columnStart, digitCount, rowAt, anyRow, SamePlan}
+use Rattle.value_index.specs.Plan.{indexWords, columnStart, digitCount, rowAt, anyRow, SamePlan}
 use Rattle.value_index.specs.Index.{rowBit, isIndexed, IndexedBy, IndexedAt, Indexed, Raises, Grows, Laid, Entered, EnteredAt, EntersColumn, EntersColumns, IndexesTuples}
 use Rattle.value_index.proofs.Products.{piece-within}
 use Rattle.value_index.proofs.ValueRows.{columns-same, digits-same, row-same, any-same, sound-same}
@@ -77,7 +77,7 @@ pub grows-on : (a b c : List ℕ) → Grows a b → Grows b c → Grows a c
 grows-on a b c f g = record { keeps = λ p e. g .keeps p (f .keeps p e); same = λ k h. g .same k h ∙ f .same k h }
 
 -- the index stays laid out
-pub laid-on : (a b : List ℕ) (n : ℕ) → Grows a b → length b ≡ 9796 → Laid a n → Laid b n
+pub laid-on : (a b : List ℕ) (n : ℕ) → Grows a b → length b ≡ indexWords → Laid a n → Laid b n
 laid-on a b n f l d =
     record { full = l; plan = sound-same a b (f .same) (d .plan); bits = let e = f .same 512 (omega arith) in omega (arith, e, d .bits) }
 

@@ -11,7 +11,7 @@ use lib.ListN.{length, getD, set, length-set}
 use lib.Seq.{getD-set-same, getD-set-other}
 use Rattle.layout.specs.Starts.{variableStart}
 use Rattle.value_index.specs.declared.plan.Digits.{Digits}
-use Rattle.value_index.specs.Plan.{columnStart, planWords, indexWords, rowWords, digitCount, digitRows, factor, columnWords, ColumnRows}
+use Rattle.value_index.specs.Plan.{columnStart, planWords, indexWords, rowWords, digitCount, digitRows, factor, step, columnWords, ColumnRows}
 use Rattle.value_index.specs.Index.{Laid}
 use Rattle.value_index.specs.Planning.{ScopesWithin, Digital, Fits, Begins, LaysRelation, LaysRelations}
 
@@ -63,10 +63,10 @@ module _ (size : ℕ) where
 
 -- ---- The whole plan
 
-module _ (index : List ℕ) (full : length index ≡ 9796) (words : ℕ) (d : Digits) where
+module _ (index : List ℕ) (full : length index ≡ indexWords) (words : ℕ) (d : Digits) where
   -- the index once its numbers are written
   abbrev pub numbered : List ℕ
-  numbered = set (set (set (set index 512 words) 513 (d .count)) 514 (d .rows)) 515 (d .factor)
+  numbered = set (set (set (set (set index 512 words) 513 (d .count)) 514 (d .rows)) 515 (d .factor)) 516 (d .step)
 
   abbrev one : List ℕ
   one = set index 512 words
@@ -77,22 +77,29 @@ module _ (index : List ℕ) (full : length index ≡ 9796) (words : ℕ) (d : Di
   abbrev three : List ℕ
   three = set two 514 (d .rows)
 
-  one-full : length one ≡ 9796
+  abbrev four : List ℕ
+  four = set three 515 (d .factor)
+
+  one-full : length one ≡ indexWords
   one-full = length-set index 512 words ∙ full
 
-  two-full : length two ≡ 9796
+  two-full : length two ≡ indexWords
   two-full = length-set one 513 (d .count) ∙ one-full
 
-  three-full : length three ≡ 9796
+  three-full : length three ≡ indexWords
   three-full = length-set two 514 (d .rows) ∙ two-full
 
-  pub numbered-full : length numbered ≡ 9796
-  numbered-full = length-set three 515 (d .factor) ∙ three-full
+  four-full : length four ≡ indexWords
+  four-full = length-set three 515 (d .factor) ∙ three-full
+
+  pub numbered-full : length numbered ≡ indexWords
+  numbered-full = length-set four 516 (d .step) ∙ four-full
 
   module _ (final : List ℕ) (laid : LaysRelations ((d .count * d .rows + 1) * words) 64 numbered final) where
     words-are : rowWords final ≡ words
     words-are =
         laid .others 512 (omega arith)
+        ∙ getD-set-other four 516 512 (d .step) 0 (λ e. absurd (omega arith))
         ∙ getD-set-other three 515 512 (d .factor) 0 (λ e. absurd (omega arith))
         ∙ getD-set-other two 514 512 (d .rows) 0 (λ e. absurd (omega arith))
         ∙ getD-set-other one 513 512 (d .count) 0 (λ e. absurd (omega arith))
@@ -101,6 +108,7 @@ module _ (index : List ℕ) (full : length index ≡ 9796) (words : ℕ) (d : Di
     digits-are : digitCount final ≡ d .count
     digits-are =
         laid .others 513 (omega arith)
+        ∙ getD-set-other four 516 513 (d .step) 0 (λ e. absurd (omega arith))
         ∙ getD-set-other three 515 513 (d .factor) 0 (λ e. absurd (omega arith))
         ∙ getD-set-other two 514 513 (d .rows) 0 (λ e. absurd (omega arith))
         ∙ getD-set-same one 513 (d .count) 0 (omega (arith, one-full))
@@ -108,11 +116,18 @@ module _ (index : List ℕ) (full : length index ≡ 9796) (words : ℕ) (d : Di
     rows-are : digitRows final ≡ d .rows
     rows-are =
         laid .others 514 (omega arith)
+        ∙ getD-set-other four 516 514 (d .step) 0 (λ e. absurd (omega arith))
         ∙ getD-set-other three 515 514 (d .factor) 0 (λ e. absurd (omega arith))
         ∙ getD-set-same two 514 (d .rows) 0 (omega (arith, two-full))
 
     factor-is : factor final ≡ d .factor
-    factor-is = laid .others 515 (omega arith) ∙ getD-set-same three 515 (d .factor) 0 (omega (arith, three-full))
+    factor-is =
+        laid .others 515 (omega arith)
+        ∙ getD-set-other four 516 515 (d .step) 0 (λ e. absurd (omega arith))
+        ∙ getD-set-same three 515 (d .factor) 0 (omega (arith, three-full))
+
+    step-is : step final ≡ d .step
+    step-is = laid .others 516 (omega arith) ∙ getD-set-same four 516 (d .step) 0 (omega (arith, four-full))
 
     size-is : columnWords final ≡ (d .count * d .rows + 1) * words
     size-is = rw (digits-are, rows-are, words-are) refl
@@ -121,7 +136,7 @@ module _ (index : List ℕ) (full : length index ≡ 9796) (words : ℕ) (d : Di
     column-rows n (inl e) = inl e
     column-rows n (inr f) = inr (record { behind = f .0; within = omega (arith, f .1, size-is) })
 
-    pub laid-out : (n : ℕ) → length final ≡ 9796 → Digital d → words ≤ 64 → n ≤ 64 * words → Laid final n
+    pub laid-out : (n : ℕ) → length final ≡ indexWords → Digital d → words ≤ 64 → n ≤ 64 * words → Laid final n
     laid-out n long sound short enough =
         record {
           full = long;
@@ -131,6 +146,7 @@ module _ (index : List ℕ) (full : length index ≡ 9796) (words : ℕ) (d : Di
             short = omega (arith, rows-are, sound .short);
             narrow = omega (arith, words-are, short);
             small = omega (arith, factor-is, sound .small);
+            near = omega (arith, step-is, sound .near);
             columns = λ r c h k. column-rows (columnStart final r c) (laid .columns r c h k);
           };
           bits = omega (arith, words-are, enough);

@@ -15,7 +15,7 @@ use Rattle.model.proofs.Bools.{or-right}
 use Rattle.model.proofs.LiveWords.{isLive-at}
 use Rattle.model.proofs.Agreement.{fit-equal}
 use Rattle.live.proofs.Bits.{isSet-nought}
-use Rattle.value_index.specs.Plan.{columnStart, rowWords, digitCount, digitRows, hashAt, rowOf, rowAt, anyRow, SoundPlan}
+use Rattle.value_index.specs.Plan.{planWords, hashes, columnStart, rowWords, digitCount, digitRows, hashAt, rowOf, rowAt, anyRow, SoundPlan}
 use Rattle.value_index.specs.Index.{rowBit, isIndexed, IndexedBy, IndexedAt, Grows, Entered, EnteredAt, NoneIn, JoinsRow, SpreadsAny, SpreadsColumns}
 use Rattle.value_index.proofs.ValueRows.{hash-below, rows-before, any-same, columns-same}
 use Rattle.value_index.proofs.Entries.{joined-same, joined-keeps, value-on, rows-all}
@@ -43,7 +43,7 @@ module _ (before ws : List ℕ) (row other a i : ℕ) where
   abbrev new : List ℕ
   new = set ws (other + i) (bitOr (getD ws (other + i) 0) (getD ws (row + i) 0))
 
-  pub join-grows : 580 ≤ other → other + i < length ws → Grows before ws → Grows before new
+  pub join-grows : planWords ≤ other → other + i < length ws → Grows before ws → Grows before new
   join-grows behind inside f =
       record {
         keeps = λ p e. joined-keeps ws (other + i) (getD ws (row + i) 0) p inside (f .keeps p e);
@@ -83,7 +83,7 @@ unfolding rowAt
 spread-all before after start a b sound f m g u v e w =
     rows-all after start w g
     (λ i h.
-    let k = i * digitRows after + hashAt after w i * digitRows after / 65536 in
+    let k = i * digitRows after + hashAt after w i * digitRows after / hashes in
     let l : k < digitCount after * digitRows after = rows-before sound (hashAt after w i) (hash-below after w i) i h in
     subst (λ (n : ℕ). rowBit after (start + k * n) g ≡ true) (sym (f .same 512 (omega arith)))
     (m k (subst (λ (n : ℕ). k < n) (products i) l) g u v e))

@@ -7,16 +7,16 @@ use Prim.Native.Nat.{ℕ, zero, suc, _+_, _*_, _/_, _%_, _≤_, _<_}
 use native.Mathlib.Nat.{mul-le-mul, mul-le-mul-right}
 use native.Mathlib.Omega.{arith}
 use lib.ListN.{length, getD}
-use Rattle.value_index.specs.Plan.{planWords, indexWords, columnStart, rowWords, digitCount, digitRows, factor, columnWords, rowPlan, anyRow, hashBehind, hashAt, rowOf, rowAt, ColumnRows, SoundPlan, SamePlan}
+use Rattle.value_index.specs.Plan.{planWords, indexWords, hashes, columnStart, rowWords, digitCount, digitRows, factor, step, columnWords, rowPlan, anyRow, hashBehind, hashAt, rowOf, rowAt, ColumnRows, SoundPlan, SamePlan}
 use Rattle.value_index.proofs.Products.{piece-within}
 
 module _ (index : List ℕ) (v : ℕ) where
-  pub hash-below : (i : ℕ) → hashAt index v i < 65536
+  pub hash-below : (i : ℕ) → hashAt index v i < hashes
   unfolding hashAt
   hash-below zero = omega arith
   hash-below (suc i) = omega arith
 
-  pub hash-first : hashAt index v 0 ≡ v * factor index % 65536
+  pub hash-first : hashAt index v 0 ≡ v * factor index % hashes
   unfolding hashAt
   hash-first = refl
 
@@ -34,29 +34,34 @@ pub rows-many : {index : List ℕ} → SoundPlan index → digitCount index * di
 rows-many sound = mul-le-mul (sound .few) (sound .short)
 
 -- of a hash
-module _ {index : List ℕ} (sound : SoundPlan index) (hash : ℕ) (below : hash < 65536) where
-  digit-below : hash * digitRows index / 65536 < digitRows index
+module _ {index : List ℕ} (sound : SoundPlan index) (hash : ℕ) (below : hash < hashes) where
+  digit-below : hash * digitRows index / hashes < digitRows index
   digit-below =
-      let h : hash ≤ 65535 = omega (arith, below) in
+      let h : hash ≤ 4294967295 = omega (arith, below) in
       let p = mul-le-mul-right (digitRows index) h in
       omega (arith, p, sound .some)
 
-  pub hash-fits : hash * digitRows index ≤ 603979776
+  pub hash-fits : hash * digitRows index ≤ 39582418599936
   hash-fits =
-      let h : hash ≤ 65536 = omega (arith, below) in
+      let h : hash ≤ hashes = omega (arith, below) in
       mul-le-mul h (sound .short)
+
+  pub behind-fits : hash * step index ≤ 18446744069414584320
+  behind-fits =
+      let h : hash ≤ 4294967295 = omega (arith, below) in
+      mul-le-mul h (sound .near)
 
   module _ (i : ℕ) (h : i < digitCount index) where
     -- the rows before it, of this digit and those before it
-    pub rows-before : i * digitRows index + hash * digitRows index / 65536 < digitCount index * digitRows index
+    pub rows-before : i * digitRows index + hash * digitRows index / hashes < digitCount index * digitRows index
     rows-before = omega (arith, digit-below, piece-within i (digitCount index) (digitRows index) h)
 
-    pub rows-few : i * digitRows index + hash * digitRows index / 65536 < 36865
+    pub rows-few : i * digitRows index + hash * digitRows index / hashes < 36865
     rows-few = omega (arith, rows-many sound, rows-before)
 
     module _ {start : ℕ} (rows : ColumnRows index start) where
       pub row-within : rowOf index start hash i + rowWords index ≤ indexWords
-      row-within = nth-within rows (i * digitRows index + hash * digitRows index / 65536) (omega (arith, rows-before))
+      row-within = nth-within rows (i * digitRows index + hash * digitRows index / hashes) (omega (arith, rows-before))
 
       pub row-behind : planWords ≤ rowOf index start hash i
       row-behind = omega (arith, rows .behind)
@@ -82,15 +87,15 @@ module _ (before after : List ℕ) (same : SamePlan before after) where
 
   pub hash-same : (v i : ℕ) → hashAt after v i ≡ hashAt before v i
   unfolding hashAt
-  hash-same v zero = ap (λ (f : ℕ). v * f % 65536) (same 515 (omega arith))
-  hash-same v (suc i) = ap₂ (λ (h r : ℕ). h * r % 65536) (hash-same v i) (same 514 (omega arith))
+  hash-same v zero = ap (λ (f : ℕ). v * f % hashes) (same 515 (omega arith))
+  hash-same v (suc i) = ap₂ (λ (h r : ℕ). h * r % hashes) (hash-same v i) (same 516 (omega arith))
 
   pub row-same : (start v i : ℕ) → rowAt after start v i ≡ rowAt before start v i
   unfolding rowAt
   row-same start v i = rw (hash-same v i, same 514 (omega arith), same 512 (omega arith)) refl
 
   pub plan-same : rowPlan after ≡ rowPlan before
-  plan-same = rw (same 512 (omega arith), same 513 (omega arith), same 514 (omega arith), same 515 (omega arith)) refl
+  plan-same = rw (same 512 (omega arith), same 513 (omega arith), same 514 (omega arith), same 515 (omega arith), same 516 (omega arith)) refl
 
   pub any-same : (start : ℕ) → anyRow after start ≡ anyRow before start
   any-same start = rw (same 513 (omega arith), same 514 (omega arith), same 512 (omega arith)) refl
@@ -116,5 +121,6 @@ module _ (before after : List ℕ) (same : SamePlan before after) where
         short = let e = same 514 (omega arith) in omega (arith, e, s .short);
         narrow = let e = same 512 (omega arith) in omega (arith, e, s .narrow);
         small = let e = same 515 (omega arith) in omega (arith, e, s .small);
+        near = let e = same 516 (omega arith) in omega (arith, e, s .near);
         columns = λ r c h k. rows-same (columnStart after r c) (columnStart before r c) (columns-same r c h k) (s .columns r c h k);
       }

@@ -14,10 +14,10 @@ rowsWords = 9216
 
 -- the words of the plan, and of plan and rows
 abbrev pub planWords : ℕ
-planWords = 580
+planWords = 581
 
 abbrev pub indexWords : ℕ
-indexWords = 9796
+indexWords = 9797
 
 -- the most digits of a value
 abbrev pub maxDigits : ℕ
@@ -29,7 +29,7 @@ mostRows = 1024
 
 -- hashes lie below
 abbrev pub hashes : ℕ
-hashes = 65536
+hashes = 4294967296
 
 -- where the rows of column c of relation r begin; 0 where it has none
 abbrev pub columnStart : List ℕ → ℕ → ℕ → ℕ
@@ -50,9 +50,14 @@ digitRows index = getD index 514 0
 abbrev pub factor : List ℕ → ℕ
 factor index = getD index 515 0
 
--- these four together
+-- .. and a hash, for the digit behind
+abbrev pub step : List ℕ → ℕ
+step index = getD index 516 0
+
+-- these five together
 abbrev pub rowPlan : List ℕ → RowPlan
-rowPlan index = record { words = rowWords index; digits = digitCount index; rows = digitRows index; factor = factor index }
+rowPlan index =
+    record { words = rowWords index; digits = digitCount index; rows = digitRows index; factor = factor index; step = step index }
 
 -- the words of one column's rows: those of the digits, and behind them the row of any
 abbrev pub columnWords : List ℕ → ℕ
@@ -62,11 +67,11 @@ columnWords index = (digitCount index * digitRows index + 1) * rowWords index
 abbrev pub anyRow : List ℕ → ℕ → ℕ
 anyRow index start = start + digitCount index * digitRows index * rowWords index
 
--- what is left of a hash behind a digit that is made of it
+-- the hash of the digit behind one that is made of a hash
 abbrev pub hashBehind : List ℕ → ℕ → ℕ
-hashBehind index hash = hash * digitRows index % hashes
+hashBehind index hash = hash * step index % hashes
 
--- .. of a value's hash at digit i
+-- .. of a value's digit i
 unfoldable pub hashAt : List ℕ → ℕ → ℕ → ℕ
 hashAt index v zero = v * factor index % hashes
 hashAt index v (suc i) = hashBehind index (hashAt index v i)
@@ -91,6 +96,7 @@ pub record SoundPlan (index : List ℕ) : Type 0 where
   pub short : digitRows index ≤ rowsWords
   pub narrow : rowWords index ≤ rowsWords
   pub small : factor index ≤ hashes
+  pub near : step index ≤ hashes
   pub columns : (r c : ℕ) → r < maxRelations → c < maxWidth → (columnStart index r c ≡ 0) ⊎ ColumnRows index (columnStart index r c)
 
 -- the plan is the same

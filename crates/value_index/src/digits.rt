@@ -10,14 +10,17 @@ use super::FACTOR;
 use super::HASHES;
 use super::Index;
 use super::ROW_WORDS;
+use super::STEP;
 use model::Value;
 
-// How many words a row has, how many digits a value has, how many rows a digit has, and what a value is multiplied by.
+// How many words a row has, how many digits a value has, how many rows a digit has, what a value is multiplied by, and what a hash is for the
+// digit behind.
 pub struct RowPlan {
     pub words: u64,
     pub digits: u64,
     pub rows: u64,
     pub factor: u64,
+    pub step: u64,
 }
 
 // What the index says of them.
@@ -29,6 +32,7 @@ pub fn row_plan(index: &Index) -> RowPlan
         digits: index[DIGITS],
         rows: index[DIGIT_ROWS],
         factor: index[FACTOR],
+        step: index[STEP],
     }
 }
 
@@ -40,15 +44,15 @@ pub fn hash_of(index: &Index, plan: RowPlan, value: Value) -> u64
     value as u64 * plan.factor % HASHES
 }
 
-// What is left of a hash for the digits behind one that is made of it.
+// The hash of which the digit behind is made.
 pub fn hash_behind(index: &Index, plan: RowPlan, hash: u64) -> u64
     requires { ⌜ SoundPlan (now index) × ((plan ≡ rowPlan (now index)) × (hash < hashes)) ⌝ }
     ensures { λ h. ⌜ h ≡ hashBehind (entry index) hash ⌝ }
 {
-    hash * plan.rows % HASHES
+    hash * plan.step % HASHES
 }
 
-// The word at which the row of digit i begins, which is made of what is left of a hash, among the rows that begin at `start`.
+// The word at which the row of digit i begins, which is made of a hash, among the rows that begin at `start`.
 pub fn row_of(index: &Index, plan: RowPlan, start: usize, hash: u64, i: u64) -> usize
     requires { ⌜ SoundPlan (now index) × (ColumnRows (now index) start × ((hash < hashes) × (i < digitCount (now index)))) ⌝ }
     requires { ⌜ plan ≡ rowPlan (now index) ⌝ }

@@ -30,7 +30,7 @@ pub mod digits; // the rows of a value's digits, by a plan that is read once
 pub mod any; // the row of any
 
 // The plan's words: where each column's rows begin, how many words a row has, how many digits a value has, how many rows a digit has,
-// what a value is multiplied by, and each relation's variables, a bit for each.
+// what a value is multiplied by, what a hash is for the digit behind, and each relation's variables, a bit for each.
 pub const ROW_WORDS: usize = 512;
 
 pub const DIGITS: usize = 513;
@@ -39,9 +39,11 @@ pub const DIGIT_ROWS: usize = 514;
 
 pub const FACTOR: usize = 515;
 
-pub const SCOPES: usize = 516;
+pub const STEP: usize = 516;
 
-pub const PLAN: usize = 580;
+pub const SCOPES: usize = 517;
+
+pub const PLAN: usize = 581;
 
 // The words of all rows.
 pub const ROWS: usize = 9216;
@@ -53,7 +55,7 @@ pub type Index = [u64; INDEX];
 pub const MAX_DIGITS: usize = 4;
 
 // Hashes lie below.
-pub const HASHES: u64 = 65536;
+pub const HASHES: u64 = 4294967296;
 
 // The variables of relation r, a bit for each: a hint, by which work that changes nothing is left out.
 pub fn scope_bits(index: &Index, r: u16) -> u64
@@ -85,7 +87,7 @@ pub fn hash_of(index: &Index, value: Value) -> u64
     digits::hash_of(index, row_plan(index), value)
 }
 
-// What is left of a hash for the digits behind one that is made of it.
+// The hash of which the digit behind is made.
 pub fn hash_behind(index: &Index, hash: u64) -> u64
     requires { ⌜ SoundPlan (now index) × (hash < hashes) ⌝ }
     ensures { λ h. ⌜ h ≡ hashBehind (entry index) hash ⌝ }
@@ -93,7 +95,7 @@ pub fn hash_behind(index: &Index, hash: u64) -> u64
     digits::hash_behind(index, row_plan(index), hash)
 }
 
-// The word at which the row of digit i begins, which is made of what is left of a hash, among the rows that begin at `start`.
+// The word at which the row of digit i begins, which is made of a hash, among the rows that begin at `start`.
 pub fn row_of(index: &Index, start: usize, hash: u64, i: u64) -> usize
     requires { ⌜ SoundPlan (now index) × (ColumnRows (now index) start × ((hash < hashes) × (i < digitCount (now index)))) ⌝ }
     ensures { λ n. ⌜ n ≡ rowOf (entry index) start hash i ⌝ }

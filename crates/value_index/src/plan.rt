@@ -21,12 +21,14 @@ use super::PLAN;
 use super::ROW_WORDS;
 use super::ROWS;
 use super::SCOPES;
+use super::STEP;
 use layout::Starts;
 use layout::relation_count;
 use layout::tuple_count;
 use layout::variable_start;
 use layout::wide;
 use live::words_for;
+use model::ANY_VALUE;
 use model::MAX_RELATIONS;
 use model::MAX_WIDTH;
 use model::Value;
@@ -34,14 +36,20 @@ use model::Value;
 // No column has more rows than this; more would tell no more values apart.
 const MOST_ROWS: u64 = 1024;
 
-// A factor that spreads values whose digits cannot all be told apart.
-const SPREAD: u64 = 40503;
+// So many classes of hashes are enough for values that cannot all be told apart: few tuples are then taken for others.
+const ENOUGH: u64 = 65536;
 
-// How many digits a value has, how many rows each, and what a value is multiplied by.
+// Factors that spread such values: of a value's hash, and of each digit's from the one before.
+const SPREAD: u64 = 2654435769;
+
+const FURTHER: u64 = 2246822507;
+
+// How many digits a value has, how many rows each, and what a value is multiplied by, and a hash for the digit behind.
 struct Digits {
     count: u64,
     rows: u64,
     factor: u64,
+    step: u64,
 }
 
 // The variables that stand more than once in the list, a bit for each: those that two relations have.
@@ -119,17 +127,32 @@ fn larger_value(a: Value, b: Value) -> Value
     a
 }
 
-// One more than the largest value other than any, and at least 1.
-fn value_bound(values: &[Value]) -> u64
+// The lesser of two values; any is the largest.
+fn lesser_value(a: Value, b: Value) -> Value
+    ensures { λ n. ⌜ n < hashes ⌝ }
+{
+    if b < a {
+        return b;
+    }
+    a
+}
+
+// How many numbers there are from the least value to the largest other than any, and at least 1.
+fn value_range(values: &[Value]) -> u64
     ensures { λ n. ⌜ (0 < n) × (n ≤ hashes) ⌝ }
 {
+    let mut least: Value = ANY_VALUE;
     let mut most: Value = 0;
     let mut i = 0;
     while i < values.len() {
+        least = lesser_value(least, values[i]);
         most = larger_value(most, above(values[i]));
         i += 1;
     }
-    larger(1, most as u64)
+    if most <= least {
+        return 1;
+    }
+    (most - least) as u64
 }
 
 // Whether so many digits, of so many rows each, make at least `classes` classes of hashes.
@@ -160,21 +183,32 @@ fn fewer_rows(rows: u64, digits: u64, classes: u64) -> u64
     fewer
 }
 
-// As few digits as tell all values below the bound apart, with so many rows; where four do not, those of a product that spreads the values.
-fn digits_for(rows: u64, bound: u64) -> Digits
-    requires { ⌜ (maxDigits ≤ rows) × (rows ≤ mostRows) × (0 < bound) × (bound ≤ hashes) ⌝ }
+// As few digits as tell all values of the range apart, with so many rows, wherever it begins: their hashes lie so far from each other.
+// Where fewer make enough classes, or where four do not tell them apart, each digit is that of a product which spreads the values.
+fn digits_for(rows: u64, range: u64) -> Digits
+    requires { ⌜ (maxDigits ≤ rows) × (rows ≤ mostRows) × (0 < range) × (range ≤ hashes) ⌝ }
     ensures { λ d. ⌜ Digital d ⌝ }
 {
-    let factor = HASHES / bound;
+    let factor = HASHES / range;
     let classes = (HASHES - 1) / factor + 1;
     let mut count: u64 = 1;
     while count <= MAX_DIGITS as u64 {
         let each = rows / count;
         if tells(each, count, classes) {
+            let fewer = fewer_rows(each, count, classes);
             return Digits {
                 count,
-                rows: fewer_rows(each, count, classes),
+                rows: fewer,
                 factor,
+                step: fewer,
+            };
+        }
+        if tells(each, count, ENOUGH) {
+            return Digits {
+                count,
+                rows: each,
+                factor: SPREAD,
+                step: FURTHER,
             };
         }
         count += 1;
@@ -183,6 +217,7 @@ fn digits_for(rows: u64, bound: u64) -> Digits
         count: MAX_DIGITS as u64,
         rows: rows / MAX_DIGITS as u64,
         factor: SPREAD,
+        step: FURTHER,
     }
 }
 
@@ -304,11 +339,12 @@ pub fn lay_out(variables: &[u16], values: &[Value], starts: &Starts, index: &mut
     let words = words_of_row(starts);
     let shared = shared_variables(variables);
     let rows = rows_for(most_columns(variables, starts, shared), words as u64);
-    let digits = digits_for(rows, value_bound(values));
+    let digits = digits_for(rows, value_range(values));
     index[ROW_WORDS] = words as u64;
     index[DIGITS] = digits.count;
     index[DIGIT_ROWS] = digits.rows;
     index[FACTOR] = digits.factor;
+    index[STEP] = digits.step;
     let size = (digits.count * digits.rows + 1) as usize * words;
     lay_relations(variables, starts, shared, size, index);
 }

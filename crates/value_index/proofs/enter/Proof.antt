@@ -2,7 +2,7 @@
 -- From the law of the bit that is set.
 use mathlib.Core.Path.{_≡_, _∙_, ap, subst}
 use mathlib.Core.Bool.{_||_}
-use Prim.Native.Nat.{ℕ, _+_, _*_, _/_, _%_, _^_, _≤_}
+use Prim.Native.Nat.{ℕ, _+_, _*_, _/_, _%_, _^_, _<_}
 use native.Mathlib.Omega.{arith}
 use lib.Dec.{eqb}
 use lib.ListN.{getD, set, length-set}
@@ -11,6 +11,7 @@ use lib.Seq.{getD-set-other}
 use Rattle.model.specs.LiveWords.{isLive}
 use Rattle.value_index.proofs.Entries.{entered-one}
 use borrow.Author.Needs.{needs}
+use Rattle.value_index.specs.Plan.{indexWords}
 use Rattle.value_index.proofs.enter.Statement.{statement}
 use Rattle.value_index.proofs.enter.Tie as tie
 
@@ -28,7 +29,7 @@ module _ (c : tie.After-wide) where
   is-at : place / 64 ≡ at
   is-at = omega (arith, c .wide .ensures .0)
 
-  few : at ≤ 9795
+  few : at < indexWords
   few = omega (arith, is-at, start .pre .1 .1)
 
 returns : tie.Need-returns

@@ -4,7 +4,7 @@ use mathlib.Core.Path.{_≡_, sym, _∙_, subst}
 use Prim.Native.Nat.{ℕ, _+_, _-_, _≤_, _<_}
 use native.Mathlib.Omega.{arith}
 use lib.ListN.{length}
-use Rattle.value_index.specs.Plan.{columnStart}
+use Rattle.value_index.specs.Plan.{indexWords, columnStart}
 use Rattle.value_index.specs.Index.{Grows, Laid, EntersColumn, EntersColumns}
 use Rattle.value_index.proofs.ValueRows.{rows-begin}
 use Rattle.value_index.proofs.Entries.{grows-none, grows-on, laid-on, columns-entered}
@@ -14,7 +14,7 @@ use Rattle.value_index.proofs.enter_tuples.Tie as tie
 
 abbrev Inv-loop : tie.InvT-loop
 Inv-loop values at r width start end index₀ c₀ index c =
-    (c ≤ width) × ((length index ≡ 9796) × (Grows index₀ index × EntersColumns values at r width c start end index))
+    (c ≤ width) × ((length index ≡ indexWords) × (Grows index₀ index × EntersColumns values at r width c start end index))
 
 abbrev μ-loop : tie.MeasureT-loop
 μ-loop values at r width start end index₀ c₀ index c = width - c

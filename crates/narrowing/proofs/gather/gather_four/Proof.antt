@@ -3,6 +3,7 @@
 use Prim.Native.Nat.{ℕ, _+_, _-_, _*_, _<_}
 use native.Mathlib.Omega.{arith}
 use lib.ListN.{getD}
+use Rattle.value_index.specs.Plan.{indexWords}
 use Rattle.narrowing.specs.Gathers.{Joins}
 use Rattle.narrowing.specs.TupleRows.{four, inRows}
 use Rattle.narrowing.proofs.TupleRows.{bits-four}
@@ -23,7 +24,7 @@ module _ (c : tie.In-loop Inv-loop μ-loop) where
   few : c .before .loop .i < 64
   few = omega (arith, c .loop-test .taken, start .pre .1 .1 .0)
 
-  within : (k : ℕ) → k < 4 → getD (four (start .args .a) (start .args .b) (start .args .c) (start .args .d)) k 0 + c .before .loop .i < 9796
+  within : (k : ℕ) → k < 4 → getD (four (start .args .a) (start .args .b) (start .args .c) (start .args .d)) k 0 + c .before .loop .i < indexWords
   within k h = omega (arith, c .loop-test .taken, start .pre .1 .1 .1, start .pre .1 .0 .inside k h)
 
 loop-holds : tie.Need-loop-holds Inv-loop μ-loop

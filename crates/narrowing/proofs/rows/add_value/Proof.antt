@@ -4,7 +4,7 @@ use mathlib.Core.Path.{_≡_, sym, _∙_, ap}
 use Prim.Native.Nat.{_+_, _-_, _≤_, _<_}
 use native.Mathlib.Omega.{arith}
 use borrow.Author.Needs.{needs}
-use Rattle.value_index.specs.Plan.{digitCount, hashBehind, hashAt}
+use Rattle.value_index.specs.Plan.{hashes, digitCount, hashBehind, hashAt}
 use Rattle.value_index.proofs.ValueRows.{hash-below, hash-next, row-is}
 use Rattle.narrowing.specs.TupleRows.{ValueRow, Adds}
 use Rattle.narrowing.proofs.TupleRows.{adds-none, adds-more, value-within}
@@ -35,7 +35,7 @@ module _ (c : tie.Then3 Inv-loop μ-loop) where
   reached : loop .loop .i < digitCount (start .args .index .now)
   reached = omega (arith, c .if3 .taken, c .before .digit-count .ensures)
 
-  below : loop .loop .hash < 65536
+  below : loop .loop .hash < hashes
   below = omega (arith, loop .loop .inv .1 .1 .0, hash-below (start .args .index .now) (start .args .value) (loop .loop .i))
 
   few : loop .loop .k < start .args .n + 4

@@ -5,6 +5,7 @@ use Prim.Native.Nat.{ℕ, _+_, _-_, _≤_, _<_}
 use native.Mathlib.Omega.{arith}
 use lib.ListN.{getD}
 use lib.Bits.{bitAnd}
+use Rattle.value_index.specs.Plan.{indexWords}
 use borrow.Author.Needs.{needs}
 use Rattle.narrowing.specs.TupleRows.{BitsInRows}
 use Rattle.narrowing.proofs.TupleRows.{bits-none, bits-more}
@@ -25,7 +26,7 @@ module _ (c : tie.In-loop Inv-loop μ-loop) where
   few = omega (arith, c .loop-test .taken, start .pre .0 .few)
 
 -- the row reached
-within : (c : tie.After-wide Inv-loop μ-loop) → c .wide .result + start (c .before .before) .args .i < 9796
+within : (c : tie.After-wide Inv-loop μ-loop) → c .wide .result + start (c .before .before) .args .i < indexWords
 within c =
     let turn = c .before .before in
     omega (arith, c .wide .ensures .0, start turn .pre .0 .inside (turn .before .loop .k) (turn .loop-test .taken), start turn .pre .1)

@@ -6,6 +6,7 @@ use native.Mathlib.Omega.{arith}
 use lib.Dec.{eqb}
 use lib.ListN.{getD}
 use borrow.Author.Tests.{eqb-true, not-false}
+use Rattle.value_index.specs.Plan.{indexWords}
 use Rattle.live.proofs.Bits.{or-none}
 use Rattle.narrowing.specs.TupleRows.{both, BitsInRows, Apart}
 use Rattle.narrowing.proofs.TupleRows.{bits-both, apart-more}
@@ -25,10 +26,10 @@ module _ (c : tie.In-loop Inv-loop μ-loop) where
   few : c .before .loop .i < 64
   few = omega (arith, c .loop-test .taken, start .pre .1 .0)
 
-  within-a : start .args .a + c .before .loop .i < 9796
+  within-a : start .args .a + c .before .loop .i < indexWords
   within-a = omega (arith, c .loop-test .taken, start .pre .1 .1, start .pre .0 .inside 0 (omega arith))
 
-  within-b : start .args .b + c .before .loop .i < 9796
+  within-b : start .args .b + c .before .loop .i < indexWords
   within-b = omega (arith, c .loop-test .taken, start .pre .1 .1, start .pre .0 .inside 1 (omega arith))
 
 loop-again : tie.Need-loop-again Inv-loop μ-loop

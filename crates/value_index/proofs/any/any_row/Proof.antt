@@ -2,7 +2,7 @@
 -- From the laws of a column's rows.
 use Prim.Native.Nat.{ℕ, _+_, _*_, _≤_}
 use native.Mathlib.Omega.{arith}
-use Rattle.value_index.specs.Plan.{digitCount, digitRows, rowWords}
+use Rattle.value_index.specs.Plan.{indexWords, digitCount, digitRows, rowWords}
 use Rattle.value_index.proofs.ValueRows.{rows-many, nth-within}
 use borrow.Author.Needs.{needs}
 use Rattle.value_index.proofs.any.any_row.Statement.{statement}
@@ -15,7 +15,7 @@ module _ (s : tie.Start) where
   many : rows ≤ 36864
   many = rows-many (s .pre .0)
 
-  fits : s .args .start + rows * rowWords (s .args .index .now) + rowWords (s .args .index .now) ≤ 9796
+  fits : s .args .start + rows * rowWords (s .args .index .now) + rowWords (s .args .index .now) ≤ indexWords
   fits = nth-within (s .pre .1) rows (omega arith)
 
 pub any-row-spec : {M : Type 1} → statement M

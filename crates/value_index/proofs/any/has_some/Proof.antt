@@ -8,6 +8,7 @@ use borrow.Author.Tests.{eqb-true, not-false}
 use Rattle.live.proofs.Bits.{or-none}
 use Rattle.value_index.specs.Index.{NoneIn}
 use Rattle.value_index.proofs.Spread.{none-more}
+use Rattle.value_index.specs.Plan.{indexWords}
 use borrow.Author.Needs.{needs}
 use Rattle.value_index.proofs.any.has_some.Statement.{statement}
 use Rattle.value_index.proofs.any.has_some.Tie as tie
@@ -18,7 +19,7 @@ Inv-loop index row from to some₀ i₀ some i = some ≡ 0 → NoneIn index row
 abbrev μ-loop : tie.MeasureT-loop
 μ-loop index row from to some₀ i₀ some i = to - i
 
-within : (c : tie.In-loop Inv-loop μ-loop) → c .before .before .args .row + c .before .loop .i < 9796
+within : (c : tie.In-loop Inv-loop μ-loop) → c .before .before .args .row + c .before .loop .i < indexWords
 within c = omega (arith, c .loop-test .taken, c .before .before .pre)
 
 loop-again : tie.Need-loop-again Inv-loop μ-loop

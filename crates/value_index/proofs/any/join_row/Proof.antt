@@ -7,13 +7,14 @@ use lib.ListN.{length, length-set}
 use Rattle.value_index.specs.Index.{Grows, JoinsRow}
 use Rattle.value_index.proofs.Entries.{grows-none}
 use Rattle.value_index.proofs.Spread.{join-grows, join-more}
+use Rattle.value_index.specs.Plan.{indexWords}
 use borrow.Author.Needs.{needs}
 use Rattle.value_index.proofs.any.join_row.Statement.{statement}
 use Rattle.value_index.proofs.any.join_row.Tie as tie
 
 abbrev Inv-loop : tie.InvT-loop
 Inv-loop index₀ row other from to i₀ index i =
-    (length index ≡ 9796) × (Grows index₀ index × JoinsRow row other (64 * from) (64 * i) index₀ index)
+    (length index ≡ indexWords) × (Grows index₀ index × JoinsRow row other (64 * from) (64 * i) index₀ index)
 
 abbrev μ-loop : tie.MeasureT-loop
 μ-loop index₀ row other from to i₀ index i = to - i
@@ -22,10 +23,10 @@ module _ (c : tie.In-loop Inv-loop μ-loop) where
   abbrev start : tie.Start Inv-loop μ-loop
   start = c .before .before
 
-  within : start .args .row + c .before .loop .i < 9796
+  within : start .args .row + c .before .loop .i < indexWords
   within = omega (arith, c .loop-test .taken, start .pre .1 .1 .0)
 
-  within-other : start .args .other + c .before .loop .i < 9796
+  within-other : start .args .other + c .before .loop .i < indexWords
   within-other = omega (arith, c .loop-test .taken, start .pre .1 .1 .1)
 
 loop-again : tie.Need-loop-again Inv-loop μ-loop

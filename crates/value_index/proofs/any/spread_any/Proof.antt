@@ -8,7 +8,7 @@ use native.Mathlib.Omega.{arith}
 use borrow.Author.Tests.{not-true}
 use lib.ListN.{length}
 use Rattle.model.proofs.Bools.{not-both}
-use Rattle.value_index.specs.Plan.{digitCount, digitRows, rowWords, anyRow, ColumnRows}
+use Rattle.value_index.specs.Plan.{indexWords, digitCount, digitRows, rowWords, anyRow, ColumnRows}
 use Rattle.value_index.specs.Index.{rowBit, Grows, JoinsRow}
 use Rattle.value_index.proofs.ValueRows.{rows-many, nth-within, sound-same}
 use Rattle.value_index.proofs.Entries.{grows-none, grows-on}
@@ -19,7 +19,7 @@ use Rattle.value_index.proofs.any.spread_any.Tie as tie
 
 abbrev Inv-loop : tie.InvT-loop
 Inv-loop index₀ start from to any rows words k₀ index k =
-    (k ≤ rows) × ((length index ≡ 9796) × (Grows index₀ index × SpreadsRows start k (64 * from) (64 * to) index₀ index))
+    (k ≤ rows) × ((length index ≡ indexWords) × (Grows index₀ index × SpreadsRows start k (64 * from) (64 * to) index₀ index))
 
 abbrev μ-loop : tie.MeasureT-loop
 μ-loop index₀ start from to any rows words k₀ index k = rows - k
@@ -43,7 +43,7 @@ module _ (c : tie.Else1 Inv-loop μ-loop) where
   many = rows-many (c .before .pre .0 .1)
 
   -- a row's words up to `to` lie behind the plan and within the index
-  row-fits : (k : ℕ) → k ≤ count → start + k * rowWords index + c .before .args .to ≤ 9796
+  row-fits : (k : ℕ) → k ≤ count → start + k * rowWords index + c .before .args .to ≤ indexWords
   row-fits k h = omega (arith, nth-within column k h, c .before .pre .1 .1)
 
 abbrev entered : tie.At-loop Inv-loop μ-loop → tie.Else1 Inv-loop μ-loop
@@ -58,7 +58,7 @@ module _ (c : tie.In-loop Inv-loop μ-loop) where
   reached : c .before .loop .k < count begun
   reached = c .loop-test .taken
 
-  fits : start begun + c .before .loop .k * rowWords (index begun) + begun .before .args .to ≤ 9796
+  fits : start begun + c .before .loop .k * rowWords (index begun) + begun .before .args .to ≤ indexWords
   fits = row-fits begun (c .before .loop .k) (omega (arith, reached))
 
 returns-2 : tie.Need-returns-2 Inv-loop μ-loop

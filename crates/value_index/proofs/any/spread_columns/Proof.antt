@@ -4,7 +4,7 @@ use mathlib.Core.Path.{_≡_, sym, _∙_, subst}
 use Prim.Native.Nat.{ℕ, _+_, _-_, _*_, _/_, _≤_, _<_}
 use native.Mathlib.Omega.{arith}
 use lib.ListN.{length}
-use Rattle.value_index.specs.Plan.{columnStart, rowWords}
+use Rattle.value_index.specs.Plan.{indexWords, columnStart, rowWords}
 use Rattle.value_index.specs.Index.{Grows, Laid, SpreadsAny, SpreadsColumns}
 use Rattle.value_index.proofs.ValueRows.{rows-begin}
 use Rattle.value_index.proofs.Entries.{grows-none, grows-on, laid-on}
@@ -15,7 +15,7 @@ use Rattle.value_index.proofs.any.spread_columns.Tie as tie
 
 abbrev Inv-loop : tie.InvT-loop
 Inv-loop index₀ r width start end from to c₀ index c =
-    (c ≤ width) × ((length index ≡ 9796) × (Grows index₀ index × SpreadsColumns r c start end index₀ index))
+    (c ≤ width) × ((length index ≡ indexWords) × (Grows index₀ index × SpreadsColumns r c start end index₀ index))
 
 abbrev μ-loop : tie.MeasureT-loop
 μ-loop index₀ r width start end from to c₀ index c = width - c

@@ -17,7 +17,7 @@ factor-is s = ap (λ (p : RowPlan). p .factor) (s .pre .1)
 mul-result : tie.Need-mul-result
 mul-result c =
     let s = c .before in
-    let v : s .args .value ≤ 65535 = search needs in
+    let v : s .args .value ≤ 4294967295 = search needs in
     let p = mul-le-mul v (s .pre .0 .small) in
     rw (factor-is s) (omega (arith, p))
 

@@ -17,7 +17,7 @@ module _ (s : tie.Start) where
   words-are : s .args .plan .words ≡ rowWords (s .args .index .now)
   words-are = ap (λ (p : RowPlan). p .words) (s .pre .1)
 
-  short : s .args .hash * digitRows (s .args .index .now) ≤ 603979776
+  short : s .args .hash * digitRows (s .args .index .now) ≤ 39582418599936
   short = hash-fits (s .pre .0 .0) (s .args .hash) (s .pre .0 .1 .1 .0)
 
   few : s .args .i * digitRows (s .args .index .now) + s .args .hash * digitRows (s .args .index .now) / hashes < 36865

@@ -61,7 +61,7 @@ lay-out-spec =
     (λ c κs. search needs)
     most-columns-requires
     (λ c κs. search needs) (λ c κs. search needs) (λ c κs. search needs) (λ c. search needs)
-    (λ c. search needs) (λ c. search needs) (λ c. search needs)
+    (λ c. search needs) (λ c. search needs) (λ c. search needs) (λ c. search needs)
     mul-size
     (λ c. let d = c .before .digits-for in omega (arith, few (d .result) (d .ensures)))
     mul-size-2

@@ -6,13 +6,14 @@ use lib.ListN.{length, set, length-set}
 use native.Mathlib.Omega.{arith}
 use Rattle.value_index.specs.Planning.{LaysRelation}
 use Rattle.value_index.proofs.Planning.{begins-fits, relation-none, relation-more}
+use Rattle.value_index.specs.Plan.{indexWords, planWords}
 use borrow.Author.Needs.{needs}
 use Rattle.value_index.proofs.plan.lay_relation.Statement.{statement}
 use Rattle.value_index.proofs.plan.lay_relation.Tie as tie
 
 abbrev Inv-loop : tie.InvT-loop
 Inv-loop scope shared r size index₀ own start₀ c₀ index start c =
-    (own ≡ r * 8) × ((length index ≡ 9796) × ((580 ≤ start) × ((start ≤ 9796) × ((c ≤ 8) × LaysRelation size r c index₀ index))))
+    (own ≡ r * 8) × ((length index ≡ indexWords) × ((planWords ≤ start) × ((start ≤ indexWords) × ((c ≤ 8) × LaysRelation size r c index₀ index))))
 
 abbrev μ-loop : tie.MeasureT-loop
 μ-loop scope shared r size index₀ own start₀ c₀ index start c = 8 - c

@@ -6,13 +6,14 @@ use lib.ListN.{length}
 use native.Mathlib.Omega.{arith}
 use Rattle.value_index.specs.Planning.{LaysRelations}
 use Rattle.value_index.proofs.Planning.{scope-within, relations-none, relations-more}
+use Rattle.value_index.specs.Plan.{indexWords}
 use borrow.Author.Needs.{needs}
 use Rattle.value_index.proofs.plan.lay_relations.Statement.{statement}
 use Rattle.value_index.proofs.plan.lay_relations.Tie as tie
 
 abbrev Inv-loop : tie.InvT-loop
 Inv-loop variables starts shared size index₀ r₀ index r =
-    (r ≤ 64) × ((length index ≡ 9796) × LaysRelations size r index₀ index)
+    (r ≤ 64) × ((length index ≡ indexWords) × LaysRelations size r index₀ index)
 
 abbrev μ-loop : tie.MeasureT-loop
 μ-loop variables starts shared size index₀ r₀ index r = 64 - r

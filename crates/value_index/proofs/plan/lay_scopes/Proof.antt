@@ -3,6 +3,7 @@ use Prim.Native.Nat.{ℕ, _+_, _-_, _≤_, _<_}
 use lib.ListN.{length, length-set}
 use native.Mathlib.Omega.{arith}
 use Rattle.value_index.proofs.Planning.{scope-within}
+use Rattle.value_index.specs.Plan.{indexWords}
 use borrow.Author.Needs.{needs}
 use Rattle.value_index.proofs.plan.lay_scopes.Statement.{statement}
 use Rattle.value_index.proofs.plan.lay_scopes.Tie as tie
@@ -14,7 +15,7 @@ use Rattle.value_index.proofs.plan.bits_of.Reads as bits-of-reads
 
 abbrev Inv-loop : tie.InvT-loop
 Inv-loop variables starts index₀ r₀ index r =
-    (r ≤ 64) × (length index ≡ 9796)
+    (r ≤ 64) × (length index ≡ indexWords)
 
 abbrev μ-loop : tie.MeasureT-loop
 μ-loop variables starts index₀ r₀ index r = 64 - r

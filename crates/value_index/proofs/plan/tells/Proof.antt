@@ -4,12 +4,13 @@ use Prim.Native.Nat.{_-_, _≤_}
 use native.Mathlib.Omega.{arith}
 use native.Mathlib.Nat.{mul-le-mul}
 use borrow.Author.Needs.{needs}
+use Rattle.value_index.specs.Plan.{hashes}
 use Rattle.value_index.proofs.plan.tells.Statement.{statement}
 use Rattle.value_index.proofs.plan.tells.Tie as tie
 
 abbrev Inv-loop : tie.InvT-loop
 Inv-loop rows digits classes reached₀ i₀ reached i =
-    (i ≤ digits) × (reached ≤ 65536)
+    (i ≤ digits) × (reached ≤ hashes)
 
 abbrev μ-loop : tie.MeasureT-loop
 μ-loop rows digits classes reached₀ i₀ reached i = digits - i
