@@ -28,7 +28,7 @@ use Rattle.layout.specs.Shape.{shapeOf, networkOf, instanceOf}
 use Rattle.layout.specs.Setting.{network, instanceIn}
 use Rattle.layout.proofs.Relations.{relation-count}
 use Rattle.layout.proofs.Records.{reply-shapeOf, testReply-shapeOf, compareReply-shapeOf}
-use Rattle.wire.specs.Entries.{Bytes, entries, entries16, entries64, bytes, Filled}
+use Rattle.wire.specs.Entries.{Bytes, entries, entries16, entries32, entries64, bytes, Filled}
 use Rattle.wire.proofs.Entries.{entries-length, entries16-length, entries64-length, entries-below, entries-take, bytes-entries, bytes-append, bytes-behind}
 use Rattle.request.specs.declared.checks.Opening.{Opening}
 use Rattle.request.specs.declared.plan.Plan.{Plan}
@@ -43,34 +43,41 @@ use Rattle.encoding.specs.Records.{records, countsIn, withCounts}
 use Rattle.encoding.specs.Packed.{packed, outcome, encoded, replyBytes}
 use Rattle.encoding.specs.Call.{ByteBook, byteNetwork, byteInstance}
 use Rattle.encoding.proofs.Packed.{answer-subject}
-use Rattle.byte_calls.specs.Planned.{over, writtenOver, requestIn, WholeBytes, Decoded, PlannedOn, OpenedOn}
+use Rattle.byte_calls.specs.Planned.{fewValues, over, writtenOver, requestIn, WholeBytes, Decoded, PlannedOn, OpenedOn}
 
 -- ---- Lists that are only read
 
-module _ (sheets questions codes : List ℕ) (S : Shape) (Vs Ws : List ℕ) (es : S ≡ shapeOf (records sheets)) (ev : Vs ≡ take 513 (entries 2 (length questions / 2) questions)) (ew : Ws ≡ take 32769 (entries 2 (length codes / 2) codes)) where
+-- few values are all that there are, with room for them or with more
+pub few-values : (codes : List ℕ) → length codes ≤ 4 * fewValues → take fewValues (entries 4 (length codes / 4) codes) ≡ take 32769 (entries 4 (length codes / 4) codes)
+few-values codes h =
+    let l = entries-length 4 (length codes / 4) codes in
+    take-all fewValues (entries 4 (length codes / 4) codes) (omega (arith, l, h))
+    ∙ sym (take-all 32769 (entries 4 (length codes / 4) codes) (omega (arith, l, h)))
+
+module _ (sheets questions codes : List ℕ) (S : Shape) (Vs Ws : List ℕ) (es : S ≡ shapeOf (records sheets)) (ev : Vs ≡ take 513 (entries 2 (length questions / 2) questions)) (ew : Ws ≡ take 32769 (entries 4 (length codes / 4) codes)) where
   module _ (m : ℕ) (combinations C : List ℕ) (ec : C ≡ take 1025 (entries 2 (length combinations / 2) combinations)) where
     abbrev B : ByteBook
     B = record { sheets = sheets; questions = questions; codes = codes; m = m; combinations = combinations }
 
     pub decoded-reply : (words numbers counts : List ℕ) (change : Change) → reply (request (instanceOf S Vs Ws m C) words numbers counts change) ≡ reply (request (byteInstance B) words numbers counts change)
-    unfolding entries16
+    unfolding entries16 entries32
     decoded-reply words numbers counts change =
         (λ i. reply (request (instanceOf (es i) (ev i) (ew i) m (ec i)) words numbers counts change))
-        ∙ reply-shapeOf (records sheets) (take 513 (entries16 questions)) (take 32769 (entries16 codes)) m (take 1025 (entries16 combinations)) words numbers counts change
+        ∙ reply-shapeOf (records sheets) (take 513 (entries16 questions)) (take 32769 (entries32 codes)) m (take 1025 (entries16 combinations)) words numbers counts change
         ∙ sym (reply-cut (byteInstance B) words numbers counts change)
 
     pub decoded-test : (words : List ℕ) → testReply (instanceOf S Vs Ws m C) words ≡ testReply (byteInstance B) words
-    unfolding entries16
+    unfolding entries16 entries32
     decoded-test words =
         (λ i. testReply (instanceOf (es i) (ev i) (ew i) m (ec i)) words)
-        ∙ testReply-shapeOf (records sheets) (take 513 (entries16 questions)) (take 32769 (entries16 codes)) m (take 1025 (entries16 combinations)) words
+        ∙ testReply-shapeOf (records sheets) (take 513 (entries16 questions)) (take 32769 (entries32 codes)) m (take 1025 (entries16 combinations)) words
         ∙ sym (testReply-cut (byteInstance B) words)
 
   pub decoded-compare : (a b : ℕ) → compareReply (networkOf S Vs Ws) a b ≡ compareReply (byteNetwork sheets questions codes) a b
-  unfolding entries16
+  unfolding entries16 entries32
   decoded-compare a b =
       (λ i. compareReply (networkOf (es i) (ev i) (ew i)) a b)
-      ∙ compareReply-shapeOf (records sheets) (take 513 (entries16 questions)) (take 32769 (entries16 codes)) a b
+      ∙ compareReply-shapeOf (records sheets) (take 513 (entries16 questions)) (take 32769 (entries32 codes)) a b
       ∙ sym (compareReply-cut (byteNetwork sheets questions codes) a b)
 
 -- ---- Lists that are written

@@ -22,6 +22,10 @@ use Rattle.encoding.specs.Records.{countsIn, withCounts}
 use Rattle.encoding.specs.Packed.{packed, Outcome, outcome, encoded, replyBytes}
 use Rattle.encoding.specs.Call.{decodedChange, left}
 
+-- as many values as a small book has at most, for which less room is cleared
+abbrev pub fewValues : ℕ
+fewValues = 4096
+
 -- ---- On decoded words, numbers and counts
 
 -- the lists, with the starts planned

@@ -2,7 +2,7 @@
 // change, and make it.
 ghost use mathlib.Core.Path.{_≡_};
 ghost use mathlib.Core.Bool.{true};
-ghost use Prim.Native.Nat.{_/_};
+ghost use Prim.Native.Nat.{_*_, _/_, _≤_};
 ghost use lib.ListN.{length};
 ghost use Rattle.layout.specs.Loan.{entry};
 ghost use Rattle.layout.specs.Setting.{SoundLists};
@@ -10,7 +10,8 @@ ghost use Rattle.layout.specs.Shape.{instanceOf};
 ghost use Rattle.request.specs.Plan.{listsFrom, PlansOn};
 ghost use Rattle.encoding.specs.Call.{byteBook, byteInstance, byteRequest, wholeIds, decodedChange, KeepsBytes, left};
 ghost use Rattle.byte_calls.specs.Call.{changeIn};
-ghost use Rattle.byte_calls.specs.Planned.{settingFor, Writable, WritesChange, AnswersOn, WholeBytes, PlansBytes, LeavesPlanned, Readable, OpensBytes, AnswersOpened};
+ghost use Rattle.byte_calls.specs.Planned.{fewValues, settingFor, Writable, WritesChange, AnswersOn, WholeBytes, PlansBytes, LeavesPlanned, Readable, OpensBytes, AnswersOpened};
+use super::FEW_VALUES;
 use super::NOT_WHOLE;
 use changes::change;
 use combination::needed;
@@ -35,6 +36,7 @@ use request::plan::plan_choose;
 use request::plan::plan_filter;
 use request::plan::plan_withdraw;
 use wire::load16;
+use wire::load32;
 use wire::load64;
 use wire::store16;
 use wire::store64;
@@ -43,7 +45,7 @@ use wire::store64;
 pub enum Call {
     Filter,
     Withdraw,
-    Choose(u16, u16),
+    Choose(u16, Value),
 }
 
 // What the call is to do, with this opening. Only withdraw reads the ids.
@@ -242,7 +244,7 @@ fn change_decoded(
 }
 
 // Decodes the lists that are only read, each into room for one entry more than any accepted list has, and makes the call.
-fn change_bytes(
+fn change_many(
     call: Call,
     sheets: &mut [u8],
     questions: &[u8],
@@ -257,11 +259,11 @@ fn change_bytes(
     ensures { λ n. ⌜ AnswersOn n (byteInstance (byteBook entry sheets questions codes m combinations)) sheets marks supports (changeIn call (entry ids)) ⌝ }
 {
     let mut variables = [0u16; 513];
-    let mut values = [0u16; 32769];
+    let mut values = [0u32; 32769];
     let mut members = [0u16; 1025];
     let shape = shape_at(sheets);
     let variable_count = load16(questions, &mut variables);
-    let value_count = load16(codes, &mut values);
+    let value_count = load32(codes, &mut values);
     let member_count = load16(combinations, &mut members);
     change_decoded(
         call,
@@ -271,6 +273,83 @@ fn change_bytes(
         m,
         &members[..member_count],
         sheets,
+        marks,
+        supports,
+        ids,
+    )
+}
+
+// The same where there are few values, with room for these alone.
+fn change_few(
+    call: Call,
+    sheets: &mut [u8],
+    questions: &[u8],
+    codes: &[u8],
+    m: u16,
+    combinations: &[u8],
+    marks: &mut [u8],
+    supports: &mut [u8],
+    ids: &[u8],
+) -> u64
+    requires { ⌜ WholeBytes (now marks) (now supports) × (length (now codes) ≤ 4 * fewValues) ⌝ }
+    ensures { λ n. ⌜ AnswersOn n (byteInstance (byteBook entry sheets questions codes m combinations)) sheets marks supports (changeIn call (entry ids)) ⌝ }
+{
+    let mut variables = [0u16; 513];
+    let mut values = [0u32; FEW_VALUES];
+    let mut members = [0u16; 1025];
+    let shape = shape_at(sheets);
+    let variable_count = load16(questions, &mut variables);
+    let value_count = load32(codes, &mut values);
+    let member_count = load16(combinations, &mut members);
+    change_decoded(
+        call,
+        shape,
+        &variables[..variable_count],
+        &values[..value_count],
+        m,
+        &members[..member_count],
+        sheets,
+        marks,
+        supports,
+        ids,
+    )
+}
+
+// The call on lists that are whole.
+fn change_bytes(
+    call: Call,
+    sheets: &mut [u8],
+    questions: &[u8],
+    codes: &[u8],
+    m: u16,
+    combinations: &[u8],
+    marks: &mut [u8],
+    supports: &mut [u8],
+    ids: &[u8],
+) -> u64
+    requires { ⌜ WholeBytes (now marks) (now supports) ⌝ }
+    ensures { λ n. ⌜ AnswersOn n (byteInstance (byteBook entry sheets questions codes m combinations)) sheets marks supports (changeIn call (entry ids)) ⌝ }
+{
+    if codes.len() <= 4 * FEW_VALUES {
+        return change_few(
+            call,
+            sheets,
+            questions,
+            codes,
+            m,
+            combinations,
+            marks,
+            supports,
+            ids,
+        );
+    }
+    change_many(
+        call,
+        sheets,
+        questions,
+        codes,
+        m,
+        combinations,
         marks,
         supports,
         ids,

@@ -2,5 +2,8 @@
 pub mod change; // filter, withdraw and choose
 pub mod reading; // test and compare
 
+// So many values a call on a small book has room for, and so less to clear.
+pub const FEW_VALUES: usize = 4096;
+
 // The answer where a list is not a whole number of entries: refused, number 1.
 pub const NOT_WHOLE: u64 = 258;

@@ -14,7 +14,7 @@ third {b = b} x e f = sym (ap (λ (d : Bool). d && (b && x)) e ∙ ap (λ (d : B
 pub whole-records : (sheets questions codes combinations marks supports : ℕ) → wholeChange sheets questions codes combinations marks supports ≡ true → sheets % 6 ≡ 0
 whole-records sheets questions codes combinations marks supports w =
     eqb-true _ _
-    (and-left (whole 6 sheets) (whole 2 questions && whole 2 codes)
+    (and-left (whole 6 sheets) (whole 2 questions && whole 4 codes)
     (and-left (wholeNetwork sheets questions codes) (whole 2 combinations)
     (and-left (wholeInstance sheets questions codes combinations) (whole 8 marks && whole 2 supports) w)))
 

@@ -9,7 +9,7 @@ use Rattle.model.specs.Request.{Change, filter, withdraw, choose, Instance, Req
 use Rattle.model.specs.Fault.{accepts}
 use Rattle.model.specs.Reply.{reply, testReply, compareReply}
 use Rattle.layout.specs.Loan.{Loan, exit}
-use Rattle.wire.specs.Entries.{entries16, entries64}
+use Rattle.wire.specs.Entries.{entries16, entries32, entries64}
 use Rattle.encoding.specs.Records.{records, countsIn}
 use Rattle.encoding.specs.Whole.{whole, wholeNetwork, wholeInstance, wholeChange}
 use Rattle.encoding.specs.Packed.{packedPair, Outcome, outcome, replyBytes}
@@ -32,7 +32,7 @@ byteBook at sheets questions codes m combinations =
 -- the network that bytes hold: sheet records, questions and codes
 abbrev pub byteNetwork : List ℕ → List ℕ → List ℕ → Network
 byteNetwork sheets questions codes =
-    record { relations = records sheets; variables = entries16 questions; values = entries16 codes }
+    record { relations = records sheets; variables = entries16 questions; values = entries32 codes }
 
 -- .. with its combinations
 abbrev pub byteInstance : ByteBook → Instance

@@ -9,7 +9,7 @@ whole k n = eqb (n % k) 0
 
 -- relation records, variables and values
 abbrev pub wholeNetwork : ℕ → ℕ → ℕ → Bool
-wholeNetwork sheets questions codes = whole 6 sheets && (whole 2 questions && whole 2 codes)
+wholeNetwork sheets questions codes = whole 6 sheets && (whole 2 questions && whole 4 codes)
 
 -- .. and members of combinations
 abbrev pub wholeInstance : ℕ → ℕ → ℕ → ℕ → Bool

@@ -1,4 +1,5 @@
-// Tests that lists of bytes are cut between entries. A relation record takes six bytes, a 16-bit entry two, a live word eight.
+// Tests that lists of bytes are cut between entries. A relation record takes six bytes, a value four, a live word
+// eight, any other entry two.
 ghost use mathlib.Core.Path.{_≡_};
 ghost use Rattle.encoding.specs.Whole.{wholeNetwork, wholeInstance, wholeChange};
 
@@ -12,7 +13,7 @@ pub fn network_whole(sheets: usize, questions: usize, codes: usize) -> bool
     if questions % 2 != 0 {
         return false;
     }
-    codes % 2 == 0
+    codes % 4 == 0
 }
 
 // Tests the lists of a network and the list of its combinations.

@@ -93,7 +93,7 @@ pub extern "C" fn plain_withdraw(
     put(answer, out);
 }
 
-// The choice is a variable and its value.
+// Value v is chosen under variable x.
 #[no_mangle]
 pub extern "C" fn plain_choose(
     records: &[u16],
@@ -104,7 +104,8 @@ pub extern "C" fn plain_choose(
     words: &mut [u64],
     supports: &mut [u16],
     counts: &mut [u16],
-    choice: &[u16; 2],
+    x: u16,
+    v: Value,
     out: &mut [u16; 5],
 ) {
     let answer = choose(
@@ -116,8 +117,8 @@ pub extern "C" fn plain_choose(
         words,
         supports,
         counts,
-        choice[0],
-        choice[1],
+        x,
+        v,
     );
     put(answer, out);
 }

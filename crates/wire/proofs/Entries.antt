@@ -9,7 +9,7 @@ use native.Mathlib.Omega.{arith}
 use lib.Arith.{mod-mul}
 use lib.ListN.{length, take, drop, getD, set, length-append, length-drop, length-set, take-append-drop, drop-of-length-le}
 use lib.Seq.{drop-cons, drop-nil, drop-drop, drop-at, take-nil, take-suc, take-take, take-at, take-length, take-all, length-take-le, getD-drop, set-at, sets-eq}
-use Rattle.wire.specs.Entries.{Bytes, value, bytesOf, entryAt, entries, bytes, entries16, entries64, Filled}
+use Rattle.wire.specs.Entries.{Bytes, value, bytesOf, entryAt, entries, bytes, entries16, entries32, entries64, Filled}
 
 -- ---- One entry
 
@@ -77,6 +77,10 @@ pub entries16-length : (bs : List ℕ) → length (entries16 bs) ≡ length bs /
 unfolding entries16
 entries16-length bs = entries-length 2 (length bs / 2) bs
 
+pub entries32-length : (bs : List ℕ) → length (entries32 bs) ≡ length bs / 4
+unfolding entries32
+entries32-length bs = entries-length 4 (length bs / 4) bs
+
 pub entries64-length : (bs : List ℕ) → length (entries64 bs) ≡ length bs / 8
 unfolding entries64
 entries64-length bs = entries-length 8 (length bs / 8) bs
@@ -142,6 +146,12 @@ unfolding entries16
 entries16-bytes xs h =
     let n : length (bytes 2 xs) / 2 ≡ length xs = omega (arith, bytes-length 2 xs) in
     ap (λ (k : ℕ). entries 2 k (bytes 2 xs)) n ∙ entries-bytes 2 xs h
+
+pub entries32-bytes : (xs : List ℕ) → ((i : ℕ) → getD xs i 0 < 2 ^ 32) → entries32 (bytes 4 xs) ≡ xs
+unfolding entries32
+entries32-bytes xs h =
+    let n : length (bytes 4 xs) / 4 ≡ length xs = omega (arith, bytes-length 4 xs) in
+    ap (λ (k : ℕ). entries 4 k (bytes 4 xs)) n ∙ entries-bytes 4 xs h
 
 pub entries64-bytes : (xs : List ℕ) → ((i : ℕ) → getD xs i 0 < 2 ^ 64) → entries64 (bytes 8 xs) ≡ xs
 unfolding entries64

@@ -32,9 +32,12 @@ abbrev pub bytes : ℕ → List ℕ → List ℕ
 bytes k [] = []
 bytes k (x ∷ xs) = bytesOf k x ++ bytes k xs
 
--- all entries of 16 bits, and all of 64 bits
+-- all entries of 16 bits, all of 32 bits, and all of 64 bits
 unfoldable pub entries16 : List ℕ → List ℕ
 entries16 bs = entries 2 (length bs / 2) bs
+
+unfoldable pub entries32 : List ℕ → List ℕ
+entries32 bs = entries 4 (length bs / 4) bs
 
 unfoldable pub entries64 : List ℕ → List ℕ
 entries64 bs = entries 8 (length bs / 8) bs

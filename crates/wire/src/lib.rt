@@ -1,4 +1,4 @@
-// Lists of 16-bit and 64-bit numbers as little-endian bytes.
+// Lists of 16-bit, 32-bit and 64-bit numbers as little-endian bytes.
 ghost use mathlib.Core.Path.{_≡_};
 ghost use Prim.Native.Nat.{_+_, _*_, _≤_, _<_, min};
 ghost use mathlib.Core.List.{_++_};
@@ -87,6 +87,19 @@ pub fn load16(s: &[u8], d: &mut [u16]) -> usize
     n
 }
 
+// Decodes the 32-bit entries of s to the front of d, as many as there is room for, and gives their number.
+pub fn load32(s: &[u8], d: &mut [u32]) -> usize
+    ensures { λ n. ⌜ Filled 4 n (now (s .entry)) (now (d .entry)) (now (d .exit)) ⌝ }
+{
+    let n = least(s.len() / 4, d.len());
+    let mut i = 0;
+    while i < n {
+        d[i] = u32_at(s, i);
+        i += 1;
+    }
+    n
+}
+
 // Decodes the 64-bit entries of s to the front of d, as many as there is room for, and gives their number.
 pub fn load64(s: &[u8], d: &mut [u64]) -> usize
     ensures { λ n. ⌜ Filled 8 n (now (s .entry)) (now (d .entry)) (now (d .exit)) ⌝ }
@@ -108,6 +121,18 @@ pub fn store16(s: &[u16], d: &mut [u8])
     let mut i = 0;
     while i < s.len() {
         put_u16(d, i, s[i]);
+        i += 1;
+    }
+}
+
+// Writes the entries of s as the first bytes of d.
+pub fn store32(s: &[u32], d: &mut [u8])
+    requires { ⌜ 4 * length (now s) ≤ length (now d) ⌝ }
+    ensures { λ _. ⌜ now (d .exit) ≡ bytes 4 (now (s .entry)) ++ drop (4 * length (now (s .entry))) (now (d .entry)) ⌝ }
+{
+    let mut i = 0;
+    while i < s.len() {
+        put_u32(d, i, s[i]);
         i += 1;
     }
 }

@@ -10,7 +10,7 @@ use Rattle.model.specs.Request.{choose}
 use Rattle.model.proofs.Record as T
 use Rattle.records.specs.declared.Done.{Done}
 use Rattle.records.specs.Records.{partsOf}
-use Rattle.records.proofs.Walk.{URA, named, w16, vint, vptr, SProp, ent, id⊢, flft, Memory, Routine, Heap, WpFn, Tables, Atoms, sem, Lfts, Shares, Fun, givenOf, tables, tablesOf, Given, ‵, raw, _⊛_, _$_, _∵_, !, qed, move, whole, sub, init, stop, from, no-more, land, enter, params1, pass1, pass0, fmOf, owns, flat, Are, Ises, RefT, now, ptr, slice-vals, uint-vals, uint-tells, shr-slice-tells, mut-slice-tells, typesAt, u16, u64, Contract, Triple, Args, Vals, alive, onEntry, Meets, tripleOf, entered, cited, ensured, lasts}
+use Rattle.records.proofs.Walk.{URA, named, w16, w32, vint, vptr, SProp, ent, id⊢, flft, Memory, Routine, Heap, WpFn, Tables, Atoms, sem, Lfts, Shares, Fun, givenOf, tables, tablesOf, Given, ‵, raw, _⊛_, _$_, _∵_, !, qed, move, whole, sub, init, stop, from, no-more, land, enter, params1, pass1, pass0, fmOf, owns, flat, Are, Ises, RefT, now, ptr, slice-vals, uint-vals, uint-tells, shr-slice-tells, mut-slice-tells, typesAt, u16, u32, u64, Contract, Triple, Args, Vals, alive, onEntry, Meets, tripleOf, entered, cited, ensured, lasts}
 use Rattle.records.proofs.Locals.{sv, list-typed, others, allocated, operand, lent-on, met, retold-both, crossing}
 use Rattle.records.proofs.Pass.{PartsOf, WriteBack, records-mut, takes-apart-mut, works, Wrote, writes}
 use Rattle.records.proofs.Replies.{records-reply}
@@ -44,7 +44,7 @@ module _ {M : Type 1} (𝓤 : URA M) (H : Heap 𝓤) (A : Atoms 𝓤) (W : Given
   b = (partsOf (now relations), a .1)
 
   abbrev at : Vals f.signature κs
-  at = (slice-vals relations, (slice-vals variables, (slice-vals values, (uint-vals w16 m, (slice-vals members, (slice-vals words, (slice-vals supports, (uint-vals w16 x, (uint-vals w16 v, tt)))))))))
+  at = (slice-vals relations, (slice-vals variables, (slice-vals values, (uint-vals w16 m, (slice-vals members, (slice-vals words, (slice-vals supports, (uint-vals w16 x, (uint-vals w32 v, tt)))))))))
 
   -- the tokens and what is owned of all parameters but the records
   abbrev tokens : SProp 𝓤
@@ -74,7 +74,7 @@ module _ {M : Type 1} (𝓤 : URA M) (H : Heap 𝓤) (A : Atoms 𝓤) (W : Given
       enter ! (𝓣 .C) (𝓣 .Λ) code.function _ _ $ allocated W ! (code.function .locals) (λ bs. params1 ! $
       pass1 ! (init ! 36 refl (list-typed T.the-row relations (are .0 .0 .1))) $
       pass1 ! (init ! 34 refl (list-typed u16 variables (are .1 .0 .0 .1))) $
-      pass1 ! (init ! 32 refl (list-typed u16 values (are .1 .1 .0 .0 .1))) $
+      pass1 ! (init ! 32 refl (list-typed u32 values (are .1 .1 .0 .0 .1))) $
       pass1 ! (init ! 30 refl (tt, record { fits = are .1 .1 .1 .0 .1 })) $
       pass1 ! (init ! 28 refl (list-typed u16 members (are .1 .1 .1 .1 .0 .0 .1))) $
       pass1 ! (init ! 26 refl (list-typed u64 words (are .1 .1 .1 .1 .1 .0 .0 .1))) $
@@ -95,7 +95,7 @@ module _ {M : Type 1} (𝓤 : URA M) (H : Heap 𝓤) (A : Atoms 𝓤) (W : Given
       -- the records are lent on to be written
       lent-on W ! 5 refl (sub ! 0 refl (whole !)) refl (tt, tt) refl refl (sub ! 1 refl (whole !)) refl (list-typed T.the-row relations (are .0 .0 .1)) $
       writes W mem run (κs .0) (qs .0) relations ! (fmOf 𝓤 H (W .laws) 𝓣) known-back tokens (Said d) Told d w (tells d) (bs .0) (others (code.function .locals)) (bs .1)
-      (sv relations, (sv variables, (sv values, (vint w16 m, (sv members, (sv words, (sv supports, (vint w16 x, (vint w16 v, (u, (w, (vptr (ptr relations .0) (ptr relations .1), (sv relations, (vptr (ptr words .0) (ptr words .1), (sv words, (vptr (ptr supports .0) (ptr supports .1), (sv supports, (vptr (ptr relations .0) (ptr relations .1), (sv relations, tt)))))))))))))))))))
+      (sv relations, (sv variables, (sv values, (vint w16 m, (sv members, (sv words, (sv supports, (vint w16 x, (vint w32 v, (u, (w, (vptr (ptr relations .0) (ptr relations .1), (sv relations, (vptr (ptr words .0) (ptr words .1), (sv words, (vptr (ptr supports .0) (ptr supports .1), (sv supports, (vptr (ptr relations .0) (ptr relations .1), (sv relations, tt)))))))))))))))))))
       (operand W ! 3 refl (operand W ! 3 refl (no-more !))))))
 
 module _ {M : Type 1} (𝓤 : URA M) (H : Heap 𝓤) (A : Atoms 𝓤) (W : Given 𝓤 H A) (mem : Memory → SProp 𝓤) (run : Routine → Fun 𝓤) (𝓣 : Tables 𝓤 H)
@@ -103,8 +103,8 @@ module _ {M : Type 1} (𝓤 : URA M) (H : Heap 𝓤) (A : Atoms 𝓤) (W : Given
   meets : Meets 𝓤 H A f.signature (WpFn 𝓤 H (𝓣 .C) (𝓣 .Λ) code.function) (f.spec 𝓤 H A mem run)
   meets =
       met 𝓤 H A f.signature (f.spec 𝓤 H A mem run) (WpFn 𝓤 H (𝓣 .C) (𝓣 .Λ) code.function)
-      (λ κs. (slice-vals, (slice-vals, (slice-vals, (uint-vals w16, (slice-vals, (slice-vals, (slice-vals, (uint-vals w16, (uint-vals w16, tt))))))))))
-      (λ κs. (mut-slice-tells (named 0) (κs .0) T.the-row, (shr-slice-tells (named 1) (κs .1 .0) u16, (shr-slice-tells (named 2) (κs .1 .1 .0) u16, (uint-tells w16, (shr-slice-tells (named 3) (κs .1 .1 .1 .0) u16, (mut-slice-tells (named 4) (κs .1 .1 .1 .1 .0) u64, (mut-slice-tells (named 5) (κs .1 .1 .1 .1 .1 .0) u16, (uint-tells w16, (uint-tells w16, tt))))))))))
+      (λ κs. (slice-vals, (slice-vals, (slice-vals, (uint-vals w16, (slice-vals, (slice-vals, (slice-vals, (uint-vals w16, (uint-vals w32, tt))))))))))
+      (λ κs. (mut-slice-tells (named 0) (κs .0) T.the-row, (shr-slice-tells (named 1) (κs .1 .0) u16, (shr-slice-tells (named 2) (κs .1 .1 .0) u32, (uint-tells w16, (shr-slice-tells (named 3) (κs .1 .1 .1 .0) u16, (mut-slice-tells (named 4) (κs .1 .1 .1 .1 .0) u64, (mut-slice-tells (named 5) (κs .1 .1 .1 .1 .1 .0) u16, (uint-tells w16, (uint-tells w32, tt))))))))))
       (λ κs qs os a g are. walk 𝓤 H A W mem run κs qs (a .0) (a .1 .0) (a .1 .1 .0) (a .1 .1 .1 .0) (a .1 .1 .1 .1 .0) (a .1 .1 .1 .1 .1 .0) (a .1 .1 .1 .1 .1 .1 .0) (a .1 .1 .1 .1 .1 .1 .1 .0) (a .1 .1 .1 .1 .1 .1 .1 .1 .0) 𝓣 known-parts known-work known-back are)
 
 pub wakhvosi-choose-records-spec : {M : Type 1} → stated.statement M

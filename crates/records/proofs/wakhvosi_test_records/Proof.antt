@@ -8,7 +8,7 @@ use Rattle.model.specs.declared.Record.{Record}
 use Rattle.model.proofs.Record as T
 use Rattle.layout.proofs.Records.{testReply-shapeOf}
 use Rattle.records.specs.Records.{relationsIn, partsOf}
-use Rattle.records.proofs.Walk.{URA, named, w16, vint, SProp, ent, id⊢, flft, Memory, Routine, Heap, WpFn, Tables, Atoms, sem, Lfts, Shares, Fun, givenOf, tables, tablesOf, Given, ‵, raw, _⊛_, _$_, _∵_, !, qed, move, init, stop, from, no-more, land, enter, params1, pass1, pass0, fmOf, owns, flat, Are, Ises, RefT, now, slice-vals, uint-vals, uint-tells, shr-slice-tells, typesAt, u16, u64, Contract, Triple, Args, Vals, alive, onEntry, Meets, tripleOf, entered, cited, ensured, lasts}
+use Rattle.records.proofs.Walk.{URA, named, w16, vint, SProp, ent, id⊢, flft, Memory, Routine, Heap, WpFn, Tables, Atoms, sem, Lfts, Shares, Fun, givenOf, tables, tablesOf, Given, ‵, raw, _⊛_, _$_, _∵_, !, qed, move, init, stop, from, no-more, land, enter, params1, pass1, pass0, fmOf, owns, flat, Are, Ises, RefT, now, slice-vals, uint-vals, uint-tells, shr-slice-tells, typesAt, u16, u32, u64, Contract, Triple, Args, Vals, alive, onEntry, Meets, tripleOf, entered, cited, ensured, lasts}
 use Rattle.records.proofs.Locals.{sv, list-typed, others, allocated, operand, met, retold}
 use Rattle.records.proofs.Pass.{PartsOf, records, takes-apart, answers}
 use Rattle.records.proofs.parts_of.Symbol as parts-of-def
@@ -66,7 +66,7 @@ module _ {M : Type 1} (𝓤 : URA M) (H : Heap 𝓤) (A : Atoms 𝓤) (W : Given
       enter ! (𝓣 .C) (𝓣 .Λ) code.function _ _ $ allocated W ! (code.function .locals) (λ bs. params1 ! $
       pass1 ! (init ! 12 refl (list-typed T.the-row relations (are .0 .0 .1))) $
       pass1 ! (init ! 10 refl (list-typed u16 variables (are .1 .0 .0 .1))) $
-      pass1 ! (init ! 8 refl (list-typed u16 values (are .1 .1 .0 .0 .1))) $
+      pass1 ! (init ! 8 refl (list-typed u32 values (are .1 .1 .0 .0 .1))) $
       pass1 ! (init ! 6 refl (tt, record { fits = are .1 .1 .1 .0 .1 })) $
       pass1 ! (init ! 4 refl (list-typed u16 members (are .1 .1 .1 .1 .0 .0 .1))) $
       pass1 ! (init ! 2 refl (list-typed u64 words (are .1 .1 .1 .1 .1 .0 .0 .1))) $ pass0 ! $
@@ -83,7 +83,7 @@ module _ {M : Type 1} (𝓤 : URA M) (H : Heap 𝓤) (A : Atoms 𝓤) (W : Given
   meets =
       met 𝓤 H A f.signature (f.spec 𝓤 H A mem run) (WpFn 𝓤 H (𝓣 .C) (𝓣 .Λ) code.function)
       (λ κs. (slice-vals, (slice-vals, (slice-vals, (uint-vals w16, (slice-vals, (slice-vals, tt)))))))
-      (λ κs. (shr-slice-tells (named 0) (κs .0) T.the-row, (shr-slice-tells (named 1) (κs .1 .0) u16, (shr-slice-tells (named 2) (κs .1 .1 .0) u16, (uint-tells w16, (shr-slice-tells (named 3) (κs .1 .1 .1 .0) u16, (shr-slice-tells (named 4) (κs .1 .1 .1 .1 .0) u64, tt)))))))
+      (λ κs. (shr-slice-tells (named 0) (κs .0) T.the-row, (shr-slice-tells (named 1) (κs .1 .0) u16, (shr-slice-tells (named 2) (κs .1 .1 .0) u32, (uint-tells w16, (shr-slice-tells (named 3) (κs .1 .1 .1 .0) u16, (shr-slice-tells (named 4) (κs .1 .1 .1 .1 .0) u64, tt)))))))
       (λ κs qs os a g are. walk 𝓤 H A W mem run κs qs (a .0) (a .1 .0) (a .1 .1 .0) (a .1 .1 .1 .0) (a .1 .1 .1 .1 .0) (a .1 .1 .1 .1 .1 .0) 𝓣 known-parts known-work are)
 
 pub wakhvosi-test-records-spec : {M : Type 1} → stated.statement M

@@ -10,7 +10,7 @@ use Rattle.model.specs.Request.{withdraw}
 use Rattle.model.proofs.Record as T
 use Rattle.records.specs.declared.Done.{Done}
 use Rattle.records.specs.Records.{partsOf}
-use Rattle.records.proofs.Walk.{URA, named, w16, vint, vptr, SProp, ent, id⊢, flft, Memory, Routine, Heap, WpFn, Tables, Atoms, sem, Lfts, Shares, Fun, givenOf, tables, tablesOf, Given, ‵, raw, _⊛_, _$_, _∵_, !, qed, move, whole, sub, init, stop, from, no-more, land, enter, params1, pass1, pass0, fmOf, owns, flat, Are, Ises, RefT, now, ptr, slice-vals, uint-vals, uint-tells, shr-slice-tells, mut-slice-tells, typesAt, u16, u64, Contract, Triple, Args, Vals, alive, onEntry, Meets, tripleOf, entered, cited, ensured, lasts}
+use Rattle.records.proofs.Walk.{URA, named, w16, vint, vptr, SProp, ent, id⊢, flft, Memory, Routine, Heap, WpFn, Tables, Atoms, sem, Lfts, Shares, Fun, givenOf, tables, tablesOf, Given, ‵, raw, _⊛_, _$_, _∵_, !, qed, move, whole, sub, init, stop, from, no-more, land, enter, params1, pass1, pass0, fmOf, owns, flat, Are, Ises, RefT, now, ptr, slice-vals, uint-vals, uint-tells, shr-slice-tells, mut-slice-tells, typesAt, u16, u32, u64, Contract, Triple, Args, Vals, alive, onEntry, Meets, tripleOf, entered, cited, ensured, lasts}
 use Rattle.records.proofs.Locals.{sv, list-typed, others, allocated, operand, lent-on, met, retold-both, crossing}
 use Rattle.records.proofs.Pass.{PartsOf, WriteBack, records-mut, takes-apart-mut, works, Wrote, writes}
 use Rattle.records.proofs.Replies.{records-reply}
@@ -74,7 +74,7 @@ module _ {M : Type 1} (𝓤 : URA M) (H : Heap 𝓤) (A : Atoms 𝓤) (W : Given
       enter ! (𝓣 .C) (𝓣 .Λ) code.function _ _ $ allocated W ! (code.function .locals) (λ bs. params1 ! $
       pass1 ! (init ! 34 refl (list-typed T.the-row relations (are .0 .0 .1))) $
       pass1 ! (init ! 32 refl (list-typed u16 variables (are .1 .0 .0 .1))) $
-      pass1 ! (init ! 30 refl (list-typed u16 values (are .1 .1 .0 .0 .1))) $
+      pass1 ! (init ! 30 refl (list-typed u32 values (are .1 .1 .0 .0 .1))) $
       pass1 ! (init ! 28 refl (tt, record { fits = are .1 .1 .1 .0 .1 })) $
       pass1 ! (init ! 26 refl (list-typed u16 members (are .1 .1 .1 .1 .0 .0 .1))) $
       pass1 ! (init ! 24 refl (list-typed u64 words (are .1 .1 .1 .1 .1 .0 .0 .1))) $
@@ -103,7 +103,7 @@ module _ {M : Type 1} (𝓤 : URA M) (H : Heap 𝓤) (A : Atoms 𝓤) (W : Given
   meets =
       met 𝓤 H A f.signature (f.spec 𝓤 H A mem run) (WpFn 𝓤 H (𝓣 .C) (𝓣 .Λ) code.function)
       (λ κs. (slice-vals, (slice-vals, (slice-vals, (uint-vals w16, (slice-vals, (slice-vals, (slice-vals, (slice-vals, tt)))))))))
-      (λ κs. (mut-slice-tells (named 0) (κs .0) T.the-row, (shr-slice-tells (named 1) (κs .1 .0) u16, (shr-slice-tells (named 2) (κs .1 .1 .0) u16, (uint-tells w16, (shr-slice-tells (named 3) (κs .1 .1 .1 .0) u16, (mut-slice-tells (named 4) (κs .1 .1 .1 .1 .0) u64, (mut-slice-tells (named 5) (κs .1 .1 .1 .1 .1 .0) u16, (shr-slice-tells (named 6) (κs .1 .1 .1 .1 .1 .1 .0) u16, tt)))))))))
+      (λ κs. (mut-slice-tells (named 0) (κs .0) T.the-row, (shr-slice-tells (named 1) (κs .1 .0) u16, (shr-slice-tells (named 2) (κs .1 .1 .0) u32, (uint-tells w16, (shr-slice-tells (named 3) (κs .1 .1 .1 .0) u16, (mut-slice-tells (named 4) (κs .1 .1 .1 .1 .0) u64, (mut-slice-tells (named 5) (κs .1 .1 .1 .1 .1 .0) u16, (shr-slice-tells (named 6) (κs .1 .1 .1 .1 .1 .1 .0) u16, tt)))))))))
       (λ κs qs os a g are. walk 𝓤 H A W mem run κs qs (a .0) (a .1 .0) (a .1 .1 .0) (a .1 .1 .1 .0) (a .1 .1 .1 .1 .0) (a .1 .1 .1 .1 .1 .0) (a .1 .1 .1 .1 .1 .1 .0) (a .1 .1 .1 .1 .1 .1 .1 .0) 𝓣 known-parts known-work known-back are)
 
 pub wakhvosi-withdraw-records-spec : {M : Type 1} → stated.statement M
