@@ -9,19 +9,23 @@ enum { SHEETS = 3, ROWS = 7, M = 2, NUMBERS = 28 };
  * combinations of every two. */
 static const uint16_t sheet_list[] = {2, 3, 3, 2, 2, 2, 2, 2, 2};
 static const uint16_t question_list[] = {0, 1, 1, 2, 2, 0};
-static const uint16_t code_list[] = {1, 1, 1, 2, 2, 2, 1, 5, 2, 6, 5, 1, 6, 1};
+static const uint32_t code_list[] = {1, 1, 1, 2, 2, 2, 1, 5, 2, 6, 5, 1, 6, 1};
 static const uint16_t combination_list[] = {0, 1, 0, 2, 1, 2};
 
 static uint8_t sheets[sizeof sheet_list], questions[sizeof question_list];
 static uint8_t codes[sizeof code_list], combinations[sizeof combination_list];
 static uint8_t marks[8], supports[2 * NUMBERS];
 
-/* The numbers as bytes, lowest byte first. */
+/* The numbers as bytes, lowest byte first: two to a number, and four to a code. */
 static void encode(uint8_t *bytes, const uint16_t *numbers, size_t count) {
     for (size_t i = 0; i < count; i++) {
         bytes[2 * i] = (uint8_t)(numbers[i] & 255);
         bytes[2 * i + 1] = (uint8_t)(numbers[i] >> 8);
     }
+}
+
+static void encode_codes(uint8_t *bytes, const uint32_t *numbers, size_t count) {
+    for (size_t i = 0; i < 4 * count; i++) bytes[i] = (uint8_t)(numbers[i / 4] >> 8 * (i % 4) & 255);
 }
 
 static void mark_all(void) {
@@ -85,7 +89,7 @@ static uint64_t withdraw(uint16_t row) {
                              sizeof combinations, marks, sizeof marks, supports, sizeof supports, rows, sizeof rows);
 }
 
-static uint64_t choose(uint16_t question, uint16_t code) {
+static uint64_t choose(uint16_t question, uint32_t code) {
     return wakhvosi_choose(sheets, sizeof sheets, questions, sizeof questions, codes, sizeof codes, M, combinations,
                            sizeof combinations, marks, sizeof marks, supports, sizeof supports, question, code);
 }
@@ -99,9 +103,21 @@ static uint64_t compare(uint16_t a, uint16_t b) {
     return wakhvosi_compare(sheets, sizeof sheets, questions, sizeof questions, codes, sizeof codes, a, b);
 }
 
+/* The codes moved back to two bytes each, from before codes had four, and forth again. */
+static void move(void) {
+    static uint8_t older[2 * sizeof code_list / 4], again[sizeof code_list];
+    uint64_t back = wakhvosi_narrow(sheets, sizeof sheets, questions, sizeof questions, codes, sizeof codes, older, sizeof older);
+    uint64_t forth = wakhvosi_widen(sheets, sizeof sheets, questions, sizeof questions, older, sizeof older, again, sizeof again);
+    printf("codes back to two bytes each: %s, the last is %u\n", wakhvosi_kind(back) == WAKHVOSI_MOVED ? "moved" : "refused",
+           older[sizeof older - 2] + 256u * older[sizeof older - 1]);
+    printf("and forth again: %s\n", wakhvosi_kind(forth) == WAKHVOSI_MOVED && !memcmp(codes, again, sizeof codes) ? "the same" : "not so");
+    forth = wakhvosi_widen(sheets, sizeof sheets, questions, sizeof questions, older, sizeof older, again, sizeof again - 4);
+    printf("to a list with room for one code less: refused, number %u\n", wakhvosi_refusal(forth));
+}
+
 int main(void) {
     encode(questions, question_list, sizeof question_list / 2);
-    encode(codes, code_list, sizeof code_list / 2);
+    encode_codes(codes, code_list, sizeof code_list / 4);
     encode(combinations, combination_list, sizeof combination_list / 2);
 
     all_living();
@@ -123,5 +139,6 @@ int main(void) {
     show_comparison("compare rows 0 and 4", compare(0, 4));
     show_comparison("compare rows 0 and 2", compare(0, 2));
     show_comparison("compare rows 0 and 7", compare(0, 7));
+    move();
     return 0;
 }

@@ -22,12 +22,12 @@ fn at_end() -> bool {
 
 // One byte more than a text may have, so that a longer one is seen to be longer.
 fn main() {
-    let mut text = [0u8; 65537];
+    let mut text = [0u8; 32769];
     let n = io::read_full(STDIN_FILENO, &mut text);
-    if n < 65537 && !at_end() {
+    if n < 32769 && !at_end() {
         return;
     }
-    let mut out = [0u8; 262144];
+    let mut out = [0u8; 131072];
     let k = desk::listing(&text[..n], &mut out);
     let is_written = io::write_all(STDOUT_FILENO, &out[..k]);
     if !is_written {

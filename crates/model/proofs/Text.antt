@@ -1,23 +1,23 @@
 -- Laws of the desk's text: the digits of a decimal, one digit more, and how long fields and lines are.
 -- From the definitions alone.
 use mathlib.Core.Path.{_≡_, refl, sym, _∙_, ap, ap₂}
-use mathlib.Core.Bool.{Bool, true, false, _&&_}
+use mathlib.Core.Bool.{Bool, true, false}
 use mathlib.Core.List.{List, [], _∷_, _++_, map, append-assoc}
 use mathlib.Core.Logic.{_⊎_, inl, inr, ⊎-elim}
 use Prim.Native.Nat.{ℕ, zero, suc, _+_, _*_, _-_, _/_, _%_, _^_, _≤_, _<_}
 use native.Mathlib.Nat.{pow-zero, pow-succ', zero-add, add-assoc, mul-comm}
 use native.Mathlib.Omega.{arith}
-use lib.Dec.{leb, ltb}
+use lib.Dec.{ltb}
 use lib.ListN.{length, take, drop, length-append}
 use lib.Seq.{take-at}
 use borrow.Author.Tests.{lt-ltb, le-ltb, ltb-true, ltb-false, le-leb}
 use Rattle.model.specs.declared.Relation.{Relation}
-use Rattle.model.specs.Lists.{from, all, each}
+use Rattle.model.specs.Lists.{from, each}
 use Rattle.model.specs.Network.{Network, width, size, variablesIn, valuesIn, before, firstId, relationOf, indexOf, scopeOf, valuesAt, tupleOf}
-use Rattle.model.specs.Text.{maxField, comma, nought, digitsOf, decimal, lineText, textOf, relationLines, networkLines, smallFields}
+use Rattle.model.specs.Text.{maxCode, comma, nought, digitsOf, decimal, lineText, textOf, relationLines, networkLines}
 use Rattle.model.specs.Reading.{isDigit, joined}
 use Rattle.model.proofs.Bools.{and-intro}
-use Rattle.model.proofs.Lists.{all-of-append, map-from-shift, map-from-same, each-append, each-cong, each-from-shift, drop-behind, pieces, pieces-front}
+use Rattle.model.proofs.Lists.{map-from-shift, map-from-same, each-append, each-cong, each-from-shift, drop-behind, pieces, pieces-front}
 
 -- ---- Digits
 
@@ -66,25 +66,25 @@ digitsOf-length (suc k) n =
 
 pub decimal-digit : (d : ℕ) → d < 10 → decimal d ≡ (nought + d) ∷ []
 unfolding decimal
-decimal-digit d h = digitsOf-small 4 d h
+decimal-digit d h = digitsOf-small 9 d h
 
 -- one digit more
-pub decimal-more : (v d : ℕ) → 0 < v → d < 10 → 10 * v + d ≤ maxField → decimal (10 * v + d) ≡ decimal v ++ ((nought + d) ∷ [])
+pub decimal-more : (v d : ℕ) → 0 < v → d < 10 → 10 * v + d ≤ maxCode → decimal (10 * v + d) ≡ decimal v ++ ((nought + d) ∷ [])
 unfolding decimal
 decimal-more v d p h m =
     let a : (10 * v + d) / 10 ≡ v = omega arith in
     let b : (10 * v + d) % 10 ≡ d = omega arith in
-    digitsOf-large 4 (10 * v + d) (omega arith) ∙ rw (a, b, digitsOf-room 4 v (omega arith) (omega arith))
+    digitsOf-large 9 (10 * v + d) (omega arith) ∙ rw (a, b, digitsOf-room 9 v (omega arith) (omega arith))
 
 -- all but the last digit, and the last
-pub decimal-large : (n : ℕ) → 10 ≤ n → n ≤ maxField → decimal n ≡ decimal (n / 10) ++ ((nought + n % 10) ∷ [])
+pub decimal-large : (n : ℕ) → 10 ≤ n → n ≤ maxCode → decimal n ≡ decimal (n / 10) ++ ((nought + n % 10) ∷ [])
 decimal-large n l m =
     let e : 10 * (n / 10) + n % 10 ≡ n = omega arith in
     rw e at (decimal-more (n / 10) (n % 10) (omega arith) (omega arith) (omega arith))
 
-pub decimal-length : (n : ℕ) → length (decimal n) ≤ 5
+pub decimal-length : (n : ℕ) → length (decimal n) ≤ 10
 unfolding decimal
-decimal-length n = digitsOf-length 5 n
+decimal-length n = digitsOf-length 10 n
 
 -- ---- Lines
 
@@ -93,8 +93,8 @@ pub lineText-cons : (n : ℕ) (ns : List ℕ) → 1 ≤ length ns → lineText (
 lineText-cons n [] h = absurd (omega arith)
 lineText-cons n (k ∷ ks) h = refl
 
--- five digits and the byte behind them, for each field
-pub lineText-length : (n : ℕ) (ns : List ℕ) → length (lineText (n ∷ ns)) ≤ 6 * length (n ∷ ns)
+-- ten digits and the byte behind them, for each field
+pub lineText-length : (n : ℕ) (ns : List ℕ) → length (lineText (n ∷ ns)) ≤ 11 * length (n ∷ ns)
 lineText-length n [] = let h = decimal-length n in rw length-append (omega arith)
 lineText-length n (k ∷ ks) = let h = decimal-length n in let l = lineText-length k ks in rw length-append (omega arith)
 
@@ -176,13 +176,10 @@ module _ (R : Relation) (scope values : List ℕ) (N : Network) (scoped : length
   firstLines = (R .width ∷ R .tuples ∷ []) ∷ scope ∷ pieces (R .tuples) (R .width) values
 
   -- the first relation's lines, and those of the others
-  pub joined-lines : networkLines J ≡ firstLines ++ networkLines N
+  joined-lines : networkLines J ≡ firstLines ++ networkLines N
   joined-lines =
       ap₂ {C = List (List ℕ)} (λ first rest. (R .width ∷ R .tuples ∷ []) ∷ first ∷ rest) joined-scope
       (ap₂ {C = List (List ℕ)} (λ tuples others. tuples ++ others) joined-tuples joined-others)
-
-  pub joined-fields : smallFields (networkLines J) ≡ (smallFields firstLines && smallFields (networkLines N))
-  joined-fields = ap smallFields joined-lines ∙ all-of-append (all (λ (n : ℕ). leb n maxField)) firstLines (networkLines N)
 
   pub joined-text : (rest : List ℕ) → textOf (networkLines J) ++ rest ≡ lineText (R .width ∷ R .tuples ∷ []) ++ (lineText scope ++ (textOf (pieces (R .tuples) (R .width) values) ++ (textOf (networkLines N) ++ rest)))
   joined-text rest =

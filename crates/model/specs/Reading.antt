@@ -10,7 +10,7 @@ use Rattle.model.specs.Limits.{maxRelations, maxWidth, maxTuples, minMem
 use Rattle.model.specs.Network.{Network}
 use Rattle.model.specs.Request.{Instance}
 use Rattle.model.specs.Fault.{within}
-use Rattle.model.specs.Text.{maxField, maxText, newline, comma, nought}
+use Rattle.model.specs.Text.{maxField, maxCode, maxText, newline, comma, nought}
 
 -- What was read, and the text behind it; none where the text is not in the form.
 abbrev pub Read : Type 0 → Type 0
@@ -24,32 +24,32 @@ andThen (some r) next = next (r .0) (r .1)
 abbrev pub isDigit : ℕ → Bool
 isDigit b = within nought (nought + 9) b
 
--- a field read as far as the number v, to be ended by the byte `end`: a nought is followed by no digit
-abbrev pub readDigits : ℕ → ℕ → List ℕ → Read ℕ
-readDigits end v [] = none
-readDigits end v (b ∷ bs) =
+-- a field of at most `top` read as far as the number v, to be ended by the byte `end`: a nought is followed by no digit
+abbrev pub readDigits : ℕ → ℕ → ℕ → List ℕ → Read ℕ
+readDigits top end v [] = none
+readDigits top end v (b ∷ bs) =
     cond (eqb b end) (some (v, bs))
-    (cond (isDigit b && (ltb 0 v && leb (10 * v + (b - nought)) maxField)) (readDigits end (10 * v + (b - nought)) bs) none)
+    (cond (isDigit b && (ltb 0 v && leb (10 * v + (b - nought)) top)) (readDigits top end (10 * v + (b - nought)) bs) none)
 
 -- a field that is ended by the byte `end`
-unfoldable pub readField : ℕ → List ℕ → Read ℕ
-readField end [] = none
-readField end (b ∷ bs) = cond (isDigit b) (readDigits end (b - nought) bs) none
+unfoldable pub readField : ℕ → ℕ → List ℕ → Read ℕ
+readField top end [] = none
+readField top end (b ∷ bs) = cond (isDigit b) (readDigits top end (b - nought) bs) none
 
--- a line of n fields
-abbrev pub readLine : ℕ → List ℕ → Read (List ℕ)
-readLine zero t = none
-readLine (suc zero) t = andThen (readField newline t) (λ v. λ rest. some (v ∷ [], rest))
-readLine (suc (suc n)) t =
-    andThen (readField comma t) (λ v. λ rest.
-    andThen (readLine (suc n) rest) (λ vs. λ rest'. some (v ∷ vs, rest')))
+-- a line of n fields, each at most `top`
+abbrev pub readLine : ℕ → ℕ → List ℕ → Read (List ℕ)
+readLine top zero t = none
+readLine top (suc zero) t = andThen (readField top newline t) (λ v. λ rest. some (v ∷ [], rest))
+readLine top (suc (suc n)) t =
+    andThen (readField top comma t) (λ v. λ rest.
+    andThen (readLine top (suc n) rest) (λ vs. λ rest'. some (v ∷ vs, rest')))
 
 -- k lines of n fields each, the fields end to end
-abbrev pub readLines : ℕ → ℕ → List ℕ → Read (List ℕ)
-readLines zero n t = some ([], t)
-readLines (suc k) n t =
-    andThen (readLine n t) (λ vs. λ rest.
-    andThen (readLines k n rest) (λ us. λ rest'. some (vs ++ us, rest')))
+abbrev pub readLines : ℕ → ℕ → ℕ → List ℕ → Read (List ℕ)
+readLines top zero n t = some ([], t)
+readLines top (suc k) n t =
+    andThen (readLine top n t) (λ vs. λ rest.
+    andThen (readLines top k n rest) (λ us. λ rest'. some (vs ++ us, rest')))
 
 -- a relation with its scope and its tuples' values, before others
 abbrev pub joined : Relation → List ℕ → List ℕ → Network → Network
@@ -60,12 +60,12 @@ joined R scope values N =
 abbrev pub readRelations : ℕ → ℕ → List ℕ → Read Network
 readRelations zero room t = some (record { relations = []; variables = []; values = [] }, t)
 readRelations (suc k) room t =
-    andThen (readLine 2 t) (λ head. λ rest.
+    andThen (readLine maxField 2 t) (λ head. λ rest.
     let width = getD head 0 0 in
     let tuples = getD head 1 0 in
     cond (within 1 maxWidth width && leb tuples room)
-    (andThen (readLine width rest) (λ scope. λ rest'.
-    andThen (readLines tuples width rest') (λ values. λ rest''.
+    (andThen (readLine maxField width rest) (λ scope. λ rest'.
+    andThen (readLines maxCode tuples width rest') (λ values. λ rest''.
     andThen (readRelations k (room - tuples) rest'') (λ N. λ rest'''.
     some (joined (record { width = width; tuples = tuples }) scope values N, rest''')))))
     none)
@@ -73,13 +73,13 @@ readRelations (suc k) room t =
 -- a network with its combinations
 unfoldable pub readInstance : List ℕ → Read Instance
 readInstance t =
-    andThen (readLine 3 t) (λ head. λ rest.
+    andThen (readLine maxField 3 t) (λ head. λ rest.
     let relations = getD head 0 0 in
     let m = getD head 1 0 in
     let combinations = getD head 2 0 in
     cond (within 1 maxRelations relations && (within minMembers maxMembers m && leb combinations maxCombinations))
     (andThen (readRelations relations maxTuples rest) (λ N. λ rest'.
-    andThen (readLines combinations m rest') (λ members. λ rest''.
+    andThen (readLines maxField combinations m rest') (λ members. λ rest''.
     some (record { network = N; m = m; members = members }, rest''))))
     none)
 

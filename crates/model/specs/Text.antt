@@ -14,9 +14,13 @@ use Rattle.model.specs.Fault.{within, properWidth, properLengths, proper
 abbrev pub maxField : ℕ
 maxField = 65535
 
--- "at most 65,536 bytes"
+-- .. but for codes, which widen to 32 bits (card 9)
+abbrev pub maxCode : ℕ
+maxCode = 4294967295
+
+-- "at most 32,768 bytes of text" (card 9)
 abbrev pub maxText : ℕ
-maxText = 65536
+maxText = 32768
 
 -- "every line ended by byte 10"
 abbrev pub newline : ℕ
@@ -34,9 +38,9 @@ abbrev pub digitsOf : ℕ → ℕ → List ℕ
 digitsOf zero n = []
 digitsOf (suc k) n = cond (ltb n 10) ((nought + n) ∷ []) (digitsOf k (n / 10) ++ ((nought + n % 10) ∷ []))
 
--- a field: a number of at most five digits
+-- a field: a number of at most ten digits
 unfoldable pub decimal : ℕ → List ℕ
-decimal n = digitsOf 5 n
+decimal n = digitsOf 10 n
 
 -- a line: its fields parted by commas, and byte 10
 abbrev pub lineText : List ℕ → List ℕ
@@ -65,8 +69,12 @@ instanceLines I =
 unfoldable pub instanceText : Instance → List ℕ
 instanceText I = textOf (instanceLines I)
 
-abbrev pub smallFields : List (List ℕ) → Bool
-smallFields lines = all (all (λ (n : ℕ). leb n maxField)) lines
+abbrev pub small : ℕ → List ℕ → Bool
+small top = all (λ (n : ℕ). leb n top)
+
+-- codes, questions and members are small enough for their fields; the numbers in front of them are, where the sizes are in range
+abbrev pub smallFields : Instance → Bool
+smallFields I = small maxField (I .network .variables) && small maxCode (I .network .values) && small maxField (I .members)
 
 -- the records are in range, and the lists as long as they call for (no fault 2 to 5)
 abbrev pub properSizes : Network → Bool
@@ -83,5 +91,5 @@ writable I =
     properSizes (I .network)
     && within minMembers maxMembers (I .m)
     && properList (I .m) (I .members)
-    && smallFields (instanceLines I)
+    && smallFields I
     && leb (length (instanceText I)) maxText

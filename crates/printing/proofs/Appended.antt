@@ -79,6 +79,14 @@ module _ {whole before : List ℕ} {at : ℕ} where
         rest = rest-then before (r .fits) (r .rest) a;
       }
 
+  -- how long the rest is
+  pub remains-length : {text now : List ℕ} {k : ℕ} → at ≤ length before → Remains text now k whole before at → k + length text ≡ at + length whole
+  remains-length {text} {now} {k} h r =
+      let l : length (take k now) + length text ≡ length (take at before) + length whole =
+      sym (length-append (take k now) text) ∙ ap length (r .front) ∙ length-append (take at before) whole
+      in
+      omega (arith, l, length-take-le k now (r .fits), length-take-le at before h)
+
   pub remains-same : {s t now : List ℕ} {k : ℕ} → s ≡ t → Remains s now k whole before at → Remains t now k whole before at
   remains-same {now = now} {k = k} e r = subst (λ (u : List ℕ). Remains u now k whole before at) e r
 

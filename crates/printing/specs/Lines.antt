@@ -14,17 +14,17 @@ use Rattle.model.specs.LiveWords.{isLive}
 use Rattle.model.specs.Fault.{networkFaults, firstFault}
 use Rattle.model.specs.Reply.{answerNumbers, replied}
 use Rattle.model.specs.Text.{textOf}
-use Rattle.model.specs.Listing.{tupleLine, replyLines}
+use Rattle.model.specs.Listing.{tupleLine, tupleLines, replyLines}
 use Rattle.layout.specs.Starts.{tupleStart, valueStart, recordsIn, SoundStarts}
 use Rattle.printing.specs.Appended.{Appended}
 
--- the most bytes of a field: five digits, and the byte that ends it
-abbrev pub fieldRoom : ℕ
-fieldRoom = 6
+-- how many bytes a reply may take
+abbrev pub output : ℕ
+output = 131072
 
--- the most bytes of a tuple's line: ten fields
-abbrev pub lineRoom : ℕ
-lineRoom = 60
+-- the most bytes of the answer's line: four numbers of ten digits, and the byte behind each
+abbrev pub answerRoom : ℕ
+answerRoom = 44
 
 -- the line of each id from g on and below end that passes the test
 unfoldable pub textOver : (ℕ → List ℕ) → (ℕ → Bool) → ℕ → ℕ → List ℕ
@@ -41,10 +41,6 @@ abbrev pub relationText : List ℕ → List ℕ → List ℕ → ℕ → List �
 relationText starts values words r =
     textOver (tupleLine (rows starts values)) (isLive words) (tupleStart starts r) (tupleStart starts (r + 1))
 
--- the most bytes of them
-abbrev pub relationRoom : List ℕ → ℕ → ℕ
-relationRoom starts r = lineRoom * (tupleStart starts (r + 1) - tupleStart starts r)
-
 -- The starts are sound, every value stands in the list, and every tuple has its bit.
 pub record Printable (starts values words : List ℕ) : Type 0 where
   pub framed : SoundStarts starts
@@ -56,10 +52,11 @@ pub record Printable (starts values words : List ℕ) : Type 0 where
 abbrev pub isRefusal : Answer → Bool
 isRefusal a = eqb (answerNumbers a .kind) 2
 
--- A network without the faults 2 to 6, and enough words for its tuples.
+-- A network without the faults 2 to 6, enough words for its tuples, and enough room for the lines of those that live.
 pub record Accepted (N : Network) (words : List ℕ) : Type 0 where
   pub faultless : firstFault (networkFaults N) ≡ none
   pub enough : total N ≤ wordBits * length words
+  pub short : answerRoom + length (textOf (tupleLines N words)) ≤ output
 
 -- the text of the reply that has this answer and leaves these words, with any supports and counts, is at the front of the buffer `after`
 abbrev pub Printed : Network → Answer → List ℕ → List ℕ → List ℕ → ℕ → Type 0

@@ -13,27 +13,28 @@ use layout::starts_of;
 use model::Answer;
 use model::Value;
 
-// Room for every reply: the answer's line takes at most 24 bytes, and each of 4,096 tuples at most 60.
-pub const OUTPUT: usize = 262144;
+// Room for every reply: the answer's line takes at most 44 bytes, each of 4,096 tuples at most 22 before its values, and the values
+// what they took in a text of 32,768 bytes: 122,924 together.
+pub const OUTPUT: usize = 131072;
 
 // An answer's kind.
-const SETTLED: u16 = 0;
+const SETTLED: u32 = 0;
 
-const EMPTIED: u16 = 1;
+const EMPTIED: u32 = 1;
 
-const REFUSED: u16 = 2;
+const REFUSED: u32 = 2;
 
 // The subject of a settled answer: no relation is empty.
-const NO_RELATION: u16 = 64;
+const NO_RELATION: u32 = 64;
 
 // The fields of the answer's line: kind, subject, left, deleted.
-fn answer_fields(answer: Answer) -> [u16; 4]
+fn answer_fields(answer: Answer) -> [u32; 4]
     ensures { λ fields. ⌜ fields ≡ answerLine (answerNumbers answer) ⌝ }
 {
     match answer {
-        Answer::Settled(k) => [SETTLED, NO_RELATION, k.left, k.deleted],
-        Answer::Emptied(r, k) => [EMPTIED, r, k.left, k.deleted],
-        Answer::Refused(f) => [REFUSED, f as u16, 0, 0],
+        Answer::Settled(k) => [SETTLED, NO_RELATION, k.left as u32, k.deleted as u32],
+        Answer::Emptied(r, k) => [EMPTIED, r as u32, k.left as u32, k.deleted as u32],
+        Answer::Refused(f) => [REFUSED, f as u32, 0, 0],
     }
 }
 

@@ -1,13 +1,12 @@
 // The lines of live tuples.
-ghost use Prim.Native.Nat.{_+_, _*_, _≤_, _<_};
+ghost use Prim.Native.Nat.{_+_, _≤_, _<_};
 ghost use lib.ListN.{length};
-ghost use Rattle.model.specs.Limits.{maxTuples};
 ghost use Rattle.model.specs.Text.{textOf};
 ghost use Rattle.model.specs.Listing.{tupleLines};
 ghost use Rattle.layout.specs.Loan.{entry, exit};
 ghost use Rattle.layout.specs.Starts.{relationCount};
 ghost use Rattle.printing.specs.Appended.{Appended};
-ghost use Rattle.printing.specs.Lines.{lineRoom, rows, relationText, relationRoom, Printable};
+ghost use Rattle.printing.specs.Lines.{rows, relationText, Printable};
 use super::text::tuple_line;
 use layout::Starts;
 use layout::relation_count;
@@ -28,9 +27,8 @@ fn relation_lines(
     at: usize,
 ) -> usize
     requires { ⌜ Printable (now starts) (now values) (now words) × (r < relationCount (now starts)) ⌝ }
-    requires { ⌜ at + relationRoom (now starts) r ≤ length (now out) ⌝ }
-    ensures room { λ n. ⌜ n ≤ at + relationRoom (entry starts) r ⌝ }
-    ensures text { λ n. ⌜ Appended (relationText (entry starts) (entry values) (entry words) r) (entry out) at (exit out) n ⌝ }
+    requires { ⌜ at + length (relationText (now starts) (now values) (now words) r) ≤ length (now out) ⌝ }
+    ensures { λ n. ⌜ Appended (relationText (entry starts) (entry values) (entry words) r) (entry out) at (exit out) n ⌝ }
 {
     let start = tuple_start(starts, r);
     let end = tuple_start(starts, r + 1);
@@ -56,7 +54,8 @@ pub fn tuple_lines(
     out: &mut [u8],
     at: usize,
 ) -> usize
-    requires { ⌜ Printable (now starts) (now values) (now words) × (at + lineRoom * maxTuples ≤ length (now out)) ⌝ }
+    requires { ⌜ Printable (now starts) (now values) (now words) ⌝ }
+    requires { ⌜ at + length (textOf (tupleLines (rows (now starts) (now values)) (now words))) ≤ length (now out) ⌝ }
     ensures { λ n. ⌜ Appended (textOf (tupleLines (rows (entry starts) (entry values)) (entry words))) (entry out) at (exit out) n ⌝ }
 {
     let relations = relation_count(starts);

@@ -18,6 +18,7 @@ use Rattle.model.specs.Limits.{maxRelations, maxWidth}
 use Rattle.model.specs.Lists.{from}
 use Rattle.model.specs.Network.{Network, size, noRelation, variablesIn, tuplesIn}
 use Rattle.model.specs.Fault.{within}
+use Rattle.model.specs.Text.{maxField, maxCode}
 use Rattle.model.specs.Reading.{Read, andThen, readLine, readLines, readRelations}
 use Rattle.model.proofs.Bools.{and-left}
 use Rattle.model.proofs.Lists.{from-append, map-from-same}
@@ -28,17 +29,17 @@ use Rattle.reading.specs.Parts.{foundAt, mapRead, behind, append, single
 use Rattle.reading.proofs.Found.{found-at, behind-nil, map-split, map-found, passed-test}
 
 -- a line read into a list of its own
-pub line-alone : (n : ℕ) (t T xs : List ℕ) (next : ℕ) → length xs ≡ n → foundAt next (take (0 + n) xs) t ≡ behind [] (readLine n T) → foundAt next xs t ≡ readLine n T
-line-alone n t T xs next e h =
-    ap (λ (ys : List ℕ). foundAt next ys t) (sym (take-all (0 + n) xs (omega arith))) ∙ h ∙ behind-nil (readLine n T)
+pub line-alone : (top n : ℕ) (t T xs : List ℕ) (next : ℕ) → length xs ≡ n → foundAt next (take (0 + n) xs) t ≡ behind [] (readLine top n T) → foundAt next xs t ≡ readLine top n T
+line-alone top n t T xs next e h =
+    ap (λ (ys : List ℕ). foundAt next ys t) (sym (take-all (0 + n) xs (omega arith))) ∙ h ∙ behind-nil (readLine top n T)
 
 -- the record, once its line is read
 module _ (room : ℕ) (T : List ℕ) where
-  pub record-none : readLine 2 T ≡ none → readRecord room T ≡ none
+  pub record-none : readLine maxField 2 T ≡ none → readRecord room T ≡ none
   unfolding readRecord
   record-none e = rw e
 
-  module _ (head rest : List ℕ) (e : readLine 2 T ≡ some (head, rest)) (w n : ℕ) (p : w ≡ getD head 0 0) (q : n ≡ getD head 1 0) where
+  module _ (head rest : List ℕ) (e : readLine maxField 2 T ≡ some (head, rest)) (w n : ℕ) (p : w ≡ getD head 0 0) (q : n ≡ getD head 1 0) where
     record-read : readRecord room T ≡ cond (within 1 maxWidth w && leb n room) (some (record { width = w; tuples = n }, rest)) none
     unfolding readRecord
     record-read = rw (e, p, q)
@@ -57,7 +58,7 @@ module _ (room : ℕ) (T : List ℕ) where
 pub record-width : (room : ℕ) (T : List ℕ) (R : Relation) (rest : List ℕ) → readRecord room T ≡ some (R, rest) → 0 < R .width
 unfolding readRecord
 record-width room T R rest h =
-    let s = passed-test (λ (head : List ℕ). within 1 maxWidth (getD head 0 0) && leb (getD head 1 0) room) (λ (head : List ℕ). record { width = getD head 0 0; tuples = getD head 1 0 }) (readLine 2 T) R rest h in
+    let s = passed-test (λ (head : List ℕ). within 1 maxWidth (getD head 0 0) && leb (getD head 1 0) room) (λ (head : List ℕ). record { width = getD head 0 0; tuples = getD head 1 0 }) (readLine maxField 2 T) R rest h in
     let width : getD (s .0) 0 0 ≡ R .width = ap (λ (Q : Relation). Q .width) (s .2) in
     let broad : 1 ≤ getD (s .0) 0 0 = leb-true 1 (getD (s .0) 0 0) (and-left _ _ (and-left _ _ (s .1))) in
     omega arith
@@ -69,24 +70,24 @@ module _ (room : ℕ) (T : List ℕ) where
   relation-none e = rw e
 
   module _ (R : Relation) (rest : List ℕ) (e : readRecord room T ≡ some (R, rest)) where
-    pub relation-scopeless : readLine (R .width) rest ≡ none → readRelation room T ≡ none
+    pub relation-scopeless : readLine maxField (R .width) rest ≡ none → readRelation room T ≡ none
     unfolding readRelation
     relation-scopeless s = rw (e, s)
 
-    relation-read : (scope rest' : List ℕ) → readLine (R .width) rest ≡ some (scope, rest') → readRelation room T ≡ mapRead (single R scope) (readLines (R .tuples) (R .width) rest')
+    relation-read : (scope rest' : List ℕ) → readLine maxField (R .width) rest ≡ some (scope, rest') → readRelation room T ≡ mapRead (single R scope) (readLines maxCode (R .tuples) (R .width) rest')
     unfolding readRelation
     relation-read scope rest' s = rw (e, s)
 
     -- its scope behind the numbers us, its values behind zs
-    pub relation-found : (t us ws zs ys : List ℕ) (scope-end next : ℕ) → foundAt scope-end ws t ≡ behind us (readLine (R .width) rest) → (scope-end ≡ 0 → ⊥)
-        → foundAt next ys t ≡ behind zs (readLines (R .tuples) (R .width) (drop scope-end t))
+    pub relation-found : (t us ws zs ys : List ℕ) (scope-end next : ℕ) → foundAt scope-end ws t ≡ behind us (readLine maxField (R .width) rest) → (scope-end ≡ 0 → ⊥)
+        → foundAt next ys t ≡ behind zs (readLines maxCode (R .tuples) (R .width) (drop scope-end t))
         → foundAt next (single R ws ys) t ≡ mapRead (append (unlisted us zs)) (readRelation room T)
     relation-found t us ws zs ys scope-end next hs n hv =
-        let s = map-split (λ (vs : List ℕ). us ++ vs) t scope-end ws (readLine (R .width) rest) hs n in
+        let s = map-split (λ (vs : List ℕ). us ++ vs) t scope-end ws (readLine maxField (R .width) rest) hs n in
         ap (λ (vs : List ℕ). foundAt next (single R vs ys) t) (s .2)
         ∙ sym (map-found (single R (us ++ s .0)) t next ys)
         ∙ ap (mapRead (single R (us ++ s .0))) hv
-        ∙ values-behind us zs (s .0) (readLines (R .tuples) (R .width) (drop scope-end t))
+        ∙ values-behind us zs (s .0) (readLines maxCode (R .tuples) (R .width) (drop scope-end t))
         ∙ ap (mapRead (append (unlisted us zs))) (sym (relation-read (s .0) (drop scope-end t) (s .1)))
       where
         values-behind : (us zs scope : List ℕ) (L : Read (List ℕ)) → mapRead (single R (us ++ scope)) (behind zs L) ≡ mapRead (append (unlisted us zs)) (mapRead (single R scope) L)
@@ -114,29 +115,29 @@ module _ (k room : ℕ) (T : List ℕ) where
   abbrev fits : List ℕ → Bool
   fits head = within 1 maxWidth (getD head 0 0) && leb (getD head 1 0) room
 
-  module _ (head rest : List ℕ) (e : readLine 2 T ≡ some (head, rest)) where
-    first-values : fits head ≡ true → (scope rest' : List ℕ) → readLine (getD head 0 0) rest ≡ some (scope, rest') → (L : Read (List ℕ)) → readLines (getD head 1 0) (getD head 0 0) rest' ≡ L → First
+  module _ (head rest : List ℕ) (e : readLine maxField 2 T ≡ some (head, rest)) where
+    first-values : fits head ≡ true → (scope rest' : List ℕ) → readLine maxField (getD head 0 0) rest ≡ some (scope, rest') → (L : Read (List ℕ)) → readLines maxCode (getD head 1 0) (getD head 0 0) rest' ≡ L → First
     unfolding readRelation readRecord
     first-values q scope rest' s none v = rw (e, q, s, v)
     first-values q scope rest' s (some r) v = rw (e, q, s, v)
 
-    first-scope : fits head ≡ true → (L : Read (List ℕ)) → readLine (getD head 0 0) rest ≡ L → First
+    first-scope : fits head ≡ true → (L : Read (List ℕ)) → readLine maxField (getD head 0 0) rest ≡ L → First
     unfolding readRelation readRecord
     first-scope q none s = rw (e, q, s)
-    first-scope q (some r) s = first-values q (r .0) (r .1) s (readLines (getD head 1 0) (getD head 0 0) (r .1)) refl
+    first-scope q (some r) s = first-values q (r .0) (r .1) s (readLines maxCode (getD head 1 0) (getD head 0 0) (r .1)) refl
 
     first-record : (b : Bool) → fits head ≡ b → First
     unfolding readRelation readRecord
     first-record false q = rw (e, q)
-    first-record true q = first-scope q (readLine (getD head 0 0) rest) refl
+    first-record true q = first-scope q (readLine maxField (getD head 0 0) rest) refl
 
-  first-line : (L : Read (List ℕ)) → readLine 2 T ≡ L → First
+  first-line : (L : Read (List ℕ)) → readLine maxField 2 T ≡ L → First
   unfolding readRelation readRecord
   first-line none e = rw e
   first-line (some r) e = first-record (r .0) (r .1) e (fits (r .0)) refl
 
   relations-first : First
-  relations-first = first-line (readLine 2 T) refl
+  relations-first = first-line (readLine maxField 2 T) refl
 
 module _ (j k room : ℕ) (T : List ℕ) (q : k ≡ j + 1) where
   -- the next relation is not in the form

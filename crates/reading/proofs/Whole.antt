@@ -15,7 +15,7 @@ use Rattle.model.specs.Limits.{maxRelations, maxTuples, minMembers, maxMembers,
 use Rattle.model.specs.Network.{Network}
 use Rattle.model.specs.Request.{Instance}
 use Rattle.model.specs.Fault.{within}
-use Rattle.model.specs.Text.{maxText}
+use Rattle.model.specs.Text.{maxField, maxText}
 use Rattle.model.specs.Reading.{Read, andThen, readLine, readLines, readRelations, readInstance, whole, read}
 use Rattle.model.proofs.Bools.{and-left, and-right, not-both}
 use Rattle.layout.specs.declared.Shape.{Shape}
@@ -35,11 +35,11 @@ abbrev numbersOf : List ℕ → Numbers
 numbersOf head = record { relations = getD head 0 0; m = getD head 1 0; combinations = getD head 2 0 }
 
 module _ (T : List ℕ) where
-  pub heading-none : readLine 3 T ≡ none → readHeading T ≡ none
+  pub heading-none : readLine maxField 3 T ≡ none → readHeading T ≡ none
   unfolding readHeading
   heading-none e = rw e
 
-  module _ (head rest : List ℕ) (e : readLine 3 T ≡ some (head, rest)) (r m k : ℕ) (p : r ≡ getD head 0 0) (q : m ≡ getD head 1 0) (s : k ≡ getD head 2 0) where
+  module _ (head rest : List ℕ) (e : readLine maxField 3 T ≡ some (head, rest)) (r m k : ℕ) (p : r ≡ getD head 0 0) (q : m ≡ getD head 1 0) (s : k ≡ getD head 2 0) where
     heading-read : readHeading T ≡ cond (within 1 maxRelations r && (within minMembers maxMembers m && leb k maxCombinations)) (some (record { relations = r; m = m; combinations = k }, rest)) none
     unfolding readHeading
     heading-read = rw (e, p, q, s)
@@ -62,7 +62,7 @@ module _ (T : List ℕ) where
 pub heading-members : (T : List ℕ) (H : Numbers) (rest : List ℕ) → readHeading T ≡ some (H, rest) → 0 < H .m
 unfolding readHeading
 heading-members T H rest h =
-    let s = passed-test allowed numbersOf (readLine 3 T) H rest h in
+    let s = passed-test allowed numbersOf (readLine maxField 3 T) H rest h in
     let m : getD (s .0) 1 0 ≡ H .m = ap (λ (Q : Numbers). Q .m) (s .2) in
     let sized = and-right (within 1 maxRelations (getD (s .0) 0 0)) (within minMembers maxMembers (getD (s .0) 1 0) && leb (getD (s .0) 2 0) maxCombinations) (s .1) in
     let least : 2 ≤ getD (s .0) 1 0 = leb-true 2 (getD (s .0) 1 0) (and-left _ _ (and-left _ _ sized)) in
@@ -75,20 +75,20 @@ instanceWith H N members = record { network = N; m = H .m; members = members }
 
 module _ (T : List ℕ) where
   abbrev Parted : Type 0
-  Parted = readInstance T ≡ andThen (readHeading T) (λ (H : Numbers) (rest : List ℕ). andThen (readRelations (H .relations) maxTuples rest) (λ (N : Network) (rest' : List ℕ). mapRead (instanceWith H N) (readLines (H .combinations) (H .m) rest')))
+  Parted = readInstance T ≡ andThen (readHeading T) (λ (H : Numbers) (rest : List ℕ). andThen (readRelations (H .relations) maxTuples rest) (λ (N : Network) (rest' : List ℕ). mapRead (instanceWith H N) (readLines maxField (H .combinations) (H .m) rest')))
 
-  parted-heading : (head rest : List ℕ) → readLine 3 T ≡ some (head, rest) → (b : Bool) → allowed head ≡ b → Parted
+  parted-heading : (head rest : List ℕ) → readLine maxField 3 T ≡ some (head, rest) → (b : Bool) → allowed head ≡ b → Parted
   unfolding readInstance readHeading
   parted-heading head rest e false q = rw (e, q)
   parted-heading head rest e true q = rw (e, q)
 
-  parted-line : (L : Read (List ℕ)) → readLine 3 T ≡ L → Parted
+  parted-line : (L : Read (List ℕ)) → readLine maxField 3 T ≡ L → Parted
   unfolding readInstance readHeading
   parted-line none e = rw e
   parted-line (some r) e = parted-heading (r .0) (r .1) e (allowed (r .0)) refl
 
   parted : Parted
-  parted = parted-line (readLine 3 T) refl
+  parted = parted-line (readLine maxField 3 T) refl
 
   pub instance-none : readHeading T ≡ none → readInstance T ≡ none
   instance-none e = parted ∙ rw e
@@ -97,16 +97,16 @@ module _ (T : List ℕ) where
     pub instance-broken : readRelations (H .relations) maxTuples rest ≡ none → readInstance T ≡ none
     instance-broken h = parted ∙ rw (e, h)
 
-    instance-listed : (N : Network) (rest' : List ℕ) → readRelations (H .relations) maxTuples rest ≡ some (N, rest') → readInstance T ≡ mapRead (instanceWith H N) (readLines (H .combinations) (H .m) rest')
+    instance-listed : (N : Network) (rest' : List ℕ) → readRelations (H .relations) maxTuples rest ≡ some (N, rest') → readInstance T ≡ mapRead (instanceWith H N) (readLines maxField (H .combinations) (H .m) rest')
     instance-listed N rest' h = parted ∙ rw (e, h)
 
     -- once the members stand in their list
     pub instance-found : (N : Network) (rest' t ms : List ℕ) (next : ℕ) → readRelations (H .relations) maxTuples rest ≡ some (N, rest')
-        → foundAt next (take (0 + H .combinations * H .m) ms) t ≡ behind [] (readLines (H .combinations) (H .m) rest') → readInstance T ≡ foundAt next (instanceWith H N (take (H .combinations * H .m) ms)) t
+        → foundAt next (take (0 + H .combinations * H .m) ms) t ≡ behind [] (readLines maxField (H .combinations) (H .m) rest') → readInstance T ≡ foundAt next (instanceWith H N (take (H .combinations * H .m) ms)) t
     instance-found N rest' t ms next h l =
         let n : 0 + H .combinations * H .m ≡ H .combinations * H .m = zero-add (H .combinations * H .m) in
         instance-listed N rest' h
-        ∙ ap (mapRead (instanceWith H N)) (sym (ap (λ (i : ℕ). foundAt next (take i ms) t) (sym n) ∙ l ∙ behind-nil (readLines (H .combinations) (H .m) rest')))
+        ∙ ap (mapRead (instanceWith H N)) (sym (ap (λ (i : ℕ). foundAt next (take i ms) t) (sym n) ∙ l ∙ behind-nil (readLines maxField (H .combinations) (H .m) rest')))
         ∙ map-found (instanceWith H N) t next (take (H .combinations * H .m) ms)
 
 -- ---- The text

@@ -10,6 +10,7 @@ use Rattle.model.specs.declared.Relation.{Relation}
 use Rattle.model.specs.Limits.{maxRelations, maxWidth, minMembers, maxMembers, maxCombinations}
 use Rattle.model.specs.Network.{Network}
 use Rattle.model.specs.Fault.{within}
+use Rattle.model.specs.Text.{maxField, maxCode}
 use Rattle.model.specs.Reading.{Read, andThen, readLine, readLines}
 use Rattle.layout.specs.Loan.{Loan, entry, exit}
 use Rattle.layout.specs.declared.Shape.{Shape}
@@ -56,7 +57,7 @@ unlisted variables values = record { relations = []; variables = variables; valu
 -- a relation's record, with at most `room` tuples
 unfoldable pub readRecord : ℕ → List ℕ → Read Relation
 readRecord room t =
-    andThen (readLine 2 t) (λ head. λ rest.
+    andThen (readLine maxField 2 t) (λ head. λ rest.
     cond (within 1 maxWidth (getD head 0 0) && leb (getD head 1 0) room)
     (some (record { width = getD head 0 0; tuples = getD head 1 0 }, rest))
     none)
@@ -65,8 +66,8 @@ readRecord room t =
 unfoldable pub readRelation : ℕ → List ℕ → Read Network
 readRelation room t =
     andThen (readRecord room t) (λ R. λ rest.
-    andThen (readLine (R .width) rest) (λ scope. λ rest'.
-    mapRead (single R scope) (readLines (R .tuples) (R .width) rest')))
+    andThen (readLine maxField (R .width) rest) (λ scope. λ rest'.
+    mapRead (single R scope) (readLines maxCode (R .tuples) (R .width) rest')))
 
 -- the record that the code gives
 abbrev pub recordOf : Record → Relation
@@ -107,7 +108,7 @@ pub record Numbers : Type 0 where
 -- the first line, with numbers in their bounds
 unfoldable pub readHeading : List ℕ → Read Numbers
 readHeading t =
-    andThen (readLine 3 t) (λ head. λ rest.
+    andThen (readLine maxField 3 t) (λ head. λ rest.
     cond (within 1 maxRelations (getD head 0 0) && (within minMembers maxMembers (getD head 1 0) && leb (getD head 2 0) maxCombinations))
     (some (record { relations = getD head 0 0; m = getD head 1 0; combinations = getD head 2 0 }, rest))
     none)

@@ -6,11 +6,12 @@ ghost use Rattle.model.specs.Limits.{maxRelations, maxMembers, maxCombinations}
 ghost use Rattle.layout.specs.Loan.{entry};
 ghost use Rattle.reading.specs.Parts.{foundAt, readHeading, numbersOf};
 ghost use Rattle.reading.specs.Book.{bookOf, Stands};
+use fields::MAX_FIELD;
 use fields::line;
 use fields::lines;
+use fields::number;
 use fields::within;
 use layout::Shape;
-use layout::wide;
 use model::MAX_COMBINATIONS;
 use model::MAX_MEMBERS;
 use model::MAX_RELATIONS;
@@ -24,8 +25,8 @@ use relations::relations_at;
 pub mod fields; // a field, a line of fields, and lines
 pub mod relations; // a relation, and all relations
 
-// "at most 65,536 bytes"
-const MAX_TEXT: usize = 65536;
+// "at most 32,768 bytes of text"
+const MAX_TEXT: usize = 32768;
 
 // How long the lists of a text may be.
 pub const MAX_VARIABLES: usize = MAX_RELATIONS * MAX_WIDTH;
@@ -63,14 +64,14 @@ fn heading_of(text: &[u8]) -> Heading
         m: 0,
         combinations: 0,
     };
-    let mut numbers = [0u16; 3];
-    let next = line(text, 0, 3, &mut numbers, 0);
+    let mut numbers = [0u32; 3];
+    let next = line(text, 0, MAX_FIELD, 3, &mut numbers, 0);
     if next == 0 {
         return none;
     }
-    let relations = wide(numbers[0]);
-    let m = wide(numbers[1]);
-    let combinations = wide(numbers[2]);
+    let relations = number(numbers[0]);
+    let m = number(numbers[1]);
+    let combinations = number(numbers[2]);
     if !within(1, MAX_RELATIONS, relations) {
         return none;
     }
@@ -102,13 +103,13 @@ fn nothing() -> Book
     }
 }
 
-// Reads a text: the network's lists and the combinations' members go into the lists, from the front on. Behind them the lists stay
-// as lent; where the text is not in the form they may hold anything.
+// Reads a text: the network's lists and the combinations' members go into the lists, from the front on, each number as wide as a code.
+// Behind them the lists stay as lent; where the text is not in the form they may hold anything.
 pub fn read(
     text: &[u8],
-    variables: &mut [u16; MAX_VARIABLES],
+    variables: &mut [u32; MAX_VARIABLES],
     values: &mut [Value; MAX_VALUES],
-    members: &mut [u16; MAX_MEMBER_LIST],
+    members: &mut [u32; MAX_MEMBER_LIST],
 ) -> Book
     ensures { λ b. ⌜ Stands text b variables values members ⌝ }
 {
@@ -125,7 +126,7 @@ pub fn read(
     }
     let m = heading.m;
     let combinations = heading.combinations;
-    let end = lines(text, listed.next, combinations, m, members, 0);
+    let end = lines(text, listed.next, MAX_FIELD, combinations, m, members, 0);
     if end == 0 {
         return nothing();
     }

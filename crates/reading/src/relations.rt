@@ -7,11 +7,13 @@ ghost use Rattle.model.specs.Reading.{readRelations};
 ghost use Rattle.model.specs.Edges.{maxVariables, maxValues};
 ghost use Rattle.layout.specs.Loan.{entry, exit};
 ghost use Rattle.reading.specs.Parts.{foundAt, KeptFrom, readRecord, recordOf, RelationRead, blankShape, listed, RestKept};
+use super::fields::MAX_CODE;
+use super::fields::MAX_FIELD;
 use super::fields::line;
 use super::fields::lines;
+use super::fields::number;
 use super::fields::within;
 use layout::Shape;
-use layout::wide;
 use model::MAX_RELATIONS;
 use model::MAX_TUPLES;
 use model::MAX_WIDTH;
@@ -34,13 +36,13 @@ fn record_at(text: &[u8], at: usize, room: usize) -> Record
         width: 0,
         tuples: 0,
     };
-    let mut numbers = [0u16; 2];
-    let next = line(text, at, 2, &mut numbers, 0);
+    let mut numbers = [0u32; 2];
+    let next = line(text, at, MAX_FIELD, 2, &mut numbers, 0);
     if next == 0 {
         return none;
     }
-    let width = wide(numbers[0]);
-    let tuples = wide(numbers[1]);
+    let width = number(numbers[0]);
+    let tuples = number(numbers[1]);
     if !within(1, MAX_WIDTH, width) {
         return none;
     }
@@ -59,7 +61,7 @@ fn relation_at(
     text: &[u8],
     at: usize,
     room: usize,
-    variables: &mut [u16],
+    variables: &mut [u32],
     variable: usize,
     values: &mut [Value],
     value: usize,
@@ -73,7 +75,7 @@ fn relation_at(
     if record_end == 0 {
         return r;
     }
-    let scope_end = line(text, record_end, r.width, variables, variable);
+    let scope_end = line(text, record_end, MAX_FIELD, r.width, variables, variable);
     if scope_end == 0 {
         return Record {
             next: 0,
@@ -81,7 +83,7 @@ fn relation_at(
             tuples: r.tuples,
         };
     }
-    let next = lines(text, scope_end, r.tuples, r.width, values, value);
+    let next = lines(text, scope_end, MAX_CODE, r.tuples, r.width, values, value);
     Record {
         next,
         width: r.width,
@@ -115,7 +117,7 @@ pub fn relations_at(
     text: &[u8],
     at: usize,
     count: usize,
-    variables: &mut [u16],
+    variables: &mut [u32],
     values: &mut [Value],
 ) -> Listed
     requires { ⌜ (0 < at) × (count ≤ maxRelations) × (maxVariables ≤ length (now variables)) × (maxValues ≤ length (now values)) ⌝ }

@@ -10,6 +10,8 @@ use Rattle.model.specs.Limits.{maxSupportNumbers}
 use Rattle.model.specs.Request.{filter, Instance}
 use Rattle.model.specs.Reply.{Reply, reply, request, replied}
 use Rattle.model.specs.Text.{textOf}
+use Rattle.model.proofs.Reading.{writable-few}
+use Rattle.layout.proofs.Relations.{relation-count}
 use Rattle.model.specs.Listing.{allLive, fresh, replyLines}
 use Rattle.layout.specs.Shape.{networkOf, instanceOf}
 use Rattle.printing.proofs.Appended.{appended-same}
@@ -35,7 +37,9 @@ abbrev counts : tie.After-filter → List ℕ
 counts c = c .filter .last .1 .1 .1 .1 .1 .1 .1 .0
 
 few : (s : tie.Start) → s .args .shape .count ≤ length (s .args .shape .tuples)
-few s = let e : length (s .args .shape .tuples) ≡ 64 = search needs in omega (arith, e, s .pre)
+few s =
+    let e : length (s .args .shape .tuples) ≡ 64 = search needs in
+    omega (arith, e, writable-few (instance s) (s .pre), relation-count (s .args .shape))
 
 -- what the call replies is the reply with every tuple live and counted
 answered : (c : tie.After-filter) → replied (c .filter .result) (words c) (numbers c) (counts c) ≡ reply (fresh (instance (start c)))
@@ -49,7 +53,7 @@ print-requires : tie.Need-print-requires
 print-requires c κs =
     let f = c .before .before .before .before .before in
     let a = start f .args in
-    reply-printable (a .shape) (a .variables .now) (a .values .now) (a .m) (a .members .now) _ _ _ (f .filter .result) (words f) _ _ (f .filter .ensures)
+    reply-printable (a .shape) (a .variables .now) (a .values .now) (a .m) (a .members .now) _ _ _ (start f .pre) (f .filter .result) (words f) _ _ (f .filter .ensures)
 
 returns : tie.Need-returns
 returns c =

@@ -65,10 +65,13 @@ module _ (c : tie.After-lines) where
   listed = c .before .before .before .before
 
   abbrev members : List ℕ
-  members = c .lines .last .1 .1 .1 .1 .0
+  members = c .lines .last .1 .1 .1 .1 .1 .0
 
   members-long : length members ≡ length (start listed .args .members .now)
   members-long = search needs
+
+  members-room : maxMemberList ≤ length members
+  members-room = search needs
 
   abbrev whole-instance : Instance
   whole-instance =
@@ -139,7 +142,7 @@ returns-6 c =
     (read-some (text headed) (headed .before .before .before .if1 .left) (whole-instance after) (after .lines .result) (instance-read after) (c .before .before .if4 .left) (c .before .if5 .left))
     (filled true (r .result .variables) _ (r .last .1 .1 .1 .0) variables-fit (same-long (listed after) .0) (λ _. rest .1))
     (filled true (r .result .values) _ (r .last .1 .1 .1 .1 .0) values-fit (same-long (listed after) .1) (λ _. rest .2))
-    (filled true k _ (members after) (omega (arith, few headed)) (members-long after) (λ _. members-kept))
+    (filled true k _ (members after) (omega (arith, few headed, members-room after)) (members-long after) (λ _. members-kept))
 
 pub read-spec : {M : Type 1} → statement M
 read-spec =

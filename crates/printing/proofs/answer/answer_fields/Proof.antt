@@ -9,10 +9,10 @@ use Rattle.printing.proofs.answer.answer_fields.Statement.{statement}
 use Rattle.printing.proofs.answer.answer_fields.Tie as tie
 
 returns : tie.Need-returns
-returns c = sym (ap (λ (a : Answer). answerLine (answerNumbers a)) (c .before .answer .given .1))
+returns c = sym (ap (λ (a : Answer). answerLine (answerNumbers a)) (c .before .before .before .answer .given .1))
 
 returns-2 : tie.Need-returns-2
-returns-2 c = sym (ap (λ (a : Answer). answerLine (answerNumbers a)) (c .before .answer2 .given .1))
+returns-2 c = sym (ap (λ (a : Answer). answerLine (answerNumbers a)) (c .before .before .before .answer2 .given .1))
 
 returns-3 : tie.Need-returns-3
 returns-3 c = sym (ap (λ (a : Answer). answerLine (answerNumbers a)) (c .before .answer3 .given .1))
@@ -22,6 +22,8 @@ answer-fields-spec =
     tie.close
     (tie.spec
     (λ c. search needs) (λ c. search needs) (λ c. search needs) (λ c. search needs)
+    (λ c. search needs) (λ c. search needs) (λ c. search needs) (λ c. search needs)
+    (λ c. search needs)
     returns
     returns-2
     returns-3)

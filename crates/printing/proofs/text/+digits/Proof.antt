@@ -5,7 +5,7 @@ use Prim.Native.Nat.{ℕ, _+_, _/_, _≤_, _<_}
 use native.Mathlib.Omega.{arith}
 use denote.Ref.{now}
 use lib.ListN.{length, length-append, length-set}
-use Rattle.model.specs.Text.{decimal, maxField}
+use Rattle.model.specs.Text.{decimal, maxCode}
 use Rattle.model.proofs.Text.{decimal-digit, decimal-large}
 use Rattle.printing.proofs.Appended.{appended-byte, appended-then, appended-same, appended-end}
 use borrow.Fn.Kinds.{In}
@@ -19,7 +19,7 @@ use Rattle.printing.proofs.text.+digits.Tie.{close}
 one-digit : (v : ℕ) → v < 10 → length (decimal v) ≡ 1
 one-digit v h = ap length (decimal-digit v h)
 
-one-more : (v : ℕ) → 10 ≤ v → v ≤ maxField → length (decimal v) ≡ length (decimal (v / 10)) + 1
+one-more : (v : ℕ) → 10 ≤ v → v ≤ maxCode → length (decimal v) ≡ length (decimal (v / 10)) + 1
 one-more v h m = ap length (decimal-large v h m) ∙ length-append (decimal (v / 10)) _
 
 abbrev μ-digits : Measures 1 digits-kinds.ps ℕ

@@ -1,9 +1,8 @@
 -- `field` writes a number's digits and one byte behind them.
--- From the length of decimals and the laws of texts written one behind another.
+-- From the laws of texts written one behind another.
 use Prim.Native.Nat.{_<_}
 use native.Mathlib.Omega.{arith}
 use lib.ListN.{length}
-use Rattle.model.proofs.Text.{decimal-length}
 use Rattle.printing.proofs.Appended.{appended-byte, appended-then, appended-end}
 use borrow.Author.Needs.{needs}
 use Rattle.printing.proofs.text.field.Statement.{statement}
@@ -14,7 +13,7 @@ behind : (c : tie.After-digits) → c .digits .result < length (c .digits .last 
 behind c =
     let entry = c .before .before .before in
     let e = appended-end (omega (arith, entry .pre)) (c .digits .ensures) in
-    omega (arith, e, entry .pre, decimal-length (entry .args .v), c .digits .ensures .long)
+    omega (arith, e, entry .pre, c .digits .ensures .long)
 
 returns : tie.Need-returns
 returns c = let d = c .before .before .digits in appended-then (d .ensures) (appended-byte (d .last .0) (d .result) _ (behind (c .before .before)))
@@ -23,7 +22,7 @@ pub field-spec : {M : Type 1} → statement M
 field-spec =
     tie.close
     (tie.spec
-    (λ c κs. omega (arith, c .before .before .pre, decimal-length (c .before .before .args .v)))
+    (λ c κs. omega (arith, c .before .before .pre))
     (λ c. behind (c .before .before))
     (λ c. search needs) (λ c. search needs)
     returns)

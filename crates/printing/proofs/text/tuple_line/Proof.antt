@@ -3,7 +3,7 @@
 use mathlib.Core.Path.{sym}
 use native.Mathlib.Omega.{arith}
 use Rattle.printing.proofs.Appended.{appended-then, appended-same}
-use Rattle.printing.proofs.Lines.{field-end, lineText-tuple}
+use Rattle.printing.proofs.Lines.{field-end, lineText-tuple, tuple-length}
 use borrow.Author.Needs.{needs}
 use Rattle.printing.proofs.text.tuple_line.Statement.{statement}
 use Rattle.printing.proofs.text.tuple_line.Tie as tie
@@ -12,7 +12,8 @@ field-requires-2 : tie.Need-field-requires-2
 field-requires-2 c κs =
     let entry = c .before .before .before .before .before .before .before in
     let f = c .before .before .before .field in
-    omega (arith, entry .pre, f .ensures .long, field-end (entry .args .relation) 44 (omega (arith, entry .pre)) (f .ensures))
+    let l = tuple-length (entry .args .relation) (entry .args .index) (entry .args .values .now) (entry .pre .0) in
+    omega (arith, entry .pre, l, f .ensures .long, field-end (entry .args .relation) 44 (omega (arith, entry .pre)) (f .ensures))
 
 line-requires : tie.Need-line-requires
 line-requires c κs =
@@ -20,7 +21,8 @@ line-requires c κs =
     let f = c .before .before .before .before .before .before .before .field in
     let k = c .before .before .before .field2 in
     let e = field-end (entry .args .relation) 44 (omega (arith, entry .pre)) (f .ensures) in
-    (entry .pre .0, omega (arith, entry .pre, f .ensures .long, k .ensures .long, field-end (entry .args .index) 44 (f .ensures .fits) (k .ensures)))
+    let l = tuple-length (entry .args .relation) (entry .args .index) (entry .args .values .now) (entry .pre .0) in
+    (entry .pre .0, omega (arith, entry .pre, e, l, f .ensures .long, k .ensures .long, field-end (entry .args .index) 44 (f .ensures .fits) (k .ensures)))
 
 returns : tie.Need-returns
 returns c =
@@ -32,7 +34,7 @@ pub tuple-line-spec : {M : Type 1} → statement M
 tuple-line-spec =
     tie.close
     (tie.spec
-    (λ c κs. search needs)
+    (λ c κs. let entry = c .before .before .before in omega (arith, entry .pre, tuple-length (entry .args .relation) (entry .args .index) (entry .args .values .now) (entry .pre .0)))
     field-requires-2
     line-requires
     (λ c. search needs)

@@ -5,7 +5,7 @@ use mathlib.Core.Bool.{Bool, true}
 use mathlib.Core.List.{List, _∷_}
 use Prim.Native.Nat.{ℕ, _+_, _*_, _-_, _≤_, _<_}
 use native.Mathlib.Omega.{arith}
-use lib.ListN.{length, take, drop}
+use lib.ListN.{length, take, drop, length-append}
 use Rattle.model.specs.Limits.{maxWidth}
 use Rattle.model.specs.LiveWords.{isLive}
 use Rattle.model.specs.Text.{lineText}
@@ -16,9 +16,8 @@ use Rattle.layout.specs.Starts.{tupleStart, valueStart}
 use Rattle.layout.specs.Places.{widthIn}
 use Rattle.layout.proofs.SoundStarts.{scope-rises, ids-rise, ids-asks, tuple-count}
 use Rattle.layout.proofs.Places.{length-part}
-use Rattle.printing.specs.Lines.{lineRoom, textOver, rows}
-use Rattle.printing.proofs.Appended.{appended-same, Remains, remains-all, remains-then, remains-same, remains-none}
-use Rattle.printing.proofs.Lines.{tuple-end}
+use Rattle.printing.specs.Lines.{textOver, rows}
+use Rattle.printing.proofs.Appended.{appended-same, Remains, remains-all, remains-length, remains-then, remains-same, remains-none}
 use Rattle.printing.proofs.Over.{over-none, over-first, over-cons}
 use Rattle.printing.proofs.Relations.{few, width-bounds, tuple-inside, tuple-line-is}
 use borrow.Author.Needs.{needs}
@@ -32,7 +31,7 @@ linesOf values starts words = textOver (tupleLine (rows starts values)) (isLive 
 abbrev Inv-loop : tie.InvT-loop
 Inv-loop values starts words r out₀ at start end first width n₀ g₀ out n g =
     let text = linesOf values starts words in
-    (start ≤ g) × (g ≤ end) × (g < end → isLive words g ≡ true) × (n + lineRoom * (end - g) ≤ at + lineRoom * (end - start)) × Remains (text g end) out n (text start end) out₀ at
+    (start ≤ g) × (g ≤ end) × (g < end → isLive words g ≡ true) × Remains (text g end) out n (text start end) out₀ at
 
 abbrev μ-loop : tie.MeasureT-loop
 μ-loop values starts words r out₀ at start end first width n₀ g₀ out n g = end - g
@@ -147,7 +146,6 @@ loop-holds c =
       f .from-i,
       f .to-end,
       f .passes,
-      omega (arith, f .from-i, f .to-end),
       remains-same (sym (over-first (line k) (live k) (start k) (end k) (c .next .result) f)) (remains-all (omega (arith, entry k .pre .1))),
     )
 
@@ -157,7 +155,11 @@ tuple-line-requires c κs =
     let l = turn w .before .loop in
     let k = read (turn w) in
     let e = part-length w in
-    (omega (arith, has-width k), omega (arith, has-width k, entry k .pre .1, start-read k, end-read k, l .inv .0, l .inv .3, turn w .loop-test .taken, l .inv .4 .long))
+    let here = over-cons (line k) (live k) (g w) (end k) (turn w .loop-test .taken) (l .inv .2 (turn w .loop-test .taken)) in
+    let whole = ap₂ (textOver (line k) (live k)) (start-read k) (end-read k) in (
+      omega (arith, has-width k),
+      omega (arith, entry k .pre .1, l .inv .3 .long, remains-length (omega (arith, entry k .pre .1)) (l .inv .3), ap length here, length-append (lineText (line k (g w))) (textOver (line k) (live k) (g w + 1) (end k)), ap length whole, ap (λ (vs : List ℕ). length (lineText vs)) (its-line w)),
+    )
 
 -- ---- The next live id
 
@@ -176,25 +178,21 @@ loop-again c =
     let k = read (turn w) in
     let l = turn w .before .loop in
     let t = c .before .before .before .tuple-line in
-    let f = onward c in
-    let e = tuple-end (r k) (g w - start k) (part w) (omega (arith, part-length w, has-width k)) (l .inv .4 .fits) (t .ensures) in (
+    let f = onward c in (
       omega (arith, f .from-i, l .inv .0),
       f .to-end,
       f .passes,
-      omega (arith, f .from-i, f .to-end, l .inv .3, e),
       remains-same (sym (over-first (line k) (live k) (g w + 1) (end k) (c .next2 .result) f))
-          (remains-then (remains-same (over-cons (line k) (live k) (g w) (end k) (turn w .loop-test .taken) (l .inv .2 (turn w .loop-test .taken))) (l .inv .4)) (appended-same (ap lineText (its-line w)) (t .ensures))),
+          (remains-then (remains-same (over-cons (line k) (live k) (g w) (end k) (turn w .loop-test .taken) (l .inv .2 (turn w .loop-test .taken))) (l .inv .3)) (appended-same (ap lineText (its-line w)) (t .ensures))),
     )
 
 returns : tie.Need-returns Inv-loop μ-loop
 returns c =
     let k = c .before .before .before in
     let l = c .before .loop in
-    let e : l .g ≡ end k = omega (arith, l .inv .1, c .loop-test .left) in (
-      omega (arith, l .inv .3, start-read k, end-read k),
-      appended-same (ap₂ (textOver (line k) (live k)) (start-read k) (end-read k))
-          (remains-none (remains-same (over-none (line k) (live k) (l .g) (end k) (l .inv .1) (λ g low high. absurd (omega arith))) (l .inv .4))),
-    )
+    let e : l .g ≡ end k = omega (arith, l .inv .1, c .loop-test .left) in
+    appended-same (ap₂ (textOver (line k) (live k)) (start-read k) (end-read k))
+    (remains-none (remains-same (over-none (line k) (live k) (l .g) (end k) (l .inv .1) (λ g low high. absurd (omega arith))) (l .inv .3)))
 
 pub relation-lines-spec : {M : Type 1} → statement M
 relation-lines-spec =
@@ -224,5 +222,5 @@ relation-lines-spec =
     (λ c κs. let turn = c .before .before .before .before .before .before in asks (read turn) (turn .before .loop .g + 1) (omega (arith, turn .loop-test .taken)))
     (λ c. omega (arith, onward c .from-i, onward c .to-end, turn (written c) .loop-test .taken))
     loop-again
-    (λ c. c .before .loop .inv .4 .long)
+    (λ c. c .before .loop .inv .3 .long)
     returns)

@@ -1,14 +1,14 @@
 -- `tuple_lines` goes from one relation to the next: what remains are the lines of the tuples from there on.
 -- From the laws of the lines relation by relation, and of texts written part by part.
-use mathlib.Core.Path.{_≡_}
+use mathlib.Core.Path.{_≡_, ap}
 use mathlib.Core.List.{List}
-use Prim.Native.Nat.{ℕ, _+_, _*_, _-_, _≤_, _<_}
+use Prim.Native.Nat.{ℕ, _+_, _-_, _≤_, _<_}
 use native.Mathlib.Omega.{arith}
-use Rattle.model.specs.Limits.{maxRelations, maxTuples}
-use Rattle.layout.specs.Starts.{tupleStart, relationCount}
-use Rattle.layout.proofs.SoundStarts.{ids-rise, tuple-count, tuples-few, ids-inside}
-use Rattle.printing.specs.Lines.{lineRoom}
-use Rattle.printing.proofs.Appended.{appended-same, Remains, remains-all, remains-then, remains-same, remains-none}
+use lib.ListN.{length, length-append}
+use Rattle.model.specs.Limits.{maxRelations}
+use Rattle.layout.specs.Starts.{relationCount}
+use Rattle.printing.specs.Lines.{relationText}
+use Rattle.printing.proofs.Appended.{appended-same, Remains, remains-all, remains-length, remains-then, remains-same, remains-none}
 use Rattle.printing.proofs.Relations.{linesFrom, linesFrom-all, linesFrom-none, linesFrom-next, few}
 use borrow.Author.Needs.{needs}
 use Rattle.printing.proofs.tuples.tuple_lines.Statement.{statement}
@@ -16,10 +16,7 @@ use Rattle.printing.proofs.tuples.tuple_lines.Tie as tie
 
 abbrev Inv-loop : tie.InvT-loop
 Inv-loop values starts words out₀ at relations n₀ r₀ out n r =
-    let count = tupleStart starts maxRelations in
-    (r ≤ relations)
-    × (n + lineRoom * (count - tupleStart starts r) ≤ at + lineRoom * count)
-    × Remains (linesFrom starts values words r) out n (linesFrom starts values words 0) out₀ at
+    (r ≤ relations) × Remains (linesFrom starts values words r) out n (linesFrom starts values words 0) out₀ at
 
 abbrev μ-loop : tie.MeasureT-loop
 μ-loop values starts words out₀ at relations n₀ r₀ out n r = relations - r
@@ -45,19 +42,19 @@ module _ (c : tie.In-loop Inv-loop μ-loop) where
   small : r < maxRelations
   small = few (entry .pre .0) r present
 
-  ids : (tupleStart starts r ≤ tupleStart starts (r + 1)) × (tupleStart starts (r + 1) ≤ tupleStart starts maxRelations) × (tupleStart starts maxRelations ≤ maxTuples)
-  ids =
-      let f = entry .pre .0 .framed in
-      (ids-rise f r small, ids-inside f r small, omega (arith, tuple-count f, tuples-few f))
-
 loop-holds : tie.Need-loop-holds Inv-loop μ-loop
-loop-holds c = (search needs, omega arith, remains-all (omega (arith, start c .pre .1)))
+loop-holds c = let p = start c .pre in (search needs, remains-all (omega (arith, p .1)))
 
 relation-lines-requires : tie.Need-relation-lines-requires Inv-loop μ-loop
 relation-lines-requires c κs =
     let turn = c .before in
     let l = turn .before .loop in
-    ((entry turn .pre .0, present turn), omega (arith, entry turn .pre .1, l .inv .1, l .inv .2 .long, ids turn))
+    let p = entry turn .pre .0 in
+    let a = entry turn .args in
+    let text = relationText (starts turn) (a .values .now) (a .words .now) (r turn) in (
+      (p, present turn),
+      omega (arith, entry turn .pre .1, l .inv .1 .long, remains-length (omega (arith, entry turn .pre .1)) (l .inv .1), ap length (linesFrom-next p (r turn) (present turn)), length-append text (linesFrom (starts turn) (a .values .now) (a .words .now) (r turn + 1)), ap length (linesFrom-all p)),
+    )
 
 loop-again : tie.Need-loop-again Inv-loop μ-loop
 loop-again c =
@@ -65,8 +62,7 @@ loop-again c =
     let l = turn .before .loop in
     let lines = c .before .before .relation-lines in (
       omega (arith, turn .loop-test .taken),
-      omega (arith, l .inv .1, lines .ensures .0, ids turn),
-      remains-then (remains-same (linesFrom-next (entry turn .pre .0) (r turn) (present turn)) (l .inv .2)) (lines .ensures .1),
+      remains-then (remains-same (linesFrom-next (entry turn .pre .0) (r turn) (present turn)) (l .inv .1)) (lines .ensures),
     )
 
 returns : tie.Need-returns Inv-loop μ-loop
@@ -74,7 +70,7 @@ returns c =
     let l = c .before .loop in
     let p = start (c .before .before) .pre .0 in
     let all : l .r ≡ relationCount (start (c .before .before) .args .starts .now) = omega (arith, l .inv .0, c .loop-test .left, c .before .before .relation-count .ensures) in
-    appended-same (linesFrom-all p) (remains-none (remains-same (linesFrom-none p (l .r) all) (l .inv .2)))
+    appended-same (linesFrom-all p) (remains-none (remains-same (linesFrom-none p (l .r) all) (l .inv .1)))
 
 pub tuple-lines-spec : {M : Type 1} → statement M
 tuple-lines-spec =
@@ -88,5 +84,5 @@ tuple-lines-spec =
     (λ c. omega (arith, small (c .before .before .before .before)))
     (λ c. search needs)
     loop-again
-    (λ c. c .before .loop .inv .2 .long)
+    (λ c. c .before .loop .inv .1 .long)
     returns)

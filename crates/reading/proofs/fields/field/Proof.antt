@@ -7,23 +7,23 @@ use Rattle.reading.proofs.fields.field.Statement.{statement}
 use Rattle.reading.proofs.fields.field.Tie as tie
 
 returns : tie.Need-returns
-returns c = let a = c .before .before .args in sym (field-past (a .text .now) (a .end) (a .at) (c .if1 .taken))
+returns c = let a = c .before .before .args in sym (field-past (a .top) (a .text .now) (a .end) (a .at) (c .if1 .taken))
 
 returns-2 : tie.Need-returns-2
 returns-2 c =
     let a = c .before .before .before .before .args in
-    sym (field-stop (a .text .now) (a .end) (a .at) (c .before .before .if1 .left) (digit-low _ (c .if2 .taken)))
+    sym (field-stop (a .top) (a .text .now) (a .end) (a .at) (c .before .before .if1 .left) (digit-low _ (c .if2 .taken)))
 
 returns-3 : tie.Need-returns-3
 returns-3 c =
     let a = c .before .before .before .before .before .args in
-    sym (field-stop (a .text .now) (a .end) (a .at) (c .before .before .before .if1 .left) (digit-high _ (c .if3 .taken)))
+    sym (field-stop (a .top) (a .text .now) (a .end) (a .at) (c .before .before .before .if1 .left) (digit-high _ (c .if3 .taken)))
 
 returns-4 : tie.Need-returns-4
 returns-4 c =
     let a = c .before .before .before .before .before .before .args in
     c .digits .ensures
-    ∙ sym (field-first (a .text .now) (a .end) (a .at) (c .before .before .before .before .if1 .left) (digit-is _ (c .before .before .if2 .left) (c .before .if3 .left)))
+    ∙ sym (field-first (a .top) (a .text .now) (a .end) (a .at) (c .before .before .before .before .if1 .left) (digit-is _ (c .before .before .if2 .left) (c .before .if3 .left)))
 
 pub field-spec : {M : Type 1} → statement M
 field-spec =

@@ -16,21 +16,21 @@ use Rattle.reading.proofs.fields.line.Statement.{statement}
 use Rattle.reading.proofs.fields.line.Tie as tie
 
 abbrev Inv-loop : tie.InvT-loop
-Inv-loop text at n into₀ start last from₀ to₀ into from to =
+Inv-loop text at top n into₀ start last from₀ to₀ into from to =
     (start ≤ to)
     × (to < start + n)
     × (length into ≡ length into₀)
-    × (behind (take to into) (readLine (start + n - to) (drop from text)) ≡ behind (take start into₀) (readLine n (drop at text)))
+    × (behind (take to into) (readLine top (start + n - to) (drop from text)) ≡ behind (take start into₀) (readLine top n (drop at text)))
     × (drop (start + n) into ≡ drop (start + n) into₀)
 
 abbrev μ-loop : tie.MeasureT-loop
-μ-loop text at n into₀ start last from₀ to₀ into from to = last - to
+μ-loop text at top n into₀ start last from₀ to₀ into from to = last - to
 
 loop-holds : tie.Need-loop-holds Inv-loop μ-loop
 loop-holds c =
     let a = c .before .before .args in
     let e : a .start + a .n - a .start ≡ a .n = omega arith in
-    (search needs, search needs, search needs, ap (λ (k : ℕ). behind (take (a .start) (a .into .now)) (readLine k (drop (a .at) (a .text .now)))) e, refl)
+    (search needs, search needs, search needs, ap (λ (k : ℕ). behind (take (a .start) (a .into .now)) (readLine (a .top) k (drop (a .at) (a .text .now)))) e, refl)
 
 returns : tie.Need-returns Inv-loop μ-loop
 returns c =
@@ -39,7 +39,7 @@ returns c =
     let l = turn .before .loop in
     let f = c .before .before .field in
     let stops = sym (f .ensures) ∙ found-none (a .text .now) (f .result .next) (f .result .value) (c .if1 .taken) in (
-      sym (line-stop (a .start + a .n - (l .to + 1)) (a .start + a .n - l .to) (drop (l .from) (a .text .now)) (take (l .to) (l .into)) (omega arith) (omega arith) stops)
+      sym (line-stop (a .top) (a .start + a .n - (l .to + 1)) (a .start + a .n - l .to) (drop (l .from) (a .text .now)) (take (l .to) (l .into)) (omega arith) (omega arith) stops)
           ∙ l .inv .3,
       l .inv .4,
     )
@@ -55,8 +55,8 @@ loop-again c =
       search needs,
       search needs,
       length-set (l .into) (l .to) (f .result .value) ∙ l .inv .2,
-      ap (λ (us : List ℕ). behind us (readLine j (drop (f .result .next) (a .text .now)))) (take-more (l .into) (l .to) (f .result .value) (omega arith))
-          ∙ sym (line-more j (a .start + a .n - l .to) (drop (l .from) (a .text .now)) (take (l .to) (l .into)) (omega arith) (omega arith) (drop (f .result .next) (a .text .now)) (f .result .value) reads)
+      ap (λ (us : List ℕ). behind us (readLine (a .top) j (drop (f .result .next) (a .text .now)))) (take-more (l .into) (l .to) (f .result .value) (omega arith))
+          ∙ sym (line-more (a .top) j (a .start + a .n - l .to) (drop (l .from) (a .text .now)) (take (l .to) (l .into)) (omega arith) (omega arith) (drop (f .result .next) (a .text .now)) (f .result .value) reads)
           ∙ l .inv .3,
       drop-set-lt (a .start + a .n) (l .into) (l .to) (f .result .value) (omega arith) ∙ l .inv .4,
     )
@@ -73,8 +73,8 @@ returns-2 c =
     let one : 1 ≡ a .start + a .n - l .to = omega arith in (
       ap (λ (k : ℕ). foundAt (f .result .next) (take k (set (l .into) last (f .result .value))) t) all
           ∙ ap (λ (us : List ℕ). foundAt (f .result .next) us t) (take-more (l .into) last (f .result .value) (omega arith))
-          ∙ line-last t (drop (l .from) t) (take last (l .into)) (f .result .next) (f .result .value) (f .ensures)
-          ∙ ap₂ (λ (i k : ℕ). behind (take i (l .into)) (readLine k (drop (l .from) t))) here one
+          ∙ line-last (a .top) t (drop (l .from) t) (take last (l .into)) (f .result .next) (f .result .value) (f .ensures)
+          ∙ ap₂ (λ (i k : ℕ). behind (take i (l .into)) (readLine (a .top) k (drop (l .from) t))) here one
           ∙ l .inv .3,
       drop-set-lt (a .start + a .n) (l .into) last (f .result .value) (omega arith) ∙ l .inv .4,
     )

@@ -15,16 +15,16 @@ use Rattle.reading.proofs.fields.lines.Statement.{statement}
 use Rattle.reading.proofs.fields.lines.Tie as tie
 
 abbrev Inv-loop : tie.InvT-loop
-Inv-loop text at k n into₀ start from₀ to₀ i₀ into from to i =
+Inv-loop text at top k n into₀ start from₀ to₀ i₀ into from to i =
     (i ≤ k)
     × (0 < from)
     × (to ≡ start + i * n)
     × (length into ≡ length into₀)
-    × (behind (take to into) (readLines (k - i) n (drop from text)) ≡ behind (take start into₀) (readLines k n (drop at text)))
+    × (behind (take to into) (readLines top (k - i) n (drop from text)) ≡ behind (take start into₀) (readLines top k n (drop at text)))
     × (drop (start + k * n) into ≡ drop (start + k * n) into₀)
 
 abbrev μ-loop : tie.MeasureT-loop
-μ-loop text at k n into₀ start from₀ to₀ i₀ into from to i = k - i
+μ-loop text at top k n into₀ start from₀ to₀ i₀ into from to i = k - i
 
 module _ (c : tie.In-loop Inv-loop μ-loop) where
   abbrev start : tie.Start Inv-loop μ-loop
@@ -38,12 +38,12 @@ module _ (c : tie.In-loop Inv-loop μ-loop) where
   inside = omega (arith, among, start .pre .2)
 
 -- behind all lines the list is still as lent
-kept : (c : tie.After-line Inv-loop μ-loop) → (let a = start (c .before .before) .args in let end = a .start + a .k * a .n in drop end (c .line .last .1 .1 .1 .0) ≡ drop end (a .into .now))
+kept : (c : tie.After-line Inv-loop μ-loop) → (let a = start (c .before .before) .args in let end = a .start + a .k * a .n in drop end (c .line .last .1 .1 .1 .1 .0) ≡ drop end (a .into .now))
 kept c =
     let turn = c .before .before in
     let a = start turn .args in
     let l = turn .before .loop in
-    drop-later (l .to + a .n) (a .start + a .k * a .n) (c .line .last .1 .1 .1 .0) (l .into) (among turn) (c .line .ensures .1) ∙ l .inv .5
+    drop-later (l .to + a .n) (a .start + a .k * a .n) (c .line .last .1 .1 .1 .1 .0) (l .into) (among turn) (c .line .ensures .1) ∙ l .inv .5
 
 loop-holds : tie.Need-loop-holds Inv-loop μ-loop
 loop-holds c =
@@ -52,7 +52,7 @@ loop-holds c =
       c .before .before .pre .0,
       search needs,
       search needs,
-      ap (λ (j : ℕ). behind (take (a .start) (a .into .now)) (readLines j (a .n) (drop (a .at) (a .text .now)))) (sub-zero (a .k)),
+      ap (λ (j : ℕ). behind (take (a .start) (a .into .now)) (readLines (a .top) j (a .n) (drop (a .at) (a .text .now)))) (sub-zero (a .k)),
       refl,
     )
 
@@ -62,7 +62,7 @@ returns c =
     let turn = after .before .before in
     let a = turn .before .before .before .before .args in
     let l = turn .before .loop in (
-      sym (lines-stop (a .k - (l .i + 1)) (a .k - l .i) (a .n) (a .text .now) (drop (l .from) (a .text .now)) (take (l .to) (l .into)) (take (l .to + a .n) (after .line .last .1 .1 .1 .0)) (after .line .result) (omega arith) (after .line .ensures .0) (c .if1 .taken))
+      sym (lines-stop (a .top) (a .k - (l .i + 1)) (a .k - l .i) (a .n) (a .text .now) (drop (l .from) (a .text .now)) (take (l .to) (l .into)) (take (l .to + a .n) (after .line .last .1 .1 .1 .1 .0)) (after .line .result) (omega arith) (after .line .ensures .0) (c .if1 .taken))
           ∙ l .inv .4,
       kept after,
     )
@@ -77,7 +77,7 @@ loop-again c =
       positive (after .line .result) (c .if1 .left),
       next-place (a .start) (l .to) (l .i) (a .n) (l .inv .2),
       search needs,
-      sym (lines-more (a .k - (l .i + 1)) (a .k - l .i) (a .n) (a .text .now) (drop (l .from) (a .text .now)) (take (l .to) (l .into)) (take (l .to + a .n) (after .line .last .1 .1 .1 .0)) (after .line .result) (omega arith) (after .line .ensures .0) (c .if1 .left))
+      sym (lines-more (a .top) (a .k - (l .i + 1)) (a .k - l .i) (a .n) (a .text .now) (drop (l .from) (a .text .now)) (take (l .to) (l .into)) (take (l .to + a .n) (after .line .last .1 .1 .1 .1 .0)) (after .line .result) (omega arith) (after .line .ensures .0) (c .if1 .left))
           ∙ l .inv .4,
       kept after,
     )
@@ -91,8 +91,8 @@ returns-2 c =
     let all : a .start + a .k * a .n ≡ l .to = ap (λ (j : ℕ). a .start + j * a .n) (sym i) ∙ sym (l .inv .2) in
     let none-left : 0 ≡ a .k - l .i = omega arith in (
       ap (λ (j : ℕ). foundAt (l .from) (take j (l .into)) t) all
-          ∙ lines-end (a .n) t (take (l .to) (l .into)) (l .from) (l .inv .1)
-          ∙ ap (λ (j : ℕ). behind (take (l .to) (l .into)) (readLines j (a .n) (drop (l .from) t))) none-left
+          ∙ lines-end (a .top) (a .n) t (take (l .to) (l .into)) (l .from) (l .inv .1)
+          ∙ ap (λ (j : ℕ). behind (take (l .to) (l .into)) (readLines (a .top) j (a .n) (drop (l .from) t))) none-left
           ∙ l .inv .4,
       l .inv .5,
     )

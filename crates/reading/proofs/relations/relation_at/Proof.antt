@@ -9,6 +9,7 @@ use native.Mathlib.Omega.{arith}
 use borrow.Author.Needs.{needs}
 use lib.ListN.{take, drop}
 use Rattle.model.specs.Limits.{maxWidth}
+use Rattle.model.specs.Text.{maxField}
 use Rattle.model.specs.Reading.{readLine}
 use Rattle.reading.specs.Parts.{mapRead, append, unlisted, readRecord, recordOf}
 use Rattle.reading.proofs.Found.{positive, found-at, found-none, map-none}
@@ -55,7 +56,7 @@ returns-2 c =
     let r = read .before .record-at .result in
     let t = a .text .now in
     let us = take (a .variable) (a .variables .now) in
-    let absent = map-none (λ (vs : List ℕ). us ++ vs) t (after .line .result) (take (a .variable + r .width) (after .line .last .1 .1 .1 .0)) (readLine (r .width) (drop (r .next) t)) (after .line .ensures .0) (c .if2 .taken) in (
+    let absent = map-none (λ (vs : List ℕ). us ++ vs) t (after .line .result) (take (a .variable + r .width) (after .line .last .1 .1 .1 .1 .0)) (readLine maxField (r .width) (drop (r .next) t)) (after .line .ensures .0) (c .if2 .taken) in (
       sym (ap (mapRead (append (unlisted us (take (a .value) (a .values .now))))) (relation-scopeless (a .room) (drop (a .at) t) (recordOf r) (drop (r .next) t) (record-some read) absent)),
       (read .before .record-at .ensures .1 .0, read .before .record-at .ensures .1 .1, after .line .ensures .1, refl),
     )
@@ -78,8 +79,8 @@ returns-3 c =
     let r = read .before .record-at .result in
     let t = a .text .now in (
       relation-found (a .room) (drop (a .at) t) (recordOf r) (drop (r .next) t) (record-some read)
-          t (take (a .variable) (a .variables .now)) (take (a .variable + r .width) (line-read .line .last .1 .1 .1 .0))
-          (take (a .value) (a .values .now)) (take (a .value + r .tuples * r .width) (after .lines .last .1 .1 .1 .1 .0))
+          t (take (a .variable) (a .variables .now)) (take (a .variable + r .width) (line-read .line .last .1 .1 .1 .1 .0))
+          (take (a .value) (a .values .now)) (take (a .value + r .tuples * r .width) (after .lines .last .1 .1 .1 .1 .1 .0))
           (line-read .line .result) (after .lines .result) (line-read .line .ensures .0) (after .before .before .if2 .left) (after .lines .ensures .0),
       (read .before .record-at .ensures .1 .0, read .before .record-at .ensures .1 .1, line-read .line .ensures .1, after .lines .ensures .1),
     )
