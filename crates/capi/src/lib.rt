@@ -1,14 +1,19 @@
 // The calls from C: numbers and lists of bytes. include/wakhvosi.h says what each byte means.
 ghost use Rattle.model.specs.Request.{filter, withdraw, choose};
-ghost use Rattle.layout.specs.Loan.{entry};
+ghost use Rattle.model.specs.Moves.{widen, narrow};
+ghost use Rattle.layout.specs.Loan.{entry, exit};
 ghost use Rattle.encoding.specs.Call.{byteBook, byteRequest, left, KeepsBytes, TestedBytes, ComparedBytes};
+ghost use Rattle.byte_moves.specs.Moves.{KeepsMoveBytes};
 use byte_calls::NOT_WHOLE;
 use byte_calls::change::Call;
 use byte_calls::change::change_call;
 use byte_calls::reading::compare_bytes;
 use byte_calls::reading::test_bytes;
+use byte_moves::narrow_bytes;
+use byte_moves::widen_bytes;
 use encoding::lengths::instance_whole;
 use encoding::lengths::network_whole;
+use model::Value;
 
 // Filters what lives.
 #[no_mangle]
@@ -77,7 +82,7 @@ pub extern "C" fn wakhvosi_choose(
     marks: &mut [u8],
     supports: &mut [u8],
     question: u16,
-    code: u16,
+    code: Value,
 ) -> u64
     ensures { λ n. ⌜ KeepsBytes (byteRequest (byteBook entry sheets questions codes m combinations) (entry marks) (entry supports) (choose question code)) (left n sheets marks supports) ⌝ }
 {
@@ -135,4 +140,36 @@ pub extern "C" fn wakhvosi_compare(
         return NOT_WHOLE;
     }
     compare_bytes(sheets, questions, codes, a, b)
+}
+
+// Moves values of two bytes to values of four, to the front of the target.
+#[no_mangle]
+pub extern "C" fn wakhvosi_widen(
+    sheets: &[u8],
+    questions: &[u8],
+    codes: &[u8],
+    target: &mut [u8],
+) -> u64
+    ensures { λ n. ⌜ KeepsMoveBytes widen (entry sheets) (entry questions) (entry codes) (entry target) n (exit target) ⌝ }
+{
+    if !instance_whole(sheets.len(), questions.len(), target.len(), codes.len()) {
+        return NOT_WHOLE;
+    }
+    widen_bytes(sheets, questions, codes, target)
+}
+
+// Moves values of four bytes back to values of two.
+#[no_mangle]
+pub extern "C" fn wakhvosi_narrow(
+    sheets: &[u8],
+    questions: &[u8],
+    codes: &[u8],
+    target: &mut [u8],
+) -> u64
+    ensures { λ n. ⌜ KeepsMoveBytes narrow (entry sheets) (entry questions) (entry codes) (entry target) n (exit target) ⌝ }
+{
+    if !instance_whole(sheets.len(), questions.len(), codes.len(), target.len()) {
+        return NOT_WHOLE;
+    }
+    narrow_bytes(sheets, questions, codes, target)
 }

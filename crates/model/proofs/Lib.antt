@@ -28,4 +28,7 @@ pub mod Repeats
 pub mod Text
 pub mod ReadLines
 pub mod Reading
+pub mod Listing
+pub mod Meaning
+pub mod Moves
 pub mod Examples

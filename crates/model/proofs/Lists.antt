@@ -1,4 +1,4 @@
--- Tests over lists against membership, the choices of one element from each list, and sums over parts of a list.
+-- Tests over lists against membership, the choices of one element from each list, sums over parts of a list, and lists written from the front.
 use mathlib.Core.Path.{_≡_, refl, sym, _∙_, ap, ap₂, subst}
 use mathlib.Core.Bool.{Bool, true, false, _&&_, _||_, cond, false≢true, true≢false, and-false, and-assoc}
 use mathlib.Core.Option.{Option, none, some, orElse, Option·getD, Option·some-injective, Option·none-ne-some, Option·some-ne-none}
@@ -10,8 +10,8 @@ use native.Mathlib.Omega.{arith}
 use native.Mathlib.Decide.{ℕ-discrete, decLt}
 use native.Mathlib.Nat.{add-zero, zero-add, add-suc, suc-add, zero-mul, suc-mul, add-mul, mul-le-mul-right, le-of-suc-le-suc}
 use lib.Dec.{ltb, eqb}
-use lib.ListN.{length, getD, set, take, drop, length-map, length-drop}
-use lib.Seq.{getD-set-same, getD-set-other, take-at, drop-append-add, drop-append-le, take-append-le, drop-cons}
+use lib.ListN.{length, getD, set, take, drop, length-map, length-drop, length-append}
+use lib.Seq.{getD-set-same, getD-set-other, take-all, length-take-le, take-at, drop-append-add, drop-append-le, take-append-le, drop-cons}
 use borrow.Author.Tests.{eqb-true, eq-eqb, ltb-true, lt-ltb, ne-eqb, le-ltb}
 use Rattle.model.specs.Lists.{all, any, elem, from, sum, select, keepIf, firstOr, pairwise, choices, prefixed, earlier, each, isNone, lesser, least}
 use Rattle.model.proofs.Bools.{and-left, and-right, and-intro, or-left, or-right, or-cases, iff-eq, not-both}
@@ -713,3 +713,27 @@ module _ {ℓ} {A : Type ℓ} (f : A → ℕ) where
   sum-take-le [] (suc k) = omega arith
   sum-take-le (x ∷ xs) zero = omega arith
   sum-take-le (x ∷ xs) (suc k) = let e = sum-take-le xs k in omega arith
+
+-- ---- A list written from the front
+
+module _ (f : ℕ → ℕ) where
+  -- the first i entries of ys are f of those of xs
+  abbrev pub overlaid : List ℕ → List ℕ → ℕ → List ℕ
+  overlaid xs ys i = map f (take i xs) ++ drop i ys
+
+  set-next : (xs ys : List ℕ) (i : ℕ) → i < length xs → i < length ys → set (overlaid xs ys i) i (f (getD xs i 0)) ≡ overlaid xs ys (suc i)
+  set-next [] ys i h k = absurd (omega arith)
+  set-next (x ∷ xs) [] i h k = absurd (omega arith)
+  set-next (x ∷ xs) (y ∷ ys) zero h k = refl
+  set-next (x ∷ xs) (y ∷ ys) (suc i) h k = ap {B = List ℕ} (λ zs. f x ∷ zs) (set-next xs ys i (omega arith) (omega arith))
+
+  -- one entry more
+  pub overlaid-next : (xs ys : List ℕ) (i : ℕ) → i < length xs → i < length ys → set (overlaid xs ys i) i (f (getD xs i 0)) ≡ overlaid xs ys (i + 1)
+  overlaid-next xs ys i h k = rw add-one (set-next xs ys i h k)
+
+  pub overlaid-all : (xs ys : List ℕ) (i : ℕ) → i ≡ length xs → overlaid xs ys i ≡ map f xs ++ drop (length xs) ys
+  overlaid-all xs ys i e = rw (e, take-all (length xs) xs (omega arith))
+
+  pub overlaid-length : (xs ys : List ℕ) (i : ℕ) → i ≤ length xs → i ≤ length ys → length (overlaid xs ys i) ≡ length ys
+  overlaid-length xs ys i h k =
+      omega (arith, length-append (map f (take i xs)) (drop i ys), length-map (take i xs) f, length-take-le i xs h, length-drop i ys)

@@ -23,6 +23,8 @@ use Rattle.model.specs.Request.{Instance, combinationsOf, Request, Chang
 use Rattle.model.specs.Fault
 use Rattle.model.specs.Reply
 use Rattle.model.specs.Reply.{Numbers, reply, compareReply}
+use Rattle.model.specs.Moves
+use Rattle.model.specs.Moves.{Move, widen, narrow, moveTo, moveReply}
 use Rattle.model.specs.Tighter
 use Rattle.model.specs.Tighter.{allInside}
 use Rattle.model.specs.Text
@@ -258,6 +260,45 @@ chain-no-support : (Agreement.agree chain 0 1 ≡ true) × (Agreement.agree chai
 unfolding chain relation Network.relationOf Network.indexOf Network.scopeOf Network.valuesAt Network.tupleOf Agreement.isAny Agreement.fit Agreement.clash Agreement.clashes Agreement.cellsOf Agreement.firstClash Agreement.agree Support.isSupport
 chain-no-support = (refl, refl, refl)
 
+-- 65,535, which was any while values had 16 bits, agrees with itself alone; values that differ in one half alone differ (card 9)
+unfoldable pub wide : Network
+wide =
+    record {
+      relations = relation 1 2 ∷ relation 1 2 ∷ [];
+      variables = 0 ∷ 0 ∷ [];
+      values = 65535 ∷ 65537 ∷ 65535 ∷ 1 ∷ [];
+    }
+
+wide-values-differ : map (λ (p : ℕ × ℕ). compareReply wide (p .0) (p .1)) ((0, 2) ∷ (0, 3) ∷ (1, 2) ∷ (1, 3) ∷ []) ≡ (1, 64) ∷ (0, 0) ∷ (0, 0) ∷ (0, 0) ∷ []
+unfolding wide relation Network.relationOf Network.indexOf Network.scopeOf Network.valuesAt Network.tupleOf Agreement.isAny Agreement.fit Agreement.clash Agreement.clashes Agreement.cellsOf Agreement.firstClash Fault.compareFaults Reply.compareReply
+wide-values-differ = refl
+
+-- ---- Moves between the old form and the new one (card 9)
+
+-- one relation of one variable x, with these values
+column : ℕ → List ℕ → Network
+column x values = record { relations = relation 1 (length values) ∷ []; variables = x ∷ []; values = values }
+
+-- 65,535 becomes any and any 65,535, every other value stays, and so do the entries past the values; 23 is given for 65,535 and for
+-- 4,294,967,294, before 24 and after 6
+moves : map (λ (c : Move × Network × List ℕ). moveReply (c .0) (c .1) (c .2))
+    ((widen, column 0 (7 ∷ 65534 ∷ 65535 ∷ []), 1 ∷ 2 ∷ 3 ∷ 4 ∷ [])
+    ∷ (narrow, column 0 (7 ∷ 65534 ∷ 4294967295 ∷ []), 1 ∷ 2 ∷ 3 ∷ 4 ∷ [])
+    ∷ (narrow, column 0 (65535 ∷ 7 ∷ []), 1 ∷ [])
+    ∷ (narrow, column 0 (7 ∷ 4294967294 ∷ []), 1 ∷ 2 ∷ [])
+    ∷ (widen, column 0 (7 ∷ 65534 ∷ []), 1 ∷ [])
+    ∷ (narrow, column 64 (65535 ∷ []), [])
+    ∷ [])
+    ≡ moveTo none (7 ∷ 65534 ∷ 4294967295 ∷ []) (1 ∷ 2 ∷ 3 ∷ 4 ∷ [])
+    ∷ moveTo none (7 ∷ 65534 ∷ 65535 ∷ []) (1 ∷ 2 ∷ 3 ∷ 4 ∷ [])
+    ∷ moveTo (some 23) [] (1 ∷ [])
+    ∷ moveTo (some 23) [] (1 ∷ 2 ∷ [])
+    ∷ moveTo (some 24) [] (1 ∷ [])
+    ∷ moveTo (some 6) [] []
+    ∷ []
+unfolding column relation Network.scopeOf Agreement.isAny Moves.widened Moves.narrowed Moves.moveReply
+moves = refl
+
 -- ---- The desk's text
 
 -- input A
@@ -307,9 +348,14 @@ book n m k w h v =
 short : List ℕ
 short = book 1 2 0 1 1 7
 
+-- .. with variable x
+scoped : ℕ → List ℕ
+scoped x = textOf ((1 ∷ 2 ∷ 0 ∷ []) ∷ (1 ∷ 1 ∷ []) ∷ (x ∷ []) ∷ (7 ∷ []) ∷ [])
+
 damagedTexts : List (List ℕ)
 damagedTexts =
-    -- 0 and 65 relations, m 1 and 5, 257 combinations, 0 and 9 variables, 4,097 tuples, a value 65,536, over 65,536 bytes
+    -- 0 and 65 relations, m 1 and 5, 257 combinations, 0 and 9 variables, 4,097 tuples, a value 4,294,967,296,
+    -- a variable 65,536, over 32,768 bytes
     book 0 2 0 1 1 7
     ∷ book 65 2 0 1 1 7
     ∷ book 1 1 1 1 1 7
@@ -318,8 +364,9 @@ damagedTexts =
     ∷ book 1 2 0 0 1 7
     ∷ book 1 2 0 9 1 7
     ∷ book 17 2 0 1 241 7
-    ∷ book 1 2 0 1 1 65536
-    ∷ book 1 2 0 8 1365 65535
+    ∷ book 1 2 0 1 1 4294967296
+    ∷ scoped 65536
+    ∷ book 1 2 0 8 373 4294967295
     -- a leading nought, an empty field, a letter, no last newline, a byte behind the last line
     ∷ (take 12 short ++ (48 ∷ 55 ∷ 10 ∷ []))
     ∷ (take 12 short ++ (10 ∷ []))
@@ -330,14 +377,15 @@ damagedTexts =
 
 -- each is refused
 texts-refused : map read damagedTexts ≡ map (λ (t : List ℕ). none) damagedTexts
-unfolding damagedTexts book short Text.decimal Text.textOf Reading.readField Reading.readInstance Reading.read
+unfolding damagedTexts book short scoped Text.decimal Text.textOf Reading.readField Reading.readInstance Reading.read
 texts-refused = refl
 
 isRead : Option Instance → Bool
 isRead none = false
 isRead (some I) = true
 
--- the largest numbers in range are read: 64 relations, m 4, 256 combinations, 8 variables, values 65,535; 4,096 tuples
-texts-read : all (λ (t : List ℕ). isRead (read t)) (short ∷ book 64 4 256 8 1 65535 ∷ book 16 2 0 1 256 7 ∷ []) ≡ true
-unfolding isRead book short Text.decimal Text.textOf Reading.readField Reading.readInstance Reading.read
+-- the largest numbers in range are read: 64 relations, m 4, 256 combinations, 8 variables, values 4,294,967,295; 4,096 tuples;
+-- variable 65,535; 32,764 bytes
+texts-read : all (λ (t : List ℕ). isRead (read t)) (short ∷ book 64 4 256 8 1 4294967295 ∷ book 16 2 0 1 256 7 ∷ scoped 65535 ∷ book 1 2 0 8 372 4294967295 ∷ []) ≡ true
+unfolding isRead book short scoped Text.decimal Text.textOf Reading.readField Reading.readInstance Reading.read
 texts-read = refl

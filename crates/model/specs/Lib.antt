@@ -19,5 +19,6 @@ pub mod Text
 pub mod Reading
 pub mod Listing
 pub mod Promises
+pub mod Moves
 pub mod Tighter
 pub mod Examples

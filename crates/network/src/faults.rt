@@ -3,7 +3,7 @@ ghost use mathlib.Core.Path.{_≡_};
 ghost use mathlib.Core.List.{[], map};
 ghost use Prim.Native.Nat.{ℕ, _≤_};
 ghost use lib.Dec.{ltb};
-ghost use lib.ListN.{length, drop};
+ghost use lib.ListN.{length, drop, replicate};
 ghost use Rattle.model.specs.Limits.{maxRelations, variableCount};
 ghost use Rattle.model.specs.Lists.{from, sum, all, pairwise};
 ghost use Rattle.model.specs.Network.{variablesIn, tuplesIn, valuesIn};
@@ -150,9 +150,9 @@ fn proper_scopes(shape: Shape, variables: &[u16]) -> bool
     true
 }
 
-// The number of the network's first fault, 2 to 6, or 0.
-pub fn fault(shape: Shape, variables: &[u16], values: &[Value]) -> u8
-    ensures { λ f. ⌜ f ≡ refusal (firstFault (networkFaults (networkOf shape (entry variables) (entry values)))) ⌝ }
+// The number of the first fault, 2 to 6, or 0, of a network with so many values, whichever they are.
+pub fn fault_on(shape: Shape, variables: &[u16], values: usize) -> u8
+    ensures { λ f. ⌜ f ≡ refusal (firstFault (networkFaults (networkOf shape (entry variables) (replicate values 0)))) ⌝ }
 {
     if !within(1, MAX_RELATIONS, shape.count) {
         return refusal::RELATIONS;
@@ -169,11 +169,18 @@ pub fn fault(shape: Shape, variables: &[u16], values: &[Value]) -> u8
     if variables.len() != called.variables {
         return refusal::LENGTHS;
     }
-    if values.len() != called.values {
+    if values != called.values {
         return refusal::LENGTHS;
     }
     if !proper_scopes(shape, variables) {
         return refusal::SCOPE;
     }
     0
+}
+
+// The number of the network's first fault, 2 to 6, or 0.
+pub fn fault(shape: Shape, variables: &[u16], values: &[Value]) -> u8
+    ensures { λ f. ⌜ f ≡ refusal (firstFault (networkFaults (networkOf shape (entry variables) (entry values)))) ⌝ }
+{
+    fault_on(shape, variables, values.len())
 }

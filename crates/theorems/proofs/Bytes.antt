@@ -26,7 +26,7 @@ use Rattle.model.proofs.Lists.{here}
 use Rattle.model.proofs.Reply.{reply-refused, reply-kept, refused-not}
 use Rattle.model.proofs.Edges.{reply-lengths, reply-words-below, reply-supports-below}
 use Rattle.model.proofs.Mission.{answered, filtering, claim, test-answered, compare-answered}
-use Rattle.wire.specs.Entries.{Bytes, entries16, entries64, bytes}
+use Rattle.wire.specs.Entries.{Bytes, entries16, entries32, entries64, bytes}
 use Rattle.wire.proofs.Entries.{entries-below, entries64-length, bytes-length, bytes-bytes, entries16-bytes, entries64-bytes}
 use Rattle.encoding.specs.Records.{records, countsIn, withCounts}
 use Rattle.encoding.specs.Whole.{whole, wholeNetwork, wholeInstance, wholeChange}
@@ -224,7 +224,7 @@ request-same c s t e =
     let R = c .rest in
     λ i. record {
       given = record {
-        network = record { relations = lent-records (c .own) s t e i; variables = entries16 (R .questions); values = entries16 (R .codes) };
+        network = record { relations = lent-records (c .own) s t e i; variables = entries16 (R .questions); values = entries32 (R .codes) };
         m = R .m;
         members = entries16 (R .combinations);
       };
@@ -474,7 +474,7 @@ compare-promise-bytes sheets questions codes a b n kept =
 module _ (R : ByteRest) (sheets after : List ℕ) (only : OnlyCounts sheets after) where
   -- the network of these records
   abbrev over : List Relation → Network
-  over Rs = record { relations = Rs; variables = entries16 (R .questions); values = entries16 (R .codes) }
+  over Rs = record { relations = Rs; variables = entries16 (R .questions); values = entries32 (R .codes) }
 
   same-records : records after ≡ records sheets
   same-records = only-records sheets after only

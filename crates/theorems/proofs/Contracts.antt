@@ -4,9 +4,13 @@
 use denote.Ref.{now}
 use Rattle.model.specs.Request.{filter, withdraw, choose}
 use Rattle.model.specs.Reply.{verdictNumbers, comparisonNumbers, request, replied, Keeps, Tested, Compared}
+use Rattle.model.specs.Moves.{widen, narrow, KeepsMove}
 use Rattle.layout.specs.Shape.{networkOf, instanceOf}
 use Rattle.encoding.specs.Packed.{outcome}
 use Rattle.encoding.specs.Call.{byteBook, byteRequest, KeepsBytes, TestedBytes, ComparedBytes}
+use Rattle.byte_moves.specs.Moves.{KeepsMoveBytes}
+use Rattle.moves.proofs.widen.Reads as moves-widen
+use Rattle.moves.proofs.narrow.Reads as moves-narrow
 use Rattle.network.proofs.comparison.compare.Reads as compare
 use Rattle.consistency.proofs.test.Reads as test
 use Rattle.changes.proofs.filter.Reads as changes-filter
@@ -17,6 +21,8 @@ use Rattle.capi.proofs.wakhvosi_withdraw.Reads as wakhvosi-withdraw
 use Rattle.capi.proofs.wakhvosi_choose.Reads as wakhvosi-choose
 use Rattle.capi.proofs.wakhvosi_test.Reads as wakhvosi-test
 use Rattle.capi.proofs.wakhvosi_compare.Reads as wakhvosi-compare
+use Rattle.capi.proofs.wakhvosi_widen.Reads as wakhvosi-widen
+use Rattle.capi.proofs.wakhvosi_narrow.Reads as wakhvosi-narrow
 
 -- ---- On lists
 
@@ -35,6 +41,12 @@ test-tested κs a r s kept = kept
 pub compare-compared : (κs : _) (a : _) (r : _) (s : _) → compare.Post κs a r s → Compared (networkOf (a .0) (now (a .1 .0)) (now (a .1 .1 .0))) (a .1 .1 .1 .0) (a .1 .1 .1 .1 .0) (comparisonNumbers r)
 compare-compared κs a r s kept = kept
 
+pub widen-keeps : (κs : _) (a : _) (r : _) (s : _) → moves-widen.Post κs a r s → KeepsMove widen (networkOf (a .0) (now (a .1 .0)) (now (a .1 .1 .0))) (now (a .1 .1 .1 .0)) r (now (s .1 .1 .1 .0))
+widen-keeps κs a r s kept = kept
+
+pub narrow-keeps : (κs : _) (a : _) (r : _) (s : _) → moves-narrow.Post κs a r s → KeepsMove narrow (networkOf (a .0) (now (a .1 .0)) (now (a .1 .1 .0))) (now (a .1 .1 .1 .0)) r (now (s .1 .1 .1 .0))
+narrow-keeps κs a r s kept = kept
+
 -- ---- On bytes
 
 pub filter-keeps-bytes : (κs : _) (a : _) (r : _) (s : _) → wakhvosi-filter.Post κs a r s → KeepsBytes (byteRequest (byteBook now (a .0) (a .1 .0) (a .1 .1 .0) (a .1 .1 .1 .0) (a .1 .1 .1 .1 .0)) (now (a .1 .1 .1 .1 .1 .0)) (now (a .1 .1 .1 .1 .1 .1 .0)) filter) (outcome r (now (s .0)) (now (s .1 .1 .1 .1 .1 .0)) (now (s .1 .1 .1 .1 .1 .1 .0)))
@@ -51,3 +63,9 @@ test-tested-bytes κs a r s kept = kept
 
 pub compare-compared-bytes : (κs : _) (a : _) (r : _) (s : _) → wakhvosi-compare.Post κs a r s → ComparedBytes (now (a .0)) (now (a .1 .0)) (now (a .1 .1 .0)) (a .1 .1 .1 .0) (a .1 .1 .1 .1 .0) r
 compare-compared-bytes κs a r s kept = kept
+
+pub widen-keeps-bytes : (κs : _) (a : _) (r : _) (s : _) → wakhvosi-widen.Post κs a r s → KeepsMoveBytes widen (now (a .0)) (now (a .1 .0)) (now (a .1 .1 .0)) (now (a .1 .1 .1 .0)) r (now (s .1 .1 .1 .0))
+widen-keeps-bytes κs a r s kept = kept
+
+pub narrow-keeps-bytes : (κs : _) (a : _) (r : _) (s : _) → wakhvosi-narrow.Post κs a r s → KeepsMoveBytes narrow (now (a .0)) (now (a .1 .0)) (now (a .1 .1 .0)) (now (a .1 .1 .1 .0)) r (now (s .1 .1 .1 .0))
+narrow-keeps-bytes κs a r s kept = kept

@@ -1,4 +1,5 @@
 -- What the calls promise.
 pub mod Mission
 pub mod ByteCalls
+pub mod Moves
 pub mod Tighter

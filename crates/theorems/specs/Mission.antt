@@ -7,6 +7,7 @@
 --   consistency::test, network::comparison::compare   Tested, Compared             test-promise, compare-promise
 --   wakhvosi_test_records, wakhvosi_compare_records   Tested, Compared             test-promise, compare-promise
 --   wakhvosi_test, wakhvosi_compare (bytes)           TestedBytes, ComparedBytes   test-promise-bytes, compare-promise-bytes
+--   the moves between 16-bit and 32-bit values        KeepsMove, KeepsMoveBytes    Moves.antt beside this file
 --
 -- A contract is that definition by name and nothing more, with the call's request at entry, and what it answers and leaves
 -- (proofs/Contracts.antt takes it from the functions themselves). No call has a `requires`. The definitions on lists are in the model's specs/Reply.antt, beside `reply`, `testReply` and `compareReply`; those
