@@ -8,13 +8,15 @@
 
 /* The limits of a network, and what stands for no support, for no variable and for every value. */
 enum { MAX_RELATIONS = 64, MAX_WIDTH = 8, MAX_TUPLES = 4096, MAX_MEMBERS = 4, MAX_COMBINATIONS = 256, MAX_NUMBERS = 32768 };
-enum { NO_SUPPORT = 65535, NO_VARIABLE = 64, ANY = 65535 };
+enum { NO_SUPPORT = 65535, NO_VARIABLE = 64 };
+#define ANY 4294967295u
 enum { WORDS = MAX_TUPLES / 64, MAX_PAIRS = MAX_COMBINATIONS * MAX_MEMBERS };
 
 /* A network with its combinations, and where each relation and each pair's numbers begin. The library takes the three tables and the
  * number of relations behind them as one array. */
 typedef struct {
-    uint16_t variables[MAX_RELATIONS * MAX_WIDTH], values[MAX_TUPLES * MAX_WIDTH], members[MAX_PAIRS];
+    uint32_t values[MAX_TUPLES * MAX_WIDTH];
+    uint16_t variables[MAX_RELATIONS * MAX_WIDTH], members[MAX_PAIRS];
     uint16_t variable_starts[MAX_RELATIONS + 1], tuple_starts[MAX_RELATIONS + 1], value_starts[MAX_RELATIONS + 1], relations;
     uint16_t pair_starts[MAX_PAIRS];
     size_t variable_count, value_count, m, pairs, needed;
@@ -39,7 +41,7 @@ bool read_network(network *, FILE *);
 
 /* The suite. `networks.c` says what each shape and each kind of codes is. */
 typedef enum { NEIGHBOURS, PATH, STAR, RING, CLIQUE, CATALOGUE } network_shape;
-typedef enum { MULTIPLES, RANDOM, TOPMOST } code_kind;
+typedef enum { MULTIPLES, RANDOM, TOPMOST, WIDE, RAISED, CODE_KINDS } code_kind;
 typedef struct {
     network_shape shape;
     size_t m, relations, tuples; /* tuples of each relation */
@@ -61,14 +63,16 @@ void draw_network(network *, const description *);
 /* The scope of one of so many relations of a shape, and its width. */
 size_t shape_scope(network_shape, size_t relations, size_t relation, uint16_t *scope);
 /* The code of a value; different ones have different codes, and none is any. */
-uint16_t code_of(const description *, unsigned value);
+uint32_t code_of(const description *, unsigned value);
+/* The same network with codes whose lower 16 bits are different, of whichever kind is most like its own. */
+description narrowed(const description *);
 
-uint16_t bench_first_clash(const uint16_t *, size_t, const uint16_t *, size_t, const uint16_t *, size_t, const uint16_t *, size_t);
+uint16_t bench_first_clash(const uint16_t *, size_t, const uint32_t *, size_t, const uint16_t *, size_t, const uint32_t *, size_t);
 uint16_t bench_next(const uint64_t *, size_t, uint16_t, uint16_t);
 uint16_t bench_count(const uint64_t *, size_t, uint16_t, uint16_t);
-void bench_filter(const uint16_t *, size_t, const uint16_t *, size_t, const uint16_t *, const uint16_t *, size_t, uint16_t, uint64_t *, size_t, uint16_t *, size_t);
+void bench_filter(const uint16_t *, size_t, const uint32_t *, size_t, const uint16_t *, const uint16_t *, size_t, uint16_t, uint64_t *, size_t, uint16_t *, size_t);
 void c_filter(const network *, uint64_t *, uint16_t *);
-uint16_t c_first_clash(const uint16_t *, size_t, const uint16_t *, size_t, const uint16_t *, size_t, const uint16_t *, size_t);
+uint16_t c_first_clash(const uint16_t *, size_t, const uint32_t *, size_t, const uint16_t *, size_t, const uint32_t *, size_t);
 uint16_t c_next(const uint64_t *, size_t, uint16_t, uint16_t);
 uint16_t c_count(const uint64_t *, size_t, uint16_t, uint16_t);
 #endif

@@ -1,6 +1,7 @@
 /* Times filter and test of two builds of the library, in turn and in one run, on the benchmark's networks: the one's functions have
  * their names, the other's `before_` in front. Both must give the same answers, marks and supports. The other may be a build from
- * before card 6, whose records have no live count; it is then lent records of its own form.
+ * before card 6, whose records have no live count, or from before card 9, whose codes have 16 bits; it is then lent records and codes of
+ * its own form, and codes of the kind that is most like the network's where these have more than 16 bits.
  *     beside [any]
  * Networks with any are timed only where that is asked for: a build from before card 4 takes any for a value. */
 #include "bench.h"
@@ -17,7 +18,11 @@ enum { LEAST_ROUNDS = 15, MOST_ROUNDS = 400 };
 static const double ENOUGH = 0.4; /* seconds after which a network is timed no more */
 
 /* The lists of one network; on this machine they are their own little-endian bytes. */
-static network n;
+static network n, old;
+
+/* Whether the build before has codes of two bytes, and the codes as such. */
+static bool two_bytes;
+static uint16_t half_codes[MAX_TUPLES * MAX_WIDTH];
 
 /* Of each build, the one before and the one after: how many numbers a record has, its records, what a call leaves, its answers and its
  * least times. */
@@ -26,8 +31,9 @@ static uint16_t records[2][3 * MAX_RELATIONS], supports[2][MAX_NUMBERS];
 static uint64_t marks[2][WORDS], filtered[2], tested[2];
 static double filter_time[2], test_time[2];
 
-#define BYTES(at, count) (uint8_t *)(at), 2 * (count)
-#define GIVEN BYTES(records[build], record_numbers[build] * n.relations), BYTES(n.variables, n.variable_count), BYTES(n.values, n.value_count), (uint16_t)n.m, BYTES(n.members, n.pairs)
+#define BYTES(at, count) (uint8_t *)(at), sizeof *(at) * (count)
+#define CODES build || !two_bytes ? (uint8_t *)n.values : (uint8_t *)half_codes, (build || !two_bytes ? 4 : 2) * n.value_count
+#define GIVEN BYTES(records[build], record_numbers[build] * n.relations), BYTES(n.variables, n.variable_count), CODES, (uint16_t)n.m, BYTES(n.members, n.pairs)
 
 static double now(void) {
     struct timespec t;
@@ -41,6 +47,18 @@ static double least(double a, double b) { return a < b ? a : b; }
 static bool knows_no_counts(void) {
     uint16_t record[] = {1, 0, 0}, scope[] = {0};
     return before_wakhvosi_test(BYTES(record, 3), BYTES(scope, 1), NULL, 0, 2, NULL, 0, NULL, 0) == WAKHVOSI_REFUSED + 256;
+}
+
+/* Whether one code of two bytes is a whole number of codes, and so not refused with number 1. */
+static bool knows_two_bytes(void) {
+    uint16_t record[] = {1, 1, 1}, scope[] = {0}, code[] = {0};
+    return before_wakhvosi_test(BYTES(record, record_numbers[0]), BYTES(scope, 1), BYTES(code, 1), 2, NULL, 0, NULL, 0) != WAKHVOSI_REFUSED + 256;
+}
+
+static void write_half_codes(const description *d) {
+    description narrow = narrowed(d);
+    draw_network(&old, &narrow);
+    for (size_t i = 0; i < old.value_count; i++) half_codes[i] = (uint16_t)old.values[i];
 }
 
 /* The records of a build's form, all tuples living. */
@@ -72,6 +90,7 @@ static size_t count, differing;
 static void timed(const description *d) {
     char name[NAME_SIZE];
     draw_network(&n, d);
+    if (two_bytes) write_half_codes(d);
     name_network(d, name);
     for (int i = 0; i < 2; i++) filter_time[i] = test_time[i] = 1e9;
     double start = now();
@@ -93,6 +112,7 @@ static void timed_all(const description *networks, size_t number) {
 int main(int argc, char **argv) {
     bool any = argc > 1 && !strcmp(argv[1], "any");
     if (knows_no_counts()) record_numbers[0] = 2;
+    two_bytes = knows_two_bytes();
     printf("%-36s %11s %11s  ratio   %11s %11s  ratio\n", "", "filter was", "is", "test was", "is");
     timed_all(suite, suite_count), timed_all(growth, growth_count);
     if (any) timed_all(with_any, with_any_count);

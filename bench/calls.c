@@ -7,7 +7,7 @@
 #include <string.h>
 #include <time.h>
 
-#define BOOK const uint16_t *, size_t, const uint16_t *, size_t, const uint16_t *, size_t
+#define BOOK const uint16_t *, size_t, const uint16_t *, size_t, const uint32_t *, size_t
 void plain_filter(BOOK, uint16_t, const uint16_t *, size_t, uint64_t *, size_t, uint16_t *, size_t, uint16_t *, size_t, uint16_t *);
 
 enum { ROUNDS = 15, STACK = 1 << 20, PAINT = 0xa5 };
@@ -32,7 +32,7 @@ static void draw_lists(const description *d) {
     }
 }
 
-#define BYTES(at, count) (uint8_t *)(at), 2 * (count)
+#define BYTES(at, count) (uint8_t *)(at), sizeof *(at) * (count)
 #define GIVEN BYTES(records, 3 * n.relations), BYTES(n.variables, n.variable_count), BYTES(n.values, n.value_count)
 #define LENT GIVEN, (uint16_t)n.m, BYTES(n.members, n.pairs), (uint8_t *)marks, sizeof marks, (uint8_t *)supports, sizeof supports
 
@@ -103,7 +103,7 @@ static int stacks(void) {
         puts(" bytes");
     }
     printf("the most: %zu KB\n", (most + 1023) / 1024);
-    return most > 256 * 1024;
+    return most > 384 * 1024;
 }
 
 int main(void) {

@@ -6,11 +6,14 @@
 #include <string.h>
 
 enum { TABLE = 9216, MAX_DIGITS = 4, MAX_ROWS = 1024, MAX_SWEEPS = 2, FEW = 8, MANY = 64, FAILURES = 16, LONG = 256, PLACES = 2048, SAMPLE = 32 };
+/* Hashes lie below; so many classes of them are enough; and factors that spread them. */
+static const uint64_t HASHES = 1ull << 32, ENOUGH = 65536, SPREAD = 2654435769, FURTHER = 2246822507;
 enum { MAX_SHARED = MAX_WIDTH, MAX_KEPT = MAX_SHARED * MAX_DIGITS };
 
 /* A relation: its tuples have the ids from first on and below end; these are in the words from word on and below last. */
 typedef struct {
-    const uint16_t *scope, *values;
+    const uint16_t *scope;
+    const uint32_t *values;
     int width, first, end, word, last;
     int slots[MAX_WIDTH]; /* which row of rows a shared column has in the index; -1 for the others */
     uint64_t variables;
@@ -25,7 +28,9 @@ typedef struct {
 /* For each shared column and each value of each digit, the ids of the tuples that have it there, or any; behind these rows of a column
  * one of the ids that have any. */
 typedef struct {
-    unsigned digits, factor, rows, parts[MAX_DIGITS], begins[MAX_DIGITS];
+    uint64_t factor;
+    bool spread; /* each digit is of a product of its own */
+    unsigned digits, rows, parts[MAX_DIGITS], begins[MAX_DIGITS];
     uint64_t table[TABLE];
 } value_index;
 
@@ -61,7 +66,7 @@ static inline void take(uint64_t *words, int g) { words[g / 64] &= ~(1ull << g %
 /* The first live id of the relation from g on, or its end. */
 static inline int next_of(const uint64_t *words, const relation *r, int g) { return next(words, 0, (uint16_t)g, (uint16_t)r->end); }
 static bool is_empty(const uint64_t *words, const relation *r) { return next_of(words, r, r->first) == r->end; }
-static inline const uint16_t *tuple_of(const relation *r, int x) { return r->values + x * r->width; }
+static inline const uint32_t *tuple_of(const relation *r, int x) { return r->values + x * r->width; }
 
 static bool agree_at(const relation *r, int x, const relation *s, int y) {
     return first_clash(r->scope, r->width, tuple_of(r, x), r->width, s->scope, s->width, tuple_of(s, y), s->width) == NO_VARIABLE;
@@ -130,15 +135,23 @@ static uint64_t divide_rows(value_index *index, unsigned digits) {
     return classes;
 }
 
-/* As few digits as tell all values apart; where four do not, those of a product that spreads them. Any choice is sound. */
-static void choose_digits(value_index *index, const uint16_t *values, size_t count) {
-    unsigned bound = 1;
-    for (size_t i = 0; i < count; i++)
-        if (values[i] >= bound && values[i] != ANY) bound = values[i] + 1u;
-    index->factor = 65536 / bound;
-    for (unsigned digits = 1; digits <= MAX_DIGITS; digits++)
-        if (divide_rows(index, digits) * index->factor >= 65536) return;
-    index->factor = 40503;
+/* As few digits as tell all values apart; where fewer make enough classes, or four do not tell them apart, those of products that spread
+ * them. Any choice is sound. */
+static void choose_digits(value_index *index, const uint32_t *values, size_t count) {
+    uint32_t lowest = ANY, most = 0;
+    for (size_t i = 0; i < count; i++) {
+        if (values[i] < lowest) lowest = values[i];
+        if (values[i] > most && values[i] != ANY) most = values[i];
+    }
+    index->spread = false;
+    index->factor = most < lowest ? HASHES : HASHES / (most - lowest + 1ull);
+    for (unsigned digits = 1; digits <= MAX_DIGITS; digits++) {
+        uint64_t classes = divide_rows(index, digits);
+        if (classes * index->factor >= HASHES) return;
+        if (classes >= ENOUGH) break;
+    }
+    index->spread = true;
+    index->factor = SPREAD;
 }
 
 /* Where the rows of the relation's column begin, counted in rows. */
@@ -147,15 +160,15 @@ static inline unsigned column_row(const filtering *f, const relation *r, int col
 }
 
 /* The rows that a value has in the relation's column, one for each digit; any has none. */
-static inline unsigned rows_of(const filtering *f, const uint64_t **rows, const relation *r, int column, uint16_t value) {
+static inline unsigned rows_of(const filtering *f, const uint64_t **rows, const relation *r, int column, uint32_t value) {
     const value_index *index = &f->index;
     const unsigned slot = column_row(f, r, column);
-    unsigned h = value * index->factor & 65535;
+    uint64_t h = (uint32_t)(value * index->factor);
     if (value == ANY) return 0;
     for (unsigned i = 0; i < index->digits; i++) {
-        h *= index->parts[i];
-        rows[i] = index->table + (slot + index->begins[i] + (h >> 16)) * f->words;
-        h &= 65535;
+        uint64_t part = h * index->parts[i];
+        rows[i] = index->table + (slot + index->begins[i] + (part >> 32)) * f->words;
+        h = (uint32_t)(index->spread ? h * FURTHER : part);
     }
     return index->digits;
 }
@@ -180,14 +193,14 @@ static void spread_any(filtering *f, const relation *r, int column) {
         for (int w = r->word; w < r->last; w++) row[w] |= any[w];
 }
 
-static void mark_value(filtering *f, const relation *r, int column, uint16_t value, int g) {
+static void mark_value(filtering *f, const relation *r, int column, uint32_t value, int g) {
     const uint64_t *rows[MAX_DIGITS];
     if (value == ANY) put(any_row(f, r, column), g);
     for (unsigned i = rows_of(f, rows, r, column, value); i-- > 0;) put((uint64_t *)rows[i], g);
 }
 
 static void mark_relation(filtering *f, const relation *r) {
-    const uint16_t *tuple = r->values;
+    const uint32_t *tuple = r->values;
     for (int g = r->first; g < r->end; g++, tuple += r->width)
         for (int c = 0; c < r->width; c++)
             if (r->slots[c] >= 0) mark_value(f, r, c, tuple[c], g);
@@ -206,7 +219,7 @@ static void make_index(filtering *f) {
 }
 
 /* The rows that a tuple's values have in the columns that another relation shares. */
-static inline unsigned rows_of_tuple(const filtering *f, const uint64_t **rows, const uint16_t *tuple, const relation *s, const columns *e) {
+static inline unsigned rows_of_tuple(const filtering *f, const uint64_t **rows, const uint32_t *tuple, const relation *s, const columns *e) {
     unsigned count = 0;
     for (int i = 0; i < e->count; i++) count += rows_of(f, rows + count, s, e->to[i], tuple[e->from[i]]);
     return count;
@@ -305,7 +318,7 @@ static void plan(visit *v, const filtering *f, size_t p) {
 static inline bool narrow(const visit *v, uint64_t *words, int i, int x, int j) {
     const relation *s = v->members[j];
     const columns *e = &v->shared[i][j];
-    const uint16_t *tuple = tuple_of(v->members[i], x);
+    const uint32_t *tuple = tuple_of(v->members[i], x);
     const uint64_t *outside = v->outside[j], *rows[MAX_DIGITS];
     uint64_t any = 1;
     for (int k = 0; k < e->count; k++) {
@@ -359,7 +372,7 @@ static bool spread(const visit *v, uint64_t *words, int i, int j, int most) {
     for (int w = s->word; w < s->last; w++) sum[w] = outside[w];
     for (int w = r->word; w < r->last; w++)
         for (uint64_t rest = words[w] & inside(r, w); rest; rest &= rest - 1) {
-            const uint16_t *tuple = tuple_of(r, w * 64 + __builtin_ctzll(rest) - r->first);
+            const uint32_t *tuple = tuple_of(r, w * 64 + __builtin_ctzll(rest) - r->first);
             gather(sum, rows, rows_of_tuple(v->f, rows, tuple, s, &v->shared[i][j]), s);
         }
     for (int w = s->word; w < s->last; w++) any |= (words[w] &= sum[w]) & ~outside[w];
@@ -376,7 +389,7 @@ static bool fits(const visit *v, int j, const uint16_t *chosen, int x) {
 
 /* ---- Tuples with the same values. */
 
-static bool is_alike(const relation *r, const uint16_t *a, const uint16_t *b, uint64_t variables) {
+static bool is_alike(const relation *r, const uint32_t *a, const uint32_t *b, uint64_t variables) {
     for (int c = 0; c < r->width; c++)
         if (variables >> r->scope[c] & 1 && a[c] != b[c]) return false;
     return true;
@@ -384,10 +397,10 @@ static bool is_alike(const relation *r, const uint16_t *a, const uint16_t *b, ui
 
 /* The tuple entered at the hash of x's values, if it has these under the variables; x otherwise, which is entered if none is. */
 static int first_alike(uint16_t *table, const relation *r, int x, uint64_t variables) {
-    const uint16_t *tuple = tuple_of(r, x);
-    uint32_t hash = 0;
+    const uint32_t *tuple = tuple_of(r, x);
+    uint64_t hash = 0;
     for (int c = 0; c < r->width; c++)
-        if (variables >> r->scope[c] & 1) hash = (hash + tuple[c]) * 1640531527u;
+        if (variables >> r->scope[c] & 1) hash = (hash + tuple[c]) * 1640531527u, hash = (uint32_t)((hash >> 32) + (uint32_t)hash);
     uint16_t *entry = table + (hash >> 21);
     if (*entry >= x) *entry = (uint16_t)x;
     return is_alike(r, tuple, tuple_of(r, *entry), variables) ? *entry : x;
@@ -409,7 +422,7 @@ static bool spread_open(const visit *v, uint64_t *words, int j) {
 }
 
 /* The bits of a value in a sieve: one, and of any all. */
-static inline uint64_t bits_of(uint16_t value) { return value == ANY ? ~0ull : 1ull << ((value * 40503u & 65535) >> 10); }
+static inline uint64_t bits_of(uint32_t value) { return value == ANY ? ~0ull : 1ull << (value * (uint32_t)SPREAD >> 26); }
 
 /* The column in which member j's tuples are sieved by the values of the last member's candidates; none sieves nothing. */
 static int find_sieve(const visit *v, const uint64_t *words, int j, uint64_t *bits) {

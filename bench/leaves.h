@@ -3,10 +3,10 @@
 #define LEAVES_H
 #include "bench.h"
 
-static inline bool fit(uint16_t a, uint16_t b) { return a == b || a == ANY || b == ANY; }
+static inline bool fit(uint32_t a, uint32_t b) { return a == b || a == ANY || b == ANY; }
 
 /* The lowest variable of both scopes whose values do not fit; 64 where there is none. */
-static inline uint16_t first_clash(const uint16_t *scope_a, size_t wa, const uint16_t *a, size_t la, const uint16_t *scope_b, size_t wb, const uint16_t *b, size_t lb) {
+static inline uint16_t first_clash(const uint16_t *scope_a, size_t wa, const uint32_t *a, size_t la, const uint16_t *scope_b, size_t wb, const uint32_t *b, size_t lb) {
     (void)la, (void)lb;
     uint16_t lowest = NO_VARIABLE;
     for (size_t i = 0; i < wa; i++)

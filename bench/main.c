@@ -14,7 +14,8 @@
 enum { ROUNDS = 21, FILTERINGS = 15, TUPLES = 1000 };
 static const double ENOUGH = 0.5; /* seconds after which a network is filtered no more */
 
-static uint16_t scope_a[MAX_WIDTH], scope_b[MAX_WIDTH], a[TUPLES * MAX_WIDTH], b[TUPLES * MAX_WIDTH];
+static uint16_t scope_a[MAX_WIDTH], scope_b[MAX_WIDTH];
+static uint32_t a[TUPLES * MAX_WIDTH], b[TUPLES * MAX_WIDTH];
 static uint64_t words[3][WORDS]; /* dense, sparse, nearly empty */
 
 static double now(void) {
@@ -29,7 +30,7 @@ static uint64_t draw(void) {
     return seed >> 33;
 }
 
-typedef uint16_t (*clash_fn)(const uint16_t *, size_t, const uint16_t *, size_t, const uint16_t *, size_t, const uint16_t *, size_t);
+typedef uint16_t (*clash_fn)(const uint16_t *, size_t, const uint32_t *, size_t, const uint16_t *, size_t, const uint32_t *, size_t);
 typedef uint16_t (*range_fn)(const uint64_t *, size_t, uint16_t, uint16_t);
 
 static long clash_all(clash_fn f, size_t wa, size_t wb) {
@@ -82,7 +83,7 @@ static double least(double a, double b) { return a < b ? a : b; }
 
 static void leaves(void) {
     for (size_t i = 0; i < MAX_WIDTH; i++) scope_a[i] = (uint16_t)i, scope_b[i] = (uint16_t)((i + 2) % (MAX_WIDTH + 2));
-    for (size_t i = 0; i < TUPLES * MAX_WIDTH; i++) a[i] = (uint16_t)(draw() % 2), b[i] = (uint16_t)(draw() % 2);
+    for (size_t i = 0; i < TUPLES * MAX_WIDTH; i++) a[i] = (uint32_t)(draw() % 2), b[i] = (uint32_t)(draw() % 2);
     for (size_t i = 0; i < WORDS; i++) {
         words[0][i] = draw() << 33 ^ draw() << 10 ^ draw();
         words[1][i] = words[0][i] & draw() << 20 & draw() << 15;

@@ -1,5 +1,6 @@
 /* Networks: made piece by piece, written as text, and those of the benchmark's suite, drawn from a fixed seed. */
 #include "bench.h"
+#include <inttypes.h>
 #include <string.h>
 
 size_t width_of(const network *n, size_t r) { return n->variable_starts[r + 1] - n->variable_starts[r]; }
@@ -56,40 +57,51 @@ static void write_numbers(const uint16_t *numbers, size_t count, FILE *out) {
     putc('\n', out);
 }
 
+static void write_codes(const uint32_t *codes, size_t count, FILE *out) {
+    for (size_t i = 0; i < count; i++) fprintf(out, i ? ",%u" : "%u", codes[i]);
+    putc('\n', out);
+}
+
 void write_network(const network *n, FILE *out) {
     fprintf(out, "%u,%zu,%zu\n", n->relations, n->m, n->pairs / n->m);
     for (size_t r = 0; r < n->relations; r++) {
         size_t width = width_of(n, r);
         fprintf(out, "%zu,%zu\n", width, size_of(n, r));
         write_numbers(n->variables + n->variable_starts[r], width, out);
-        for (size_t i = n->value_starts[r]; i < n->value_starts[r + 1]; i += width) write_numbers(n->values + i, width, out);
+        for (size_t i = n->value_starts[r]; i < n->value_starts[r + 1]; i += width) write_codes(n->values + i, width, out);
     }
     for (size_t p = 0; p < n->pairs; p += n->m) write_numbers(n->members + p, n->m, out);
 }
 
-/* A number and the comma or line end behind it; none is 65,536. */
-static unsigned read_number(FILE *in) {
-    unsigned number;
-    return fscanf(in, "%u", &number) == 1 && getc(in) != EOF && number < 65536 ? number : 65536;
+/* A number and the comma or line end behind it; none is more than the most. */
+static uint64_t read_number(FILE *in, uint64_t most) {
+    uint64_t number;
+    return fscanf(in, "%" SCNu64, &number) == 1 && getc(in) != EOF && number <= most ? number : most + 1;
 }
 
 static bool read_numbers(uint16_t *numbers, size_t count, FILE *in) {
-    unsigned number = 0;
-    for (size_t i = 0; i < count && number < 65536; i++) number = read_number(in), numbers[i] = (uint16_t)number;
+    uint64_t number = 0;
+    for (size_t i = 0; i < count && number < 65536; i++) number = read_number(in, 65535), numbers[i] = (uint16_t)number;
     return number < 65536;
+}
+
+static bool read_codes(uint32_t *codes, size_t count, FILE *in) {
+    uint64_t number = 0;
+    for (size_t i = 0; i < count && number <= ANY; i++) number = read_number(in, ANY), codes[i] = (uint32_t)number;
+    return number <= ANY;
 }
 
 static bool read_relation(network *n, FILE *in) {
     uint16_t scope[MAX_WIDTH];
-    size_t width = read_number(in), tuples = read_number(in), at = n->value_count;
+    size_t width = read_number(in, 65535), tuples = read_number(in, 65535), at = n->value_count;
     if (width > MAX_WIDTH || tuple_count(n) + tuples > MAX_TUPLES || !read_numbers(scope, width, in)) return false;
     add_relation(n, scope, width, tuples);
-    return read_numbers(n->values + at, width * tuples, in);
+    return read_codes(n->values + at, width * tuples, in);
 }
 
 bool read_network(network *n, FILE *in) {
     uint16_t members[MAX_MEMBERS];
-    size_t relations = read_number(in), m = read_number(in), combinations = read_number(in);
+    size_t relations = read_number(in, 65535), m = read_number(in, 65535), combinations = read_number(in, 65535);
     if (relations > MAX_RELATIONS || m > MAX_MEMBERS || combinations > MAX_COMBINATIONS) return false;
     clear_network(n, m);
     for (size_t r = 0; r < relations; r++)
@@ -145,6 +157,13 @@ const description suite[] = {
     QUADRUPLE(MULTIPLES, 256),
     QUADRUPLE(RANDOM, 0),
     QUADRUPLE(TOPMOST, 0),
+    QUADRUPLE(MULTIPLES, 1 << 16),
+    QUADRUPLE(MULTIPLES, 1 << 20),
+    QUADRUPLE(MULTIPLES, 1 << 24),
+    QUADRUPLE(WIDE, 0),
+    QUADRUPLE(RAISED, 0),
+    TODAY(WIDE, 0),
+    TODAY(RAISED, 0),
     SMALLER(16, 12, 8, 4),
     SMALLER(64, 40, 22, 8),
     SMALLER(256, 160, 64, 15),
@@ -207,7 +226,8 @@ const size_t with_any_count = sizeof with_any / sizeof *with_any;
 void name_network(const description *d, char name[NAME_SIZE]) {
     static const char *const shapes[] = {"neighbours", "path", "star", "ring", "clique", "catalogue"};
     int at = snprintf(name, NAME_SIZE, "%s-m%zu-%zux%zu-v%u", shapes[d->shape], d->m, d->relations, d->tuples, d->values);
-    if (d->codes != MULTIPLES) at += snprintf(name + at, NAME_SIZE - at, d->codes == RANDOM ? "-random" : "-topmost");
+    static const char *const kinds[] = {"", "-random", "-topmost", "-wide", "-raised"};
+    if (d->codes != MULTIPLES) at += snprintf(name + at, NAME_SIZE - at, "%s", kinds[d->codes]);
     else if (d->factor != 1) at += snprintf(name + at, NAME_SIZE - at, "-x%u", d->factor);
     if (d->step != 1) at += snprintf(name + at, NAME_SIZE - at, "-step%zu", d->step);
     if (d->alike != 1) at += snprintf(name + at, NAME_SIZE - at, "-alike%zu", d->alike);
@@ -270,11 +290,34 @@ size_t shape_scope(network_shape shape, size_t relations, size_t r, uint16_t *sc
     }
 }
 
-uint16_t code_of(const description *d, unsigned value) {
-    if (d->codes == MULTIPLES) return (uint16_t)(value * d->factor);
-    if (d->codes == TOPMOST) return (uint16_t)(ANY - 1 - value);
-    value = (value * 24029 + 12345) & 65535; /* odd factors, and a shift that the upper bits undo: one to one */
-    return (uint16_t)((value ^ value >> 7) * 51749);
+/* One to one: odd factors, and a shift that the upper bits undo. */
+static uint32_t mixed(uint32_t value) {
+    value = value * 2891336453u + 12345;
+    return (value ^ value >> 15) * 747796405u;
+}
+
+static uint32_t mixed_half(unsigned value) {
+    value = (value * 24029 + 12345) & 65535;
+    return ((value ^ value >> 7) * 51749) & 65535;
+}
+
+/* Multiples of the factor; random ones of 16 bits, and of 32; the highest ones; and those from 4,000,000,000 on. */
+uint32_t code_of(const description *d, unsigned value) {
+    switch (d->codes) {
+    case RANDOM: return mixed_half(value);
+    case TOPMOST: return ANY - 1 - value;
+    case WIDE: return mixed(value);
+    case RAISED: return 4000000000u + value;
+    default: return value * d->factor;
+    }
+}
+
+description narrowed(const description *d) {
+    description narrow = *d;
+    if (d->codes == WIDE) narrow.codes = RANDOM;
+    if (d->codes == RAISED) narrow.codes = TOPMOST;
+    if (d->factor > 256) narrow.factor = 256;
+    return narrow;
 }
 
 static bool is_private(const network *n, uint16_t variable) {
@@ -283,7 +326,7 @@ static bool is_private(const network *n, uint16_t variable) {
     return count == 1;
 }
 
-static uint16_t draw_code(const description *d, unsigned moved) {
+static uint32_t draw_code(const description *d, unsigned moved) {
     if (d->any && draw(100) < d->any) return ANY;
     return code_of(d, draw(d->values) + moved);
 }
@@ -292,7 +335,7 @@ static uint16_t draw_code(const description *d, unsigned moved) {
 static void draw_values(network *n, const description *d, size_t r) {
     size_t width = width_of(n, r), different = d->tuples / d->alike;
     unsigned moved = d->apart && r + 1 == d->relations ? d->values : 0;
-    uint16_t *tuple = n->values + n->value_starts[r];
+    uint32_t *tuple = n->values + n->value_starts[r];
     for (size_t x = 0; x < d->tuples; x++, tuple += width)
         for (size_t c = 0; c < width; c++) {
             bool again = x >= different && !is_private(n, n->variables[n->variable_starts[r] + c]);

@@ -69,7 +69,7 @@ static size_t scope_of(const plan *p, size_t r, uint16_t *scope) {
     return 1 + draw(p->width);
 }
 
-static bool has_joker(const plan *p, const uint16_t *scope, size_t width, const uint16_t *row) {
+static bool has_joker(const plan *p, const uint16_t *scope, size_t width, const uint32_t *row) {
     for (size_t c = 0; c < width; c++)
         if (p->jokers && row[c] + 1u == p->values[scope[c]]) return true;
     return false;
@@ -77,7 +77,7 @@ static bool has_joker(const plan *p, const uint16_t *scope, size_t width, const 
 
 static bool is_open(const plan *p, unsigned r, uint16_t variable) { return p->anys[r] && p->open >> variable & 1; }
 
-static bool keeps_rule(const plan *p, const uint16_t *scope, size_t width, unsigned r, const uint16_t *row) {
+static bool keeps_rule(const plan *p, const uint16_t *scope, size_t width, unsigned r, const uint32_t *row) {
     unsigned sum = 0;
     for (size_t c = 0; c < width; c++)
         if (!is_open(p, r, scope[c])) sum += row[c];
@@ -85,15 +85,15 @@ static bool keeps_rule(const plan *p, const uint16_t *scope, size_t width, unsig
 }
 
 /* A drawn row that keeps the rule, if one is found soon. */
-static void draw_row(const plan *p, const uint16_t *scope, size_t width, unsigned r, uint16_t *row, bool keeps) {
+static void draw_row(const plan *p, const uint16_t *scope, size_t width, unsigned r, uint32_t *row, bool keeps) {
     for (int k = 0; k < 64; k++) {
-        for (size_t c = 0; c < width; c++) row[c] = (uint16_t)draw(p->values[scope[c]]);
+        for (size_t c = 0; c < width; c++) row[c] = draw(p->values[scope[c]]);
         if (!keeps || keeps_rule(p, scope, width, r, row)) return;
     }
 }
 
 /* The row behind this one in the order of the first value, then the second, and so on; false where that is the first again. */
-static bool step(const plan *p, const uint16_t *scope, size_t width, uint16_t *row) {
+static bool step(const plan *p, const uint16_t *scope, size_t width, uint32_t *row) {
     size_t c = width;
     while (c > 0 && row[c - 1] + 1u >= p->values[scope[c - 1]]) row[--c] = 0;
     if (c > 0) row[c - 1]++;
@@ -101,7 +101,7 @@ static bool step(const plan *p, const uint16_t *scope, size_t width, uint16_t *r
 }
 
 /* The next row that keeps the rule, if one comes soon; those with a joker come behind all others. */
-static void next_row(const plan *p, const uint16_t *scope, size_t width, unsigned r, uint16_t *row, bool *joker) {
+static void next_row(const plan *p, const uint16_t *scope, size_t width, unsigned r, uint32_t *row, bool *joker) {
     for (int k = 0; k < 4096; k++) {
         if (!step(p, scope, width, row)) *joker = !*joker && p->jokers;
         if (keeps_rule(p, scope, width, r, row) && has_joker(p, scope, width, row) == *joker) return;
@@ -110,14 +110,14 @@ static void next_row(const plan *p, const uint16_t *scope, size_t width, unsigne
 
 static size_t compared_width;
 static int compare_rows(const void *a, const void *b) {
-    const uint16_t *x = a, *y = b;
+    const uint32_t *x = a, *y = b;
     for (size_t c = 0; c < compared_width; c++)
         if (x[c] != y[c]) return x[c] < y[c] ? -1 : 1;
     return 0;
 }
 
 /* The values of so many rows become codes, or any. */
-static void write_codes(const plan *p, const uint16_t *scope, size_t width, unsigned r, uint16_t *rows, size_t size) {
+static void write_codes(const plan *p, const uint16_t *scope, size_t width, unsigned r, uint32_t *rows, size_t size) {
     description codes = {.codes = p->codes, .factor = p->factor};
     for (size_t i = 0; i < size * width; i++)
         rows[i] = is_open(p, r, scope[i % width]) && draw(100) < p->anys[r] ? ANY : code_of(&codes, rows[i]);
@@ -127,11 +127,11 @@ static void fill_relation(const plan *p, network *n, size_t r) {
     unsigned s = p->order[r];
     size_t width = width_of(n, r), size = size_of(n, r), different = size / p->alike[s] + 1;
     const uint16_t *scope = n->variables + n->variable_starts[r];
-    uint16_t *rows = n->values + n->value_starts[r], last[MAX_WIDTH] = {0};
+    uint32_t *rows = n->values + n->value_starts[r], last[MAX_WIDTH] = {0};
     bool joker = false;
     if (!keeps_rule(p, scope, width, s, last)) next_row(p, scope, width, s, last, &joker);
     for (size_t x = 0; x < size; x++) {
-        uint16_t *row = rows + x * width;
+        uint32_t *row = rows + x * width;
         if (x >= different && x + p->late < size) memcpy(row, row - different * width, width * sizeof *row);
         else if (p->ways[s] == ALL && x + p->late < size) memcpy(row, last, width * sizeof *row), next_row(p, scope, width, s, last, &joker);
         else draw_row(p, scope, width, s, row, x + p->late < size);
@@ -217,8 +217,8 @@ static void draw_rows(plan *p) {
 }
 
 static void draw_codes(plan *p) {
-    static const unsigned factors[] = {1, 1, 1, 7, 10, 17, 100, 256};
-    p->codes = draw(TOPMOST + 1);
+    static const unsigned factors[] = {1, 1, 1, 7, 10, 17, 100, 256, 1 << 16, 1 << 19, 75025, 514229};
+    p->codes = draw(CODE_KINDS);
     p->factor = factors[draw(sizeof factors / sizeof *factors)];
 }
 

@@ -19,7 +19,7 @@ from typing import NamedTuple
 LIMIT = 20.0  # seconds after which a job is given up
 ENOUGH = 1.0  # and after which no other round begins
 ROUNDS = 3
-ANY = 65535
+ANY = 4294967295
 
 
 class Measured(NamedTuple):

@@ -7,7 +7,7 @@
  *   sheets        6 bytes for each sheet: its width (how many questions it asks), its number of rows, then its count, which is how
  *                 many of its rows are living, 2 bytes each
  *   questions     2 bytes for each question: the columns of sheet 0 in their order, then those of sheet 1, and so on
- *   codes         2 bytes for each code: the rows of sheet 0 one after the other, then those of sheet 1, and so on
+ *   codes         4 bytes for each code: the rows of sheet 0 one after the other, then those of sheet 1, and so on
  *   combinations  2 bytes for each sheet number: m rising numbers for each combination
  *   marks         8 bytes for each word of 64 marks: row number g of the book is bit g mod 64 (bit 0 lowest) of word g / 64,
  *                 and 1 means living
@@ -15,8 +15,8 @@
  *   rows          2 bytes for each book number of a row (withdraw)
  *
  * A row's book number is its number in its sheet, counted from 0, and the rows of all earlier sheets added.
- * Two codes fit if they are equal or one of them is 65,535, which means any; two rows agree if their codes fit under every question
- * that both sheets ask. A support's rows all agree, every two of them.
+ * Two codes fit if they are equal or one of them is 4,294,967,295, which means any; two rows agree if their codes fit under every
+ * question that both sheets ask. A support's rows all agree, every two of them.
  * A list may be empty; its pointer is then not read and may be NULL. The lists lent to one call do not overlap, and nothing else
  * writes them while the call runs. A list may have any length: one that is too long is refused like any other fault.
  *
@@ -45,8 +45,11 @@
  *   18  a sheet's count differs from its marks
  *   13  a book number is not below the number of rows
  *   14  the question chosen is above 63
+ *   23  a code that is to move back is from 65,535 to 4,294,967,294
+ *   24  the list that codes are to move to is too short
  *
- * Filter uses 1 to 12 and 18; withdraw adds 13, choose 14; test uses 1 to 11; compare 1 to 6 and 13.
+ * Filter uses 1 to 12 and 18; withdraw adds 13, choose 14; test uses 1 to 11; compare 1 to 6 and 13; widen 1 to 6 and 24; narrow
+ * 1 to 6, 23 and 24.
  */
 #ifndef WAKHVOSI_H
 #define WAKHVOSI_H
@@ -72,11 +75,14 @@ enum {
     WAKHVOSI_MAX_MEMBERS = 4,
     WAKHVOSI_MAX_COMBINATIONS = 256,
     WAKHVOSI_MAX_SUPPORTS = 32768, /* numbers that the supports may need */
-    WAKHVOSI_ANY = 65535,          /* the code for any */
     WAKHVOSI_NO_SUPPORT = 65535,   /* stands m times in the supports where a row is dead */
     WAKHVOSI_NO_SHEET = 64,        /* the subject of a settled answer */
     WAKHVOSI_NO_QUESTION = 64      /* .. and of compare's where the rows agree */
 };
+
+/* The code for any; and what it was while a code had two bytes. */
+#define WAKHVOSI_ANY 4294967295u
+enum { WAKHVOSI_OLDER_ANY = 65535 };
 
 /* ---- The sheets' numbers of rows and counts, and how many bytes of marks and supports a book needs */
 
@@ -130,6 +136,7 @@ enum {
     WAKHVOSI_YES = 1,     /* .. they are */
     WAKHVOSI_DIFFER = 0,  /* compare: under some question that both sheets ask, the rows' codes do not fit */
     WAKHVOSI_AGREE = 1,   /* .. under none */
+    WAKHVOSI_MOVED = 0,   /* widen and narrow: the codes were moved */
     WAKHVOSI_REFUSED = 2  /* of every call: the request has a fault; nothing was written */
 };
 
@@ -181,7 +188,7 @@ uint64_t wakhvosi_choose(uint8_t *sheets, size_t sheets_bytes,
                          const uint8_t *combinations, size_t combinations_bytes,
                          uint8_t *marks, size_t marks_bytes,
                          uint8_t *supports, size_t supports_bytes,
-                         uint16_t question, uint16_t code);
+                         uint16_t question, uint32_t code);
 
 /* ---- Test and compare: the answer has a kind and a subject, which is 0 where test is not refused; its other bits are 0 */
 
@@ -199,6 +206,23 @@ uint64_t wakhvosi_compare(const uint8_t *sheets, size_t sheets_bytes,
                           const uint8_t *codes, size_t codes_bytes,
                           uint16_t a, uint16_t b);
 
+/* ---- Moves between books of 2-byte codes, from before codes had four, and books of now. Questions and sheets stay as they are.
+ *
+ * A move writes each code to the target, from its first byte on, and leaves its bytes past them. The answer has a kind, moved or
+ * refused, and a subject, which is 0 where it was moved; its other bits are 0. A refused move changes no byte. */
+
+/* Widen: codes of 2 bytes to codes of 4. 65,535 becomes any, and every other code keeps its value. */
+uint64_t wakhvosi_widen(const uint8_t *sheets, size_t sheets_bytes,
+                        const uint8_t *questions, size_t questions_bytes,
+                        const uint8_t *codes, size_t codes_bytes,
+                        uint8_t *target, size_t target_bytes);
+
+/* Narrow: codes of 4 bytes to codes of 2. Any becomes 65,535; a code from 65,535 to 4,294,967,294 is refused. */
+uint64_t wakhvosi_narrow(const uint8_t *sheets, size_t sheets_bytes,
+                         const uint8_t *questions, size_t questions_bytes,
+                         const uint8_t *codes, size_t codes_bytes,
+                         uint8_t *target, size_t target_bytes);
+
 /* ---- The same calls on typed arrays
  *
  * For a program that has its book in arrays of numbers. Each call is the one above whose name it begins with: the same answer, the
@@ -208,6 +232,8 @@ uint64_t wakhvosi_compare(const uint8_t *sheets, size_t sheets_bytes,
  *     the combinations have m entries each;
  *   - there is no refusal number 1, since every list is a whole number of entries;
  *   - numbers stand in the machine's own byte order, and a list is aligned as its type asks.
+ *
+ * The moves have none: where the machine is little-endian, arrays of records, of uint16_t and of uint32_t are lists of bytes as they lie.
  */
 
 /* A sheet record. */
@@ -219,7 +245,7 @@ typedef struct {
 
 uint64_t wakhvosi_filter_records(wakhvosi_sheet *sheets, size_t sheets_entries,
                                  const uint16_t *questions, size_t questions_entries,
-                                 const uint16_t *codes, size_t codes_entries,
+                                 const uint32_t *codes, size_t codes_entries,
                                  uint16_t m,
                                  const uint16_t *combinations, size_t combinations_entries,
                                  uint64_t *marks, size_t marks_entries,
@@ -227,7 +253,7 @@ uint64_t wakhvosi_filter_records(wakhvosi_sheet *sheets, size_t sheets_entries,
 
 uint64_t wakhvosi_withdraw_records(wakhvosi_sheet *sheets, size_t sheets_entries,
                                    const uint16_t *questions, size_t questions_entries,
-                                   const uint16_t *codes, size_t codes_entries,
+                                   const uint32_t *codes, size_t codes_entries,
                                    uint16_t m,
                                    const uint16_t *combinations, size_t combinations_entries,
                                    uint64_t *marks, size_t marks_entries,
@@ -236,23 +262,23 @@ uint64_t wakhvosi_withdraw_records(wakhvosi_sheet *sheets, size_t sheets_entries
 
 uint64_t wakhvosi_choose_records(wakhvosi_sheet *sheets, size_t sheets_entries,
                                  const uint16_t *questions, size_t questions_entries,
-                                 const uint16_t *codes, size_t codes_entries,
+                                 const uint32_t *codes, size_t codes_entries,
                                  uint16_t m,
                                  const uint16_t *combinations, size_t combinations_entries,
                                  uint64_t *marks, size_t marks_entries,
                                  uint16_t *supports, size_t supports_entries,
-                                 uint16_t question, uint16_t code);
+                                 uint16_t question, uint32_t code);
 
 uint64_t wakhvosi_test_records(const wakhvosi_sheet *sheets, size_t sheets_entries,
                                const uint16_t *questions, size_t questions_entries,
-                               const uint16_t *codes, size_t codes_entries,
+                               const uint32_t *codes, size_t codes_entries,
                                uint16_t m,
                                const uint16_t *combinations, size_t combinations_entries,
                                const uint64_t *marks, size_t marks_entries);
 
 uint64_t wakhvosi_compare_records(const wakhvosi_sheet *sheets, size_t sheets_entries,
                                   const uint16_t *questions, size_t questions_entries,
-                                  const uint16_t *codes, size_t codes_entries,
+                                  const uint32_t *codes, size_t codes_entries,
                                   uint16_t a, uint16_t b);
 
 #ifdef __cplusplus

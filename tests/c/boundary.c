@@ -45,6 +45,21 @@ static list repeated(size_t n, unsigned x) {
     return l;
 }
 
+static void put32(list l, size_t i, uint32_t x) { put16(l, 2 * i, x & 65535), put16(l, 2 * i + 1, x >> 16); }
+
+static list codes(size_t n, const uint32_t *xs) {
+    list l = new_list(4 * n);
+    for (size_t i = 0; i < n; i++) put32(l, i, xs[i]);
+    return l;
+}
+
+static list one_code(size_t n, uint32_t x) {
+    list l = new_list(4 * n);
+    for (size_t i = 0; i < n; i++) put32(l, i, x);
+    return l;
+}
+
+#define THE_CODES(...) codes(sizeof((uint32_t[]){__VA_ARGS__}) / 4, (uint32_t[]){__VA_ARGS__})
 #define NUMBERS(...) numbers(sizeof((uint16_t[]){__VA_ARGS__}) / 2, (uint16_t[]){__VA_ARGS__})
 
 /* ---- Book A */
@@ -53,7 +68,7 @@ static list repeated(size_t n, unsigned x) {
 static request book_a(void) {
     return (request){FILTER, 2, 2, 6,
                      {[SHEETS] = NUMBERS(2, 3, 3, 2, 2, 2, 2, 2, 2), [QUESTIONS] = NUMBERS(0, 1, 1, 2, 2, 0),
-                      [CODES] = NUMBERS(1, 1, 1, 2, 2, 2, 1, 5, 2, 6, 5, 1, 6, 1), [COMBINATIONS] = NUMBERS(0, 1, 0, 2, 1, 2),
+                      [CODES] = THE_CODES(1, 1, 1, 2, 2, 2, 1, 5, 2, 6, 5, 1, 6, 1), [COMBINATIONS] = NUMBERS(0, 1, 0, 2, 1, 2),
                       [MARKS] = bytes(8, LIVING), [SUPPORTS] = repeated(40, 7), [COUNTS] = new_list(0), [ROWS] = new_list(0)},
                      BEHIND};
 }
@@ -69,7 +84,7 @@ static request book_a_with(int which, list by) {
 static request small_book(int sheets, unsigned rows, size_t words) {
     list sheet = sheets ? NUMBERS(1, (uint16_t)rows, (uint16_t)rows) : new_list(0);
     return (request){FILTER, 2, 0, 0,
-                     {[SHEETS] = sheet, [QUESTIONS] = repeated((size_t)sheets, 0), [CODES] = repeated(rows, 4),
+                     {[SHEETS] = sheet, [QUESTIONS] = repeated((size_t)sheets, 0), [CODES] = one_code(rows, 4),
                       [COMBINATIONS] = new_list(0), [MARKS] = bytes(8 * words, LIVING), [SUPPORTS] = new_list(0),
                       [COUNTS] = new_list(0), [ROWS] = new_list(0)},
                      BEHIND};
@@ -165,8 +180,8 @@ static void good_calls(void) {
 }
 
 /* Book A with any in the place of the last code, under question 0. */
-static request a_with_any(uint16_t x, uint16_t y) {
-    request q = book_a_with(CODES, NUMBERS(1, 1, 1, 2, 2, 2, 1, 5, 2, 6, 5, 1, 6, WAKHVOSI_ANY));
+static request a_with_any(uint16_t x, uint32_t y) {
+    request q = book_a_with(CODES, THE_CODES(1, 1, 1, 2, 2, 2, 1, 5, 2, 6, 5, 1, 6, WAKHVOSI_ANY));
     q.x = x, q.y = y;
     return q;
 }
@@ -185,11 +200,27 @@ static void any_code(void) {
     answers(a_with_any(5, 6), COMPARE, counted(0, 2, 0, 0, 0), 0, "rows 5 and 6 differ on question 2, and not on 0");
 }
 
+/* Book A, its last code another one, which row 2's code 2 does not fit; and another code chosen under question 2, where 6 stands. */
+static void wide_codes(void) {
+    static const uint32_t other[] = {65535, 65538, 0x10001, 0x80000002, 0xfffffffe, 0xffff0001};
+    for (size_t i = 0; i < sizeof other / sizeof *other; i++) {
+        char name[80];
+        request q = book_a_with(CODES, THE_CODES(1, 1, 1, 2, 2, 2, 1, 5, 2, 6, 5, 1, 6, other[i]));
+        q.x = 2, q.y = 6;
+        snprintf(name, sizeof name, "rows 2 and 6 differ, of 2 and %u", other[i]);
+        answers(q, COMPARE, counted(0, 0, 0, 0, 0), 0, name);
+        q = book_a();
+        q.y = (other[i] & ~7u) | 6;
+        snprintf(name, sizeof name, "%u chosen where 6 stands", q.y);
+        leaves(q, CHOOSE, counted(1, 0, 0, 4, 3), &nothing, name);
+    }
+}
+
 /* A list that is so many bytes short of a whole number of entries. */
 static void odd_counts(void) {
     static const struct {
         int unit, first, last;
-    } of[LISTS] = {[SHEETS] = {6, FILTER, COMPARE}, [QUESTIONS] = {2, FILTER, COMPARE}, [CODES] = {2, FILTER, COMPARE},
+    } of[LISTS] = {[SHEETS] = {6, FILTER, COMPARE}, [QUESTIONS] = {2, FILTER, COMPARE}, [CODES] = {4, FILTER, COMPARE},
                    [COMBINATIONS] = {2, FILTER, TEST}, [MARKS] = {8, FILTER, TEST}, [SUPPORTS] = {2, FILTER, CHOOSE},
                    [ROWS] = {2, WITHDRAW, WITHDRAW}};
     for (int which = 0; which < LISTS; which++)
@@ -209,7 +240,7 @@ static void numbers_2_to_6(void) {
     refused_with(SHEETS, NUMBERS(2, 3, 3, 0, 2, 2, 2, 2, 2), FILTER, COMPARE, 3, "width 0");
     refused_with(SHEETS, NUMBERS(2, 3, 3, 2, 2, 2, 2, 4092, 4092), FILTER, COMPARE, 4, "4,097 rows");
     refused_with(QUESTIONS, NUMBERS(0, 1, 1, 2, 2), FILTER, COMPARE, 5, "a question short");
-    refused_with(CODES, NUMBERS(1, 1, 1), FILTER, COMPARE, 5, "codes short");
+    refused_with(CODES, THE_CODES(1, 1, 1), FILTER, COMPARE, 5, "codes short");
     refused_with(QUESTIONS, NUMBERS(0, 1, 1, 64, 2, 0), FILTER, COMPARE, 6, "question 64");
     refused_with(QUESTIONS, NUMBERS(0, 1, 1, 1, 2, 0), FILTER, COMPARE, 6, "a question twice");
 }
@@ -302,7 +333,7 @@ static void no_list(void) {
 static void long_lists(void) {
     refused_with(SHEETS, repeated(300000, 1), FILTER, COMPARE, 2, "100,000 sheets");
     refused_with(QUESTIONS, repeated(100000, 1), FILTER, COMPARE, 5, "100,000 questions");
-    refused_with(CODES, repeated(100000, 1), FILTER, COMPARE, 5, "100,000 codes");
+    refused_with(CODES, one_code(100000, 1), FILTER, COMPARE, 5, "100,000 codes");
     refused_with(COMBINATIONS, repeated(100000, 1), FILTER, TEST, 8, "50,000 combinations");
     refused_with(ROWS, repeated(100000, 7), WITHDRAW, WITHDRAW, 13, "100,000 missing rows");
     leaves(book_a_with(ROWS, repeated(100000, 5)), WITHDRAW, counted(0, 64, 3, 1, 3), &without_5, "one row listed 100,000 times");
@@ -372,7 +403,7 @@ static void most_supports(void) {
     enum { ROWS_EACH = 32, TIMES = 256, ALL = TIMES * 2 * ROWS_EACH * 2 };
     request q = {FILTER, 2, 0, 0,
                  {[SHEETS] = NUMBERS(1, ROWS_EACH, ROWS_EACH, 1, ROWS_EACH, ROWS_EACH), [QUESTIONS] = NUMBERS(0, 0),
-                  [CODES] = repeated(2 * ROWS_EACH, 4), [COMBINATIONS] = new_list(2 * 2 * TIMES), [MARKS] = bytes(8, LIVING),
+                  [CODES] = one_code(2 * ROWS_EACH, 4), [COMBINATIONS] = new_list(2 * 2 * TIMES), [MARKS] = bytes(8, LIVING),
                   [SUPPORTS] = repeated(ALL + 1, 7), [COUNTS] = new_list(0), [ROWS] = new_list(0)},
                  BEHIND};
     for (size_t i = 0; i < TIMES; i++) put16(q.lists[COMBINATIONS], 2 * i + 1, 1);
@@ -388,6 +419,7 @@ static void most_supports(void) {
 int main(void) {
     good_calls();
     any_code();
+    wide_codes();
     odd_counts();
     numbers_2_to_6();
     numbers_7_to_14();

@@ -74,18 +74,18 @@ static void join(list lists[WRITTEN]) {
 /* The lists, in the order in which the independent program writes them. */
 static void read_lists(request *q) {
     static const int order[LISTS] = {SHEETS, QUESTIONS, CODES, COMBINATIONS, MARKS, SUPPORTS, COUNTS, ROWS};
-    for (int i = 0; i < LISTS; i++) q->lists[order[i]] = read_list(order[i] == MARKS ? 8 : 2);
+    for (int i = 0; i < LISTS; i++) q->lists[order[i]] = read_list(order[i] == MARKS ? 8 : order[i] == CODES ? 4 : 2);
 }
 
 /* Whether the call can be made: a record has room for one count. */
 static bool read_request(request *q, outcome *expected, uint64_t call) {
     if (call >= CALLS) exit(2);
     q->call = (int)call;
-    q->m = (uint16_t)number(), q->x = (uint16_t)number(), q->y = (uint16_t)number();
+    q->m = (uint16_t)number(), q->x = (uint16_t)number(), q->y = (uint32_t)number();
     size_t mark_bytes = 8 * number(), support_bytes = 2 * number();
     read_lists(q);
     if (call == COMPARE && q->lists[ROWS].bytes != 4) exit(2);
-    if (call == COMPARE) memcpy(&q->x, q->lists[ROWS].at, 2), memcpy(&q->y, (char *)q->lists[ROWS].at + 2, 2);
+    if (call == COMPARE) q->x = ((uint16_t *)q->lists[ROWS].at)[0], q->y = ((uint16_t *)q->lists[ROWS].at)[1];
     *expected = unchanged(q, read_answer(), mark_bytes, support_bytes);
     replace(expected->lists + MARKS, read_list(8)), replace(expected->lists + SUPPORTS, read_list(2));
     replace(expected->lists + COUNTS, read_list(2));

@@ -12,7 +12,7 @@ static const wakhvosi_sheet fresh_a[] = {{2, 3, 3}, {2, 2, 2}, {2, 2, 2}};
 
 static wakhvosi_sheet of_a[3];
 static const uint16_t round_about[] = {0, 1, 1, 2, 2, 0};
-static const uint16_t codes_of_a[] = {1, 1, 1, 2, 2, 2, 1, 5, 2, 6, 5, 1, 6, 1};
+static const uint32_t codes_of_a[] = {1, 1, 1, 2, 2, 2, 1, 5, 2, 6, 5, 1, 6, 1};
 static const uint16_t pairs[] = {0, 1, 0, 2, 1, 2};
 
 #define BOOK_A LIST(of_a), LIST(round_about), LIST(codes_of_a)
@@ -85,7 +85,8 @@ static void book_a(void) {
 /* P6 and P7. */
 static void triples(void) {
     wakhvosi_sheet relations[] = {{2, 2, 2}, {2, 2, 2}, {2, 2, 2}};
-    const uint16_t values[] = {0, 1, 1, 0, 0, 1, 1, 0, 0, 1, 1, 0}, triple[] = {0, 1, 2};
+    const uint32_t values[] = {0, 1, 1, 0, 0, 1, 1, 0, 0, 1, 1, 0};
+    const uint16_t triple[] = {0, 1, 2};
     uint64_t words[] = {63};
     uint16_t supports[40];
     uint64_t p6 =
@@ -99,7 +100,8 @@ static void triples(void) {
 /* P8. */
 static void empty_sheet(void) {
     wakhvosi_sheet relations[] = {{1, 1, 1}, {1, 0, 0}};
-    const uint16_t variables[] = {0, 0}, values[] = {4};
+    const uint16_t variables[] = {0, 0};
+    const uint32_t values[] = {4};
     uint64_t words[] = {1};
     uint64_t p8 = wakhvosi_filter_records(LIST(relations), LIST(variables), LIST(values), 2, NULL, 0, LIST(words), NULL, 0);
     say("P8", p8, words[0], LIST(relations));

@@ -22,7 +22,8 @@ bool same(list a, list b);
 /* What a call is lent, and how its lists lie. Choose's question and code, or compare's rows, are x and y. */
 typedef struct {
     int call;
-    uint16_t m, x, y;
+    uint16_t m, x;
+    uint32_t y;
     list lists[LISTS];
     side where;
 } request;

@@ -32,7 +32,9 @@ static size_t put(uint8_t *at, size_t i, unsigned x) {
 static unsigned get(const uint8_t *at, size_t i) { return at[2 * i] + 256u * at[2 * i + 1]; }
 
 static uint8_t sheets[WAKHVOSI_SHEET_BYTES * MOST_SHEETS], questions[2 * 9 * MOST_SHEETS], members[2 * MOST_MEMBERS];
-static uint8_t codes[2 * 9 * 5000], marks[1024], supports[1 << 20];
+static uint8_t codes[4 * 9 * 5000], marks[1024], supports[1 << 20];
+
+static void put_code(size_t i, uint32_t x) { put(codes, put(codes, 2 * i, x & 65535), x >> 16); }
 
 /* Filters the book, all rows living and counted, with marks and supports of the bytes that the header's functions name. */
 static uint64_t filter(const book *b) {
@@ -47,7 +49,7 @@ static uint64_t filter(const book *b) {
     size_t supports_bytes = wakhvosi_supports_bytes(sheets, 2 * s, b->m, members, 2 * b->members);
     memset(marks, 255, sizeof marks);
     memset(supports, 0, sizeof supports);
-    return wakhvosi_filter(sheets, 2 * s, questions, 2 * q, codes, 2 * c, b->m, members, 2 * b->members, marks,
+    return wakhvosi_filter(sheets, 2 * s, questions, 2 * q, codes, 4 * c, b->m, members, 2 * b->members, marks,
                            marks_bytes - b->marks_less, supports, supports_bytes - b->supports_less);
 }
 
@@ -133,42 +135,65 @@ static void most_bytes(void) {
 /* A dead row has WAKHVOSI_NO_SUPPORT m times; the counts and the answers of test and compare by their accessors. */
 static void answers(void) {
     book b = combined(2, 2, 2, 1);
-    put(codes, 3, 1); /* row 1 of sheet 1 fits no row of sheet 0 */
+    put_code(3, 1); /* row 1 of sheet 1 fits no row of sheet 0 */
     uint64_t answer = filter(&b);
     check(wakhvosi_kind(answer) == WAKHVOSI_SETTLED && wakhvosi_left(answer) == 3 && wakhvosi_deleted(answer) == 1, "a row falls");
     check(wakhvosi_sheet_live(sheets, TWO, 0) == 2 && wakhvosi_sheet_live(sheets, TWO, 1) == 1, "a count falls");
     check(get(supports, 6) == WAKHVOSI_NO_SUPPORT && get(supports, 7) == WAKHVOSI_NO_SUPPORT, "no support");
     check(get(supports, 4) == 0 && get(supports, 5) == 0, "a support");
-    uint64_t yes = wakhvosi_test(sheets, TWO, questions, 4, codes, 8, 2, members, 4, marks, 8);
+    uint64_t yes = wakhvosi_test(sheets, TWO, questions, 4, codes, 16, 2, members, 4, marks, 8);
     marks[0] |= 8;
-    uint64_t no = wakhvosi_test(sheets, TWO, questions, 4, codes, 8, 2, members, 4, marks, 8);
+    uint64_t no = wakhvosi_test(sheets, TWO, questions, 4, codes, 16, 2, members, 4, marks, 8);
     check(wakhvosi_kind(yes) == WAKHVOSI_YES && wakhvosi_refusal(yes) == 0, "test, yes");
     check(wakhvosi_kind(no) == WAKHVOSI_NO && wakhvosi_refusal(no) == 0, "test, no");
     const uint8_t first[] = {0, 0};
-    answer = wakhvosi_withdraw(sheets, TWO, questions, 4, codes, 8, 2, members, 4, marks, 8, supports, 16, first, sizeof first);
+    answer = wakhvosi_withdraw(sheets, TWO, questions, 4, codes, 16, 2, members, 4, marks, 8, supports, 16, first, sizeof first);
     check(wakhvosi_kind(answer) == WAKHVOSI_REFUSED && wakhvosi_refusal(answer) == 18, "a row more than counted");
     put(sheets, 5, 2);
-    uint64_t unasked = wakhvosi_compare(sheets, TWO, questions, 4, codes, 8, 0, 4);
-    uint64_t agree = wakhvosi_compare(sheets, TWO, questions, 4, codes, 8, 0, 2);
-    uint64_t differ = wakhvosi_compare(sheets, TWO, questions, 4, codes, 8, 0, 3);
+    uint64_t unasked = wakhvosi_compare(sheets, TWO, questions, 4, codes, 16, 0, 4);
+    uint64_t agree = wakhvosi_compare(sheets, TWO, questions, 4, codes, 16, 0, 2);
+    uint64_t differ = wakhvosi_compare(sheets, TWO, questions, 4, codes, 16, 0, 3);
     check(wakhvosi_kind(agree) == WAKHVOSI_AGREE && wakhvosi_subject(agree) == WAKHVOSI_NO_QUESTION, "compare, agree");
     check(wakhvosi_kind(differ) == WAKHVOSI_DIFFER && wakhvosi_subject(differ) == 0 && wakhvosi_refusal(differ) == 0, "compare, differ");
     check(wakhvosi_kind(unasked) == WAKHVOSI_REFUSED && wakhvosi_refusal(unasked) == 13, "compare, refused");
-    answer = wakhvosi_withdraw(sheets, TWO, questions, 4, codes, 8, 2, members, 4, marks, 8, supports, 16, first, sizeof first);
+    answer = wakhvosi_withdraw(sheets, TWO, questions, 4, codes, 16, 2, members, 4, marks, 8, supports, 16, first, sizeof first);
     check(wakhvosi_withdrawn(answer) == 1 && wakhvosi_left(answer) == 2 && wakhvosi_deleted(answer) == 1, "withdrawn");
-    answer = wakhvosi_choose(sheets, TWO, questions, 4, codes, 8, 2, members, 4, marks, 8, supports, 16, 0, 5);
+    answer = wakhvosi_choose(sheets, TWO, questions, 4, codes, 16, 2, members, 4, marks, 8, supports, 16, 0, 5);
     check(wakhvosi_kind(answer) == WAKHVOSI_EMPTIED && wakhvosi_subject(answer) == 0 && wakhvosi_withdrawn(answer) == 2, "emptied");
 }
 
 /* Row 1 of sheet 1 fits every row of sheet 0, and every choice. */
 static void any_code(void) {
     book b = combined(2, 2, 2, 1);
-    put(codes, 3, WAKHVOSI_ANY);
+    put_code(3, WAKHVOSI_ANY);
     check(settled(b) && wakhvosi_left(filter(&b)) == 4, "any fits");
-    uint64_t answer = wakhvosi_choose(sheets, TWO, questions, 4, codes, 8, 2, members, 4, marks, 8, supports, 16, 0, WAKHVOSI_ANY);
+    uint64_t answer = wakhvosi_choose(sheets, TWO, questions, 4, codes, 16, 2, members, 4, marks, 8, supports, 16, 0, WAKHVOSI_ANY);
     check(wakhvosi_left(answer) == 4 && wakhvosi_withdrawn(answer) == 0, "any chosen");
-    answer = wakhvosi_choose(sheets, TWO, questions, 4, codes, 8, 2, members, 4, marks, 8, supports, 16, 0, WAKHVOSI_ANY - 1);
+    answer = wakhvosi_choose(sheets, TWO, questions, 4, codes, 16, 2, members, 4, marks, 8, supports, 16, 0, WAKHVOSI_ANY - 1);
     check(wakhvosi_kind(answer) == WAKHVOSI_EMPTIED && wakhvosi_withdrawn(answer) == 3, "a choice that any alone fits");
+}
+
+/* 65,535 was any while codes had two bytes. */
+static void old_any_code(void) {
+    book b = combined(2, 2, 2, 1);
+    put_code(3, 65535);
+    check(settled(b) && wakhvosi_left(filter(&b)) == 3, "65,535 fits itself alone");
+}
+
+/* The four codes of a book, any among them, back to two bytes each and forth again. */
+static void moved_codes(void) {
+    uint8_t older[9] = {[8] = 7}, again[16];
+    combined(2, 2, 2, 1);
+    put_code(3, WAKHVOSI_ANY);
+    uint64_t back = wakhvosi_narrow(sheets, TWO, questions, 4, codes, 16, older, 8);
+    check(wakhvosi_kind(back) == WAKHVOSI_MOVED && wakhvosi_refusal(back) == 0 && older[8] == 7, "codes moved back");
+    check(older[6] + 256u * older[7] == WAKHVOSI_OLDER_ANY, "any moved back");
+    uint64_t forth = wakhvosi_widen(sheets, TWO, questions, 4, older, 8, again, 16);
+    check(wakhvosi_kind(forth) == WAKHVOSI_MOVED && !memcmp(codes, again, 16), "codes moved forth again");
+    check(wakhvosi_refusal(wakhvosi_widen(sheets, TWO, questions, 4, older, 8, again, 12)) == 24, "too short a list");
+    check(wakhvosi_refusal(wakhvosi_widen(sheets, TWO, questions, 4, older, 8, again, 15)) == 1, "a list cut within a code");
+    put_code(3, 65535);
+    check(wakhvosi_refusal(wakhvosi_narrow(sheets, TWO, questions, 4, codes, 16, older, 8)) == 23, "a code that has no place");
 }
 
 int main(void) {
@@ -177,6 +202,8 @@ int main(void) {
     most_bytes();
     answers();
     any_code();
+    old_any_code();
+    moved_codes();
     printf("%u passed, %u failed\n", passed, failed);
     return failed != 0;
 }

@@ -17,6 +17,6 @@ uint64_t answer_of(const request *q) {
     case WITHDRAW: return wakhvosi_withdraw(LENT, AT(ROWS));
     case CHOOSE: return wakhvosi_choose(LENT, q->x, q->y);
     case TEST: return wakhvosi_test(BOOK, q->m, AT(COMBINATIONS), AT(MARKS));
-    default: return wakhvosi_compare(BOOK, q->x, q->y);
+    default: return wakhvosi_compare(BOOK, q->x, (uint16_t)q->y);
     }
 }

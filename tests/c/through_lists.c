@@ -4,16 +4,16 @@
 const side last_side = BEFORE;
 const bool counts_in_records = false;
 
-#define BOOK_LISTS const uint16_t *, size_t, const uint16_t *, size_t, const uint16_t *, size_t
+#define BOOK_LISTS const uint16_t *, size_t, const uint16_t *, size_t, const uint32_t *, size_t
 #define CHANGED_LISTS BOOK_LISTS, uint16_t, const uint16_t *, size_t, uint64_t *, size_t, uint16_t *, size_t, uint16_t *, size_t
 void plain_filter(CHANGED_LISTS, uint16_t *);
 void plain_withdraw(CHANGED_LISTS, const uint16_t *, size_t, uint16_t *);
-void plain_choose(CHANGED_LISTS, const uint16_t *, uint16_t *);
+void plain_choose(CHANGED_LISTS, uint16_t, uint32_t, uint16_t *);
 uint32_t plain_test(BOOK_LISTS, uint16_t, const uint16_t *, size_t, const uint64_t *, size_t);
 uint32_t plain_compare(BOOK_LISTS, uint16_t, uint16_t);
 
 #define AT(i, type) (type *)q->lists[i].at, q->lists[i].bytes / sizeof(type)
-#define BOOK AT(SHEETS, uint16_t), AT(QUESTIONS, uint16_t), AT(CODES, uint16_t)
+#define BOOK AT(SHEETS, uint16_t), AT(QUESTIONS, uint16_t), AT(CODES, uint32_t)
 #define LENT BOOK, q->m, AT(COMBINATIONS, uint16_t), AT(MARKS, uint64_t), AT(SUPPORTS, uint16_t), AT(COUNTS, uint16_t)
 
 /* The answer's five numbers in one; the largest number where a kind or a subject has no room in it. */
@@ -24,26 +24,24 @@ static uint64_t packed(const uint16_t numbers[5]) {
     return answer;
 }
 
-/* The change calls write the five numbers to a list, and choose takes its question and code as a list. */
+/* The change calls write the five numbers to a list. */
 static uint64_t change(const request *q) {
     fenced numbers = fence((uint16_t[5]){9, 9, 9, 9, 9}, 10, q->where);
-    fenced choice = fence((uint16_t[2]){q->x, q->y}, 4, q->where);
-    only_read(choice);
     uint16_t *out = (uint16_t *)numbers.at;
     switch (q->call) {
     case FILTER: plain_filter(LENT, out); break;
     case WITHDRAW: plain_withdraw(LENT, AT(ROWS, uint16_t), out); break;
-    default: plain_choose(LENT, (uint16_t *)choice.at, out);
+    default: plain_choose(LENT, q->x, q->y, out);
     }
     uint64_t answer = packed(out);
-    unfence(numbers), unfence(choice);
+    unfence(numbers);
     return answer;
 }
 
 uint64_t answer_of(const request *q) {
     switch (q->call) {
     case TEST: return plain_test(BOOK, q->m, AT(COMBINATIONS, uint16_t), AT(MARKS, uint64_t));
-    case COMPARE: return plain_compare(BOOK, q->x, q->y);
+    case COMPARE: return plain_compare(BOOK, q->x, (uint16_t)q->y);
     default: return change(q);
     }
 }

@@ -6,7 +6,7 @@ const side last_side = BEFORE;
 const bool counts_in_records = true;
 
 #define AT(i, type) (type *)q->lists[i].at, q->lists[i].bytes / sizeof(type)
-#define BOOK AT(SHEETS, wakhvosi_sheet), AT(QUESTIONS, uint16_t), AT(CODES, uint16_t)
+#define BOOK AT(SHEETS, wakhvosi_sheet), AT(QUESTIONS, uint16_t), AT(CODES, uint32_t)
 #define LENT BOOK, q->m, AT(COMBINATIONS, uint16_t), AT(MARKS, uint64_t), AT(SUPPORTS, uint16_t)
 
 uint64_t answer_of(const request *q) {
@@ -15,6 +15,6 @@ uint64_t answer_of(const request *q) {
     case WITHDRAW: return wakhvosi_withdraw_records(LENT, AT(ROWS, uint16_t));
     case CHOOSE: return wakhvosi_choose_records(LENT, q->x, q->y);
     case TEST: return wakhvosi_test_records(BOOK, q->m, AT(COMBINATIONS, uint16_t), AT(MARKS, uint64_t));
-    default: return wakhvosi_compare_records(BOOK, q->x, q->y);
+    default: return wakhvosi_compare_records(BOOK, q->x, (uint16_t)q->y);
     }
 }

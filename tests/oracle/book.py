@@ -15,10 +15,12 @@ DIFFER, AGREE = 0, 1
 NO_SHEET = 64
 NO_QUESTION = 64
 DEAD = 65535
-ANY = 65535  # the code for "any"
+ANY = 2**32 - 1  # the code for "any"
+OLD_ANY = 2**16 - 1  # the same while codes had 16 bits; now a code like every other
 MOST_ROWS = 4096
 MOST_SUPPORTS = 32768
-MOST_BYTES = 65536
+MOST_BYTES = 32768
+OLD_MOST_BYTES = 65536  # of an older text
 
 
 @dataclass
@@ -387,21 +389,22 @@ def require(holds: bool) -> None:
         raise NotInForm
 
 
-def read_field(text: bytes) -> int:
-    require(re.fullmatch(rb"0|[1-9][0-9]{0,4}", text) is not None)
-    require(int(text) <= 65535)
+def read_field(text: bytes, top: int) -> int:
+    require(re.fullmatch(rb"0|[1-9][0-9]{0,9}", text) is not None)
+    require(int(text) <= top)
     return int(text)
 
 
-def read_line(lines: Iterator[bytes], count: int) -> list[int]:
+def read_line(lines: Iterator[bytes], count: int, top: int = 2**16 - 1) -> list[int]:
     """The next line's numbers; a missing line reads as one empty field, which is no number."""
-    fields = [read_field(text) for text in next(lines, b"").split(b",")]
+    fields = [read_field(text, top) for text in next(lines, b"").split(b",")]
     require(len(fields) == count)
     return fields
 
 
-def read_text(text: bytes) -> Request:
-    require(len(text) <= MOST_BYTES and text.endswith(b"\n"))
+def read_text(text: bytes, top: int = 2**32 - 1, most: int = MOST_BYTES) -> Request:
+    """The book of a text whose codes are at most `top`."""
+    require(len(text) <= most and text.endswith(b"\n"))
     lines = iter(text[:-1].split(b"\n"))
     sheets, m, combinations = read_line(lines, 3)
     require(1 <= sheets <= 64 and 2 <= m <= 4 and combinations <= 256)
@@ -412,7 +415,7 @@ def read_text(text: bytes) -> Request:
         require(1 <= width <= 8 and row_total(request) <= MOST_ROWS)
         request.questions += read_line(lines, width)
         for _ in range(rows):
-            request.codes += read_line(lines, width)
+            request.codes += read_line(lines, width, top)
     for _ in range(combinations):
         request.combinations += read_line(lines, m)
     require(next(lines, None) is None)
@@ -441,3 +444,52 @@ def listing(text: bytes) -> bytes:
     except NotInForm:
         lines = [[REFUSED, 1, 0, 0]]
     return b"".join(b",".join(b"%d" % number for number in line) + b"\n" for line in lines)
+
+
+def write_text(request: Request) -> bytes:
+    """The desk's text of lists that fit together; ranges and combinations may be at fault."""
+    combinations = read_combinations(request) if request.m else []
+    lines = [[len(request.sheets), request.m, len(combinations)]]
+    codes = iter(request.codes)
+    for (width, rows), questions in zip(request.sheets, read_questions(request)):
+        lines += [[width, rows], questions]
+        lines += [list(itertools.islice(codes, width)) for _ in range(rows)]
+    return b"".join(b",".join(b"%d" % number for number in line) + b"\n" for line in lines + combinations)
+
+
+def rewritten(text: bytes) -> Optional[bytes]:
+    """An older text, of 16-bit codes, in the form of now; none where it is not in the older form."""
+    try:
+        request = read_text(text, OLD_ANY, OLD_MOST_BYTES)
+    except NotInForm:
+        return None
+    return write_text(replace(request, codes=widened(request.codes)))
+
+
+# Moves
+
+
+def widened(codes: list[int]) -> list[int]:
+    return [ANY if code == OLD_ANY else code for code in codes]
+
+
+def narrowed(codes: list[int]) -> list[int]:
+    return [OLD_ANY if code == ANY else code for code in codes]
+
+
+Moved = tuple[tuple[int, int], list[int]]  # the answer, and the second list
+
+
+def move(request: Request, target: list[int], there: bool, whole: bool = True) -> Moved:
+    """A book to the new form, or back: 0 or 2 with the refusal number, and what the second list then holds."""
+    if not whole:
+        return (REFUSED, 1), list(target)
+    fault = next((number for number in (2, 3, 4, 5, 6) if FAULT_TESTS[number](request)), 0)
+    if not fault and not there and any(OLD_ANY <= code < ANY for code in request.codes):
+        fault = 23
+    if not fault and len(target) < len(request.codes):
+        fault = 24
+    if fault:
+        return (REFUSED, fault), list(target)
+    codes = (widened if there else narrowed)(request.codes)
+    return (0, 0), codes + target[len(codes) :]

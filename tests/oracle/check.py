@@ -256,8 +256,8 @@ def whole_supports() -> bool:
 
 
 def text_edges() -> bool:
-    """65,536 bytes, 4,096 rows, and number 12 where a text needs more than 32,768 supports."""
-    sizes = [book.listing(draw.text_of_length(length))[:5] for length in (65536, 65537)]
+    """32,768 bytes, 4,096 rows, and number 12 where a text needs more than 32,768 supports."""
+    sizes = [book.listing(draw.text_of_length(length))[:5] for length in (32768, 32769)]
     rows = [book.listing(draw.text_of_rows(total))[:5] for total in (4096, 4097)]
     needs = [draw.write_text(draw.write_network(draw.edge_supports(total), "filter")) for total in (64, 65)]
     refusals = [book.listing(text)[:5] for text in needs]
@@ -267,8 +267,9 @@ def text_edges() -> bool:
 def texts_not_in_form() -> bool:
     changed = [b"", b"\n", TEXT_A[:-1], TEXT_A + b"\n", b"\n" + TEXT_A, TEXT_A + b"0\n"]
     changed += [TEXT_A.replace(b"\n", b"\r\n"), TEXT_A.replace(b",", b", "), TEXT_A.replace(b",", b";")]
-    for field in (b"01", b"00", b"", b"-0", b"+1", b" 1", b"1 ", b"65536", b"1" * 5000, b"\xb2", b"1_0"):
+    for field in (b"01", b"00", b"", b"-0", b"+1", b" 1", b"1 ", b"4294967296", b"1" * 5000, b"\xb2", b"1_0"):
         changed.append(TEXT_A.replace(b"1,5\n", b"1," + field + b"\n"))
+    changed += [TEXT_A.replace(b"2,0\n", b"2,65536\n", 1), TEXT_A[:-4] + b"1,65536\n"]
     for line in b"0,2,0 65,2,3 3,1,3 3,5,3 3,2,257 3,2,2 3,2,4 2,2,3 3,2 3,2,3,0".split():
         changed.append(TEXT_A.replace(b"3,2,3", line, 1))
     for line in b"0,3 9,3 3,3 2,2 2,4 2,4093".split():
@@ -281,6 +282,61 @@ def texts_refused() -> bool:
     combinations = [book.listing(TEXT_A[:-4] + line) for line in (b"1,3\n", b"2,1\n", b"1,1\n")]
     apart = book.listing(TEXT_A.replace(b"2,0\n", b"3,4\n", 1))
     return questions + combinations + [apart] == [b"2,6,0,0\n"] * 2 + [b"2,9,0,0\n"] * 3 + [b"2,10,0,0\n"]
+
+
+# Moves
+
+
+def moves_by_hand() -> bool:
+    """65,535 and any; 23 before 24 and after 6; what is past the codes stays."""
+    old, new, wide = [7, 65534, 65535], [7, 65534, 4294967295], [7, 4294967294]
+
+    def column(codes: list[int], question: int = 0) -> Request:
+        return Request(sheets=[(1, len(codes))], questions=[question], codes=codes)
+
+    return [
+        book.move(column(old), [1, 2, 3, 4], True),
+        book.move(column(new), [1, 2, 3, 4], False),
+        book.move(column(old), [1], False),
+        book.move(column(wide), [1, 2], False),
+        book.move(column(old), [1, 2], True),
+        book.move(column(old, 64), [], False),
+    ] == [((0, 0), new + [4]), ((0, 0), old + [4]), ((2, 23), [1]), ((2, 23), [1, 2]), ((2, 24), [1, 2]), ((2, 6), [])]
+
+
+def moves_return() -> bool:
+    """A move that was done, and the move back: done too, and the same codes."""
+    done = [move for move in draw.moves(1, 400) if not book.move(move.request, move.target, move.there)[0][0]]
+    for there, request, target, _ in done:
+        _, moved = book.move(request, target, there)
+        back = replace(request, codes=moved[: len(request.codes)])
+        answer, again = book.move(back, [9] * (len(request.codes) + 1), not there)
+        if answer != (0, 0) or again != request.codes + [9]:
+            return False
+    return {move.there for move in done} == {True, False}
+
+
+def moved_means_the_same() -> bool:
+    """A widened book gets the replies that the old one gets where 65,535 is any."""
+    for request, _ in sample("any", 300) + sample("coded", 100):
+        old = [book.OLD_ANY if code == ANY else code % book.OLD_ANY for code in (*request.codes, request.code)]
+        request = replace(request, codes=old[:-1], code=old[-1])
+        with mock.patch.object(book, "fit", fit_old_any):
+            meant = book.reply(request)
+        new = book.widened(old)
+        if book.reply(replace(request, codes=new[:-1], code=new[-1])) != meant:
+            return False
+    return True
+
+
+def older_texts() -> bool:
+    """An older text that is rewritten lists what it listed, but for the numbers of any."""
+    texts = [text for text in draw.older_texts(2, 150) if book.rewritten(text) is not None]
+    same = [text for text in texts if book.rewritten(text) == text]
+    with mock.patch.object(book, "fit", fit_old_any):
+        before = [book.listing(text) for text in texts]
+    after = [book.listing(book.rewritten(text)).replace(b"4294967295", b"65535") for text in texts]
+    return before == after and 0 < len(same) < len(texts)
 
 
 # Laws that every draw keeps
@@ -864,6 +920,31 @@ def fit_nought(one: int, other: int) -> bool:
     return one == other or ANY in (one, other) or 0 in (one, other)
 
 
+def fit_old_any(one: int, other: int) -> bool:
+    return one == other or book.OLD_ANY in (one, other)
+
+
+def fit_either_any(one: int, other: int) -> bool:
+    return one == other or {ANY, book.OLD_ANY} & {one, other} != set()
+
+
+def fit_low_half_of_any(one: int, other: int) -> bool:
+    return one == other or book.OLD_ANY in (one % 2**16, other % 2**16)
+
+
+def fit_in_low_halves(one: int, other: int) -> bool:
+    return (one - other) % 2**16 == 0 or ANY in (one, other)
+
+
+def fit_in_high_halves(one: int, other: int) -> bool:
+    return one // 2**16 == other // 2**16 or ANY in (one, other)
+
+
+def struck_by_low_half(whole: Book, request: Request) -> set[int]:
+    """Chooses the low half of the code."""
+    return all_struck(whole, replace(request, code=request.code % 2**16))
+
+
 def struck_with_any(whole: Book, request: Request) -> set[int]:
     """A choice strikes rows with any too, and choosing any strikes all others."""
     if request.call != "choose":
@@ -1066,6 +1147,16 @@ ANY_VARIANTS: list[tuple[str, Callable]] = [
 ]
 
 
+CODED_VARIANTS: list[tuple[str, Callable]] = [
+    ("fit", fit_old_any),
+    ("fit", fit_either_any),
+    ("fit", fit_low_half_of_any),
+    ("fit", fit_in_low_halves),
+    ("fit", fit_in_high_halves),
+    ("struck_rows", struck_by_low_half),
+]
+
+
 def told_apart(place: str, variant: object, drawn: Callable[[], Replied], least: int) -> bool:
     """Whether so many of the drawn requests get another answer, other marks or other counts; supports are left out."""
     replied = drawn()
@@ -1099,8 +1190,8 @@ def count_variants() -> list[Check]:
 
 
 def of_many_pairs() -> Replied:
-    """Changes with all of the 1,024 pairs, by which rows fall and rows stay; first the last, which tells most variants apart."""
-    drawn = reversed(sample("full", 11))
+    """Changes with all of the 1,024 pairs, by which rows fall and rows stay: some that together tell all variants apart."""
+    drawn = [sample("full", 16)[place] for place in (9, 14, 15)]
     return [(asked, reply) for asked, reply in drawn if f"1,024 pairs, {asked.call}" in reach.reached(asked, reply)]
 
 
@@ -1119,7 +1210,7 @@ def checks() -> list[Check]:
     plain = [p1, p2, p3, p4, p5, p6, p7, p8, p9, input_a, test_and_compare, lowest_clash, spare_and_missing_words]
     plain += [any_is_no_chain, any_compared, any_chosen, counts_by_hand]
     plain += [choice_edge, book_number_edge, faults_not_used, list_edges, whole_supports]
-    plain += [text_edges, texts_not_in_form, texts_refused]
+    plain += [text_edges, texts_not_in_form, texts_refused, moves_by_hand, moves_return, moved_means_the_same, older_texts]
     plain += [counts_add_up, old_counts_refused, filtering_repeats, spare_stays, refusals_change_nothing, largest_by_all_subsets]
     plain += [no_order_lost, connected_by_spreading, listing_as_filter, clash_unless_agreeing]
     plain += [supports_by_orders, choices_leave_any, any_keeps_more, only_tightens, all_connected_tighten]
@@ -1133,6 +1224,8 @@ def checks() -> list[Check]:
     named += [(variant.__name__, functools.partial(told_apart, place, variant, few, 3)) for place, variant in VARIANTS]
     any_too = functools.partial(sample, "any", 300)
     named += [(variant.__name__, functools.partial(told_apart, place, variant, any_too, 3)) for place, variant in ANY_VARIANTS]
+    coded = functools.partial(sample, "coded", 300)
+    named += [(variant.__name__, functools.partial(told_apart, place, variant, coded, 3)) for place, variant in CODED_VARIANTS]
     several_words = functools.partial(sample, "alike", 60)
     for law in (over_bigger, over_all_connected):
         named.append((f"chain_of_rows, {law.__name__}", functools.partial(breaks, law, "first_support", chain_of_rows)))

@@ -7,7 +7,7 @@ from dataclasses import replace
 from typing import Callable, NamedTuple, Optional
 
 import book
-from book import ANY, Request, Row
+from book import ANY, OLD_ANY, Request, Row, write_text
 
 Page = tuple[list[int], list[list[int]]]  # a sheet: its questions and its rows
 
@@ -15,12 +15,13 @@ CALLS = ["filter", "withdraw", "choose", "test", "compare"]
 CHANGES = ["filter", "withdraw", "choose"]
 EDGE_QUESTIONS = (0, 1, 2, 31, 32, 62, 63)
 TOP = ANY - 1  # the highest code that fits itself alone
-ALPHABETS = ((0, 1), (0, 1), (0, 1, 2), (0, TOP), (1, 256, 257))
+HALF = 2**16
+ALPHABETS = ((0, 1), (0, 1), (0, 1, 2), (0, TOP), (1, 256, 257), (0, OLD_ANY), (1, HALF, HALF + 1))
 LIKELY_BYTES = b"0123456789,,\n\n\r -+.\t\0\x0b\xff\xb2"
-LIKELY_FIELDS = b"0 1 5 9 63 64 65 256 257 4096 4097 65535 65536 99999".split()
+LIKELY_FIELDS = b"0 1 5 9 63 64 65 256 257 4096 4097 65535 65536 99999 4294967294 4294967295 4294967296 9999999999".split()
 BAD_QUESTIONS = (64, 65, 127, 128, 256, 319, 65535)
-# The library sorts codes by their remainder by 17; the other numbers are such as a library might take.
-MODULI = (17, 17, 17, 16, 64, 256, 1000)
+# Numbers by whose remainder, or whose quotient, a library might sort codes.
+MODULI = (17, 17, 17, 16, 64, 256, 1000, HALF, HALF, 2**24)
 
 
 class Network(NamedTuple):
@@ -356,6 +357,22 @@ def other_codes(rng: random.Random, network: Network) -> Network:
     return recoded(network, rng.choice((own, rng.sample(range(ANY), len(own)), list(range(ANY - len(own), ANY)))))
 
 
+def wide_codes(rng: random.Random, count: int) -> list[int]:
+    """So many codes: about 65,535, with one low half, with one high half, anywhere, or multiples of 2^24."""
+    low, high = rng.choice((0, OLD_ANY, rng.randrange(HALF))), rng.randrange(1, HALF - 1)
+    first = OLD_ANY - rng.randrange(count + 1)
+    others = [range(low, ANY, HALF), range(HALF * high, HALF * (high + 1)), range(ANY), range(0, ANY, 2**24)]
+    return list(range(first, first + count)) if chance(rng, 20) else rng.sample(rng.choice(others), count)
+
+
+def coded_network(rng: random.Random) -> Network:
+    """A network with codes of 32 bits, often with any."""
+    kinds = [small_network] * 8 + [ring_network] * 4 + [clashing_network] * 2 + [loose_network, tall_network]
+    network = rng.choice(kinds)(rng)
+    network = recoded(network, wide_codes(rng, len(own_codes(network))))
+    return with_any(rng, network) if chance(rng, 40) else network
+
+
 def far_network(rng: random.Random) -> Network:
     """Every row of sheet 0 fits all rows of sheet 1. Only one of these has a row of sheet 2 that fits both, often by any, and it may
     stand behind many others, which a row with any on sheet 0 keeps."""
@@ -460,8 +477,10 @@ def give_arguments(rng: random.Random, request: Request) -> None:
     if request.call == "choose":
         asked = request.questions if request.questions and chance(rng, 90) else range(64)
         request.question = rng.choice(asked)
-        given = request.codes if request.codes and chance(rng, 85) else (0, 1, TOP, ANY)
+        given = request.codes if request.codes and chance(rng, 85) else (0, 1, OLD_ANY, TOP, ANY)
         request.code = rng.choice(given)
+        if request.code != ANY and chance(rng, 10):
+            request.code = (request.code + rng.choice((HALF, 2**31))) % ANY
 
 
 def lend(rng: random.Random, network: Network, call: str) -> Request:
@@ -768,6 +787,7 @@ SIZES: dict[str, Callable[[random.Random, str], Request]] = {
     "alike": request_on(alike_network),
     "clashing": request_on(clashing_network),
     "any": request_on(any_network),
+    "coded": request_on(coded_network),
     "crowded": request_on(crowded_network),
     "full": request_on(full_network),
     "thin": request_on(thin_network),
@@ -819,6 +839,7 @@ LIST_SIZES: dict[str, Callable[[random.Random], Network]] = {
     "usual": usual_network,
     "crowded": crowded_network,
     "any": any_network,
+    "coded": coded_network,
 }
 
 
@@ -840,22 +861,60 @@ def lists_of_calls(seed: int, count: int, size: str = "usual") -> list[tuple[Req
     return [list_of_calls(rng, LIST_SIZES[size](rng)) for _ in range(count)]
 
 
+# Moves between the old form and the new one
+
+
+class Move(NamedTuple):
+    there: bool  # to the new form
+    request: Request
+    target: list[int]
+    cut: list[int]  # so many bytes are missing at the end of the sheets, the questions, the codes and the target
+
+
+def book_to_move(rng: random.Random) -> Request:
+    """Of any kind; at times with faults 2 to 6, and at times with as many codes as a book can have."""
+    if chance(rng, 1):
+        return lend(rng, rng.choice((edge_rows(4096), Network([(list(range(8)), [[1] * 8] * 4096)], 2, []))), "filter")
+    if chance(rng, 35):
+        return request_with_faults(rng, "filter", rng.sample((2, 3, 4, 5, 6), rng.choice((1, 1, 2))))
+    return lend(rng, rng.choice((small_network, coded_network, any_network))(rng), "filter")
+
+
+def recode(rng: random.Random, request: Request, there: bool) -> None:
+    """Codes of the form that is left; on the way back at times one or two for which the old form has no place."""
+    own = OLD_ANY if there else ANY
+    request.codes = [own if code == ANY or chance(rng, 5) else code % OLD_ANY for code in request.codes]
+    if request.codes and not there and chance(rng, 40):
+        for _ in range(rng.choice((1, 1, 2))):
+            wide = rng.choice((OLD_ANY, HALF, TOP, HALF + OLD_ANY, rng.randint(OLD_ANY, TOP)))
+            request.codes[rng.choice((0, -1, rng.randrange(len(request.codes))))] = wide
+
+
+def draw_move(rng: random.Random) -> Move:
+    there, request = chance(rng, 50), book_to_move(rng)
+    recode(rng, request, there)
+    needed = len(request.codes)
+    room = rng.choice((needed, needed, needed + 1, needed + rng.randrange(99), max(needed - 1, 0), 0, rng.randint(0, needed)))
+    target = [rng.randrange(2**32 if there else HALF) for _ in range(room)]
+    cut, units = [0] * 4, (6, 2, 2 if there else 4, 4 if there else 2)
+    lists = (request.sheets, request.questions, request.codes, target)
+    if chance(rng, 12):
+        place = rng.choice([place for place in range(4) if lists[place]] or [0])
+        cut[place] = rng.randrange(1, units[place]) if lists[place] else 0
+    return Move(there, request, target, cut)
+
+
+def moves(seed: int, count: int) -> list[Move]:
+    rng = random.Random(seed)
+    return [draw_move(rng) for _ in range(count)]
+
+
 # Texts for the listing program
 
 
-def write_text(request: Request) -> bytes:
-    """The desk's text of lists that fit together; ranges and combinations may be at fault."""
-    combinations = book.read_combinations(request) if request.m else []
-    lines = [[len(request.sheets), request.m, len(combinations)]]
-    codes = iter(request.codes)
-    for (width, rows), questions in zip(request.sheets, book.read_questions(request)):
-        lines += [[width, rows], questions]
-        lines += [list(itertools.islice(codes, width)) for _ in range(rows)]
-    return b"".join(b",".join(b"%d" % number for number in line) + b"\n" for line in lines + combinations)
-
-
 def good_text(rng: random.Random) -> bytes:
-    return write_text(write_network(usual_network(rng), "filter"))
+    network = coded_network(rng) if chance(rng, 30) else usual_network(rng)
+    return write_text(write_network(network, "filter"))
 
 
 def refused_text(rng: random.Random) -> bytes:
@@ -932,11 +991,11 @@ def change_lines(rng: random.Random, text: bytes) -> bytes:
 
 
 def text_of_length(length: int) -> bytes:
-    """A faultless text of exactly so many bytes, about 32,100 to 96,000: one sheet, width 8, 2,000 rows."""
-    request = Request(sheets=[(8, 2000)], questions=list(range(8)), codes=[1] * 16000)
+    """A faultless text of exactly so many bytes, about 16,100 to 80,000: one sheet, width 8, 1,000 rows."""
+    request = Request(sheets=[(8, 1000)], questions=list(range(8)), codes=[1] * 8000)
     further_digits = length - len(write_text(request))
-    for place in range(16000):
-        digits = min(4, further_digits)
+    for place in range(8000):
+        digits = min(8, further_digits)
         request.codes[place] = 10**digits
         further_digits -= digits
     return write_text(request)
@@ -948,7 +1007,7 @@ def text_of_rows(total: int) -> bytes:
 
 def large_text(rng: random.Random) -> bytes:
     if chance(rng, 60):
-        return text_of_length(rng.choice((65535, 65536, 65537, 70000)))
+        return text_of_length(rng.choice((32767, 32768, 32769, 40000, 65536)))
     return text_of_rows(rng.choice((4095, 4096, 4097)))
 
 
@@ -967,3 +1026,21 @@ def draw_text(rng: random.Random) -> bytes:
 def texts(seed: int, count: int) -> list[bytes]:
     rng = random.Random(seed)
     return [draw_text(rng) for _ in range(count)]
+
+
+def draw_older_text(rng: random.Random) -> bytes:
+    """A text of 16-bit codes, often with 65,535 among them and in other fields, or one changed as draw_text does."""
+    network = network_to_damage(rng) if chance(rng, 20) else usual_network(rng)
+    request = write_network(network, "filter")
+    request.codes = [OLD_ANY if code == ANY or chance(rng, 5) else code % HALF for code in request.codes]
+    if request.questions and chance(rng, 10):
+        request.questions[rng.randrange(len(request.questions))] = OLD_ANY
+    if request.combinations and chance(rng, 10):
+        request.combinations[rng.randrange(len(request.combinations))] = OLD_ANY
+    text = write_text(request)
+    return text if chance(rng, 70) else rng.choice((change_bytes, change_field, change_lines))(rng, text)
+
+
+def older_texts(seed: int, count: int) -> list[bytes]:
+    rng = random.Random(seed)
+    return [draw_older_text(rng) for _ in range(count)]

@@ -100,6 +100,25 @@ def print_lists(arguments: argparse.Namespace) -> None:
         )
 
 
+def print_moves(arguments: argparse.Namespace) -> None:
+    """Of each move: whether it goes to the new form; how many bytes each list is short of; the lists; the answer; the target after."""
+    refused: set[int] = set()
+    for move in draw.moves(arguments.seed, arguments.count):
+        request = move.request
+        answer, after = book.move(request, move.target, move.there, not any(move.cut))
+        refused.add(answer[1])
+        if not arguments.plain:
+            print_line({"there": move.there, "request": vars(request), "target": move.target, "cut": move.cut, "answer": answer, "after": after})
+            continue
+        records = [number for (width, rows) in request.sheets for number in (width, rows, rows // 2)]
+        numbers = [int(move.there), *move.cut]
+        for entries in (records, request.questions, request.codes, move.target):
+            numbers += counted(entries)
+        print_numbers([*numbers, *answer, *counted(after)])
+    if refused != {0, 1, 2, 3, 4, 5, 6, 23, 24}:
+        sys.exit(f"moves are refused with {sorted(refused)}")
+
+
 def write_texts(arguments: argparse.Namespace) -> None:
     arguments.into.mkdir(parents=True, exist_ok=True)
     for place, text in enumerate(draw.texts(arguments.seed, arguments.count)):
@@ -117,7 +136,7 @@ def call_names(text: str) -> list[str]:
 def read_arguments() -> argparse.Namespace:
     parser = argparse.ArgumentParser(description=__doc__)
     commands = parser.add_subparsers(dest="command", required=True)
-    for name in ("requests", "lists", "texts"):
+    for name in ("requests", "lists", "texts", "moves"):
         command = commands.add_parser(name)
         command.add_argument("--seed", type=int, required=True)
         command.add_argument("--count", type=int, required=True)
@@ -125,7 +144,7 @@ def read_arguments() -> argparse.Namespace:
     commands.choices["requests"].add_argument("--size", choices=sorted(draw.SIZES), default="mixed")
     commands.choices["requests"].add_argument("--reach", action="store_true", help="fail unless the size does its part")
     commands.choices["lists"].add_argument("--size", choices=sorted(draw.LIST_SIZES), default="usual")
-    for name in ("requests", "lists"):
+    for name in ("requests", "lists", "moves"):
         commands.choices[name].add_argument("--plain", action="store_true", help="lines of numbers, not JSON")
     commands.choices["texts"].add_argument("--into", type=Path, required=True)
     commands.add_parser("check")
@@ -136,7 +155,7 @@ def main() -> int:
     arguments = read_arguments()
     if arguments.command == "check":
         return 1 if check.run() else 0
-    {"requests": print_requests, "lists": print_lists, "texts": write_texts}[arguments.command](arguments)
+    {"requests": print_requests, "lists": print_lists, "texts": write_texts, "moves": print_moves}[arguments.command](arguments)
     return 0
 
 

@@ -2,10 +2,10 @@
 
 import itertools
 from dataclasses import replace
-from typing import Iterator
+from typing import Callable, Iterator
 
 import book
-from book import ANY, Book, Combination, Reply, Request, Row
+from book import ANY, OLD_ANY, Book, Combination, Reply, Request, Row
 
 BUCKETS = 17  # codes with one remainder by this number are alike to an index of so many buckets
 
@@ -129,7 +129,7 @@ def any_in_book(request: Request) -> Iterator[str]:
         if ANY in codes:
             yield "any, asked by several sheets" if len(asking) > 1 else "any, asked by one sheet"
         if {ANY, ANY - 1} <= codes:
-            yield "any beside 65,534"
+            yield "any beside the topmost code"
 
 
 def codes_beside_any(request: Request) -> str:
@@ -222,6 +222,31 @@ def of_any(request: Request, reply: Reply) -> Iterator[str]:
         yield from any_in_change(request, reply)
 
 
+# Codes of 32 bits
+
+MISREADINGS = {
+    "by low halves": lambda code: code % 2**16,
+    "by high halves": lambda code: code // 2**16,
+    "with 65,535 as any": lambda code: ANY if code == OLD_ANY else code,
+}
+
+
+def misread(request: Request, reading: Callable[[int], int]) -> Request:
+    codes = [code if code == ANY else reading(code) for code in (*request.codes, request.code)]
+    return replace(request, codes=codes[:-1], code=codes[-1])
+
+
+def of_wide_codes(request: Request, reply: Reply) -> Iterator[str]:
+    """Of an accepted request: which misreadings of its codes get another answer or other marks, and what is chosen."""
+    for name, reading in MISREADINGS.items():
+        if book.reply(misread(request, reading))[:2] != reply[:2]:
+            yield f"other {name}, {request.call}"
+    if {OLD_ANY, ANY} <= set(request.codes):
+        yield "65,535 beside any"
+    if request.call == "choose" and request.code != ANY and request.question in request.questions:
+        yield "65,535 chosen" if request.code == OLD_ANY else "more chosen" if request.code > OLD_ANY else "less chosen"
+
+
 def reached(request: Request, reply: Reply) -> Iterator[str]:
     yield from of_untrue_counts(request, reply)
     if request.call not in book.ASKING and reply[0][0] != book.REFUSED:
@@ -230,6 +255,8 @@ def reached(request: Request, reply: Reply) -> Iterator[str]:
         yield from compared(request, reply)
     if ANY in request.codes and reply[0][0] != book.REFUSED:
         yield from of_any(request, reply)
+    if max(request.codes, default=0) >= OLD_ANY and reply[0][0] != book.REFUSED:
+        yield from of_wide_codes(request, reply)
     if not works(request, reply):
         return
     combinations = {tuple(combination) for combination in book.read_combinations(request)}
@@ -256,8 +283,11 @@ ANY_CALLS = {f"any decides, {call}, m = {m}" for call in ("filter", "withdraw", 
 ANY_CALLS |= {"any decides, test 1", "any decides, compare 0", "any decides, compare 1", "a clash beside any"}
 ANY_CALLS |= {"any chosen", "a code chosen beside any", "a chain through any, m = 3", "a chain through any, m = 4"}
 ANY_CODES = {"any decides beside low codes", "any decides beside topmost codes", "any decides beside scattered codes"}
-ANY_CODES |= {"any beside 65,534", "any decides in several words"} | labels(ANY_SHARES, "per cent any")
+ANY_CODES |= {"any beside the topmost code", "any decides in several words"} | labels(ANY_SHARES, "per cent any")
 ANY_LISTS = {"any chosen", "a code chosen beside any"} | {label for label in ANY_CALLS if label.startswith("any decides, choose")}
+
+CODED = {f"other {name}, {call}" for name in MISREADINGS for call in ("filter", "withdraw", "choose", "test", "compare")}
+CODED |= {"65,535 beside any", "65,535 chosen", "more chosen"}
 
 PLACES = ("first", "middle", "last")
 UNTRUE = {f"18, one too {how}, {where} sheet" for how in ("many", "few") for where in PLACES}
@@ -277,4 +307,5 @@ WANTED: dict[str, set[str]] = {
     | {f"several clashes, {one} and {other}" for one in ORDERS for other in ORDERS},
     "alike": {"codes alike in several words", "codes alike in a sheet of several words", "a count above 255 changes"},
     "any": ANY_PLACES | ANY_CALLS | ANY_CODES,
+    "coded": CODED,
 }
