@@ -17,7 +17,6 @@ use Rattle.narrowing.specs.Narrows.{stays, KeptIds}
 use Rattle.narrowing.specs.Gathers.{Gathers}
 use Rattle.narrowing.proofs.Words.{stays-before, stays-behind}
 use Rattle.spreading.specs.Spread.{Spread}
-use Rattle.spreading.specs.Fresh.{GathersFrom}
 
 module _ (N : Network) (r s : ℕ) where
   -- what agrees with the fresh tuples of relation r below id g is gathered
@@ -53,10 +52,10 @@ module _ (N : Network) (s start end : ℕ) (words sum after : List ℕ) (es : st
   pub kept-outside : (g : ℕ) → (g < firstId N s) ⊎ (firstId N s + size N s ≤ g) → isLive after g ≡ isLive words g
   kept-outside h o = kept h ∙ ap (λ (x : Bool). isLive words h && x) (⊎-elim (λ l. stays-before (rowBit sum 0) start end h (omega arith)) (λ l. stays-behind (rowBit sum 0) start end h (omega arith)) o) ∙ and-true (isLive words h)
 
-  pub spread-kept : (r : ℕ) (before : List ℕ) → GathersFrom N r s words words before sum → Spread N r s words after
-  spread-kept r before G =
+  pub spread-kept : (r : ℕ) → ((x z : ℕ) → x < size N r → z < size N s → agree N (firstId N r + x) (firstId N s + z) ≡ true → isLive words (firstId N r + x) ≡ true → isLive words (firstId N s + z) ≡ true → isLive sum (firstId N s + z) ≡ true) → Spread N r s words after
+  spread-kept r adds =
       record {
         inside = kept-inside;
         outside = kept-outside;
-        keeps = λ x z hx hz a lx lz. kept-both start end words sum after kept (firstId N s + z) lz (G .adds x z hx hz a lx lz);
+        keeps = λ x z hx hz a lx lz. kept-both start end words sum after kept (firstId N s + z) lz (adds x z hx hz a lx lz);
       }

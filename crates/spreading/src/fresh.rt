@@ -5,10 +5,9 @@ ghost use Prim.Native.Nat.{_<_};
 ghost use lib.ListN.{length};
 ghost use Rattle.layout.specs.Loan.{entry, exit};
 ghost use Rattle.layout.specs.Setting.{lists, networkIn};
-ghost use Rattle.narrowing.specs.Narrows.{Long};
-ghost use Rattle.spreading.specs.Spread.{Counted, Spreadable, SpreadsMembers};
-ghost use Rattle.spreading.specs.Fresh.{GathersOthers, Meets};
-use super::gather_from;
+ghost use Rattle.narrowing.specs.Narrows.{Long, Searchable};
+ghost use Rattle.spreading.specs.Spread.{Two, Counted, Spreadable, SpreadsMembers};
+ghost use Rattle.spreading.specs.Fresh.{GathersFrom, GathersOthers, Meets};
 use super::steps::live_count;
 use layout::Starts;
 use layout::tuple_start;
@@ -16,8 +15,44 @@ use live::Words;
 use live::next;
 use model::MAX_TUPLES;
 use model::Value;
+use narrowing::gather::gather;
 use narrowing::keep;
 use value_index::Index;
+
+// The live tuples of relation s that may agree with a fresh one of relation r are live in `sum` too.
+fn gather_from(
+    variables: &[u16],
+    values: &[Value],
+    starts: &Starts,
+    index: &Index,
+    fresh: &Words,
+    words: &Words,
+    sum: &mut Words,
+    r: u16,
+    s: u16,
+)
+    requires { ⌜ Long (now fresh) × (Long (now words) × Long (now sum)) ⌝ }
+    requires { ⌜ Searchable (lists now variables values starts) (now index) × Two r s ⌝ }
+    ensures { λ _. ⌜ GathersFrom (networkIn (lists entry variables values starts)) r s (entry fresh) (entry words) (entry sum) (exit sum) ⌝ }
+{
+    let first = tuple_start(starts, r);
+    let end = tuple_start(starts, r + 1);
+    let mut g = next(fresh, first, end);
+    while g < end {
+        gather(
+            variables,
+            values,
+            starts,
+            index,
+            words,
+            sum,
+            r,
+            g - first,
+            s,
+        );
+        g = next(fresh, g + 1, end);
+    }
+}
 
 // The live tuples of the member at j that may agree with a fresh one of another member, not that at `place`, are live in `sum` too.
 fn gather_others(

@@ -4,7 +4,6 @@ ghost use Rattle.layout.specs.Loan.{entry, exit};
 ghost use Rattle.layout.specs.Setting.{lists, networkIn};
 ghost use Rattle.narrowing.specs.Narrows.{Long, Searchable};
 ghost use Rattle.spreading.specs.Spread.{Two, Spreads, Spreadable, SpreadsMembers};
-ghost use Rattle.spreading.specs.Fresh.{GathersFrom};
 use layout::Starts;
 use layout::tuple_start;
 use live::WORDS;
@@ -18,41 +17,6 @@ use value_index::Index;
 
 pub mod steps; // which members are narrowed through which
 pub mod fresh; // members narrowed through tuples of which every support has one
-
-// The live tuples of relation s that may agree with one of relation r that is live in `fresh` are live in `sum` too.
-fn gather_from(
-    variables: &[u16],
-    values: &[Value],
-    starts: &Starts,
-    index: &Index,
-    fresh: &Words,
-    words: &Words,
-    sum: &mut Words,
-    r: u16,
-    s: u16,
-)
-    requires { ⌜ Long (now fresh) × (Long (now words) × Long (now sum)) ⌝ }
-    requires { ⌜ Searchable (lists now variables values starts) (now index) × Two r s ⌝ }
-    ensures { λ _. ⌜ GathersFrom (networkIn (lists entry variables values starts)) r s (entry fresh) (entry words) (entry sum) (exit sum) ⌝ }
-{
-    let first = tuple_start(starts, r);
-    let end = tuple_start(starts, r + 1);
-    let mut g = next(fresh, first, end);
-    while g < end {
-        gather(
-            variables,
-            values,
-            starts,
-            index,
-            words,
-            sum,
-            r,
-            g - first,
-            s,
-        );
-        g = next(fresh, g + 1, end);
-    }
-}
 
 // Relation s's ids narrowed to those that may agree with a live tuple of relation r, if those are not more than the limit. False where none
 // of s's is live any more.
@@ -75,17 +39,21 @@ pub fn spread(
         return true;
     }
     let mut sum = [0u64; WORDS];
-    gather_from(
-        variables,
-        values,
-        starts,
-        index,
-        words,
-        words,
-        &mut sum,
-        r,
-        s,
-    );
+    let mut g = next(words, first, end);
+    while g < end {
+        gather(
+            variables,
+            values,
+            starts,
+            index,
+            words,
+            &mut sum,
+            r,
+            g - first,
+            s,
+        );
+        g = next(words, g + 1, end);
+    }
     let from = tuple_start(starts, s);
     let to = tuple_start(starts, s + 1);
     keep(&sum, words, 0, from, to);

@@ -14,8 +14,8 @@ use Rattle.model.proofs.LiveWords.{nextLive-first}
 use Rattle.layout.specs.Setting.{networkIn}
 use Rattle.layout.proofs.SoundStarts.{tuple-start, tuple-end, ids-few}
 use Rattle.spreading.proofs.Relations.{Gathered, gathered-more}
-use Rattle.spreading.proofs.gather_from.Statement.{statement}
-use Rattle.spreading.proofs.gather_from.Tie as tie
+use Rattle.spreading.proofs.fresh.gather_from.Statement.{statement}
+use Rattle.spreading.proofs.fresh.gather_from.Tie as tie
 
 abbrev Inv-loop : tie.InvT-loop
 Inv-loop variables values starts index fresh words sum₀ r s first end g₀ sum g =
