@@ -16,7 +16,7 @@ use Rattle.model.specs.Lists.{from, all, any, pairwise, elem, select, ke
 use Rattle.model.specs.Network.{Network, size, total, firstId, relationOf, scopeOf, valuesAt, tupleOf}
 use Rattle.model.specs.Agreement.{Cell, isAny, fit, cells, clash, clashes, firstClashing, agreeing, under, cellsOf, firstClash, agree, clashNumber}
 use Rattle.model.specs.Fault.{different, properScope}
-use Rattle.model.proofs.Bools.{and-left, and-right, or-left, or-right, iff-eq, not-both, false-intro}
+use Rattle.model.proofs.Bools.{and-left, and-right, and-intro, or-left, or-right, iff-eq, not-both, false-intro}
 use Rattle.model.proofs.Lists.{here, all-at, all-getD, any-at, any-intro, select-mem, mem-select, getD-mem, mem-elem, eqb-sym, mem-from, isNone-none, least-mem, least-none, none-least}
 use Rattle.model.proofs.Network.{ids-relationOf, relationOf-at, indexOf-at}
 use Rattle.model.proofs.Fault.{different-unique, Faultless}
@@ -109,6 +109,12 @@ module _ (xs ys : List Cell) where
 -- the cell at place k of a scope and its values
 abbrev pub cellAt : List ℕ → List ℕ → ℕ → Cell
 cellAt xs vs k = (getD xs k 0, getD vs k 0)
+
+-- what holds of all variables holds of those of the cells
+pub cells-all : (p : ℕ → Bool) (xs vs : List ℕ) → all p xs ≡ true → all (λ (c : Cell). p (c .0)) (cells xs vs) ≡ true
+cells-all p [] vs e = refl
+cells-all p (x ∷ xs) [] e = refl
+cells-all p (x ∷ xs) (v ∷ vs) e = and-intro (and-left (p x) (all p xs) e) (cells-all p xs vs (and-right (p x) (all p xs) e))
 
 -- it is one of the cells
 pub mem-cells : (xs vs : List ℕ) (k : ℕ) → length xs ≡ length vs → k < length xs → List·Memᴰ (cellAt xs vs k) (cells xs vs)

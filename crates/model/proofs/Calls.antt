@@ -7,7 +7,7 @@ use mathlib.Core.Logic.{_⊎_, inl, inr, ⊎-elim}
 use mathlib.Core.List.{List, [], _∷_, List·Memᴰ, List·Memᴰ·tail, List·Memᴰ·cases-cons, List·Memᴰ·not-nil}
 use Prim.Native.Nat.{ℕ, _+_, _*_, _≤_}
 use native.Mathlib.Omega.{arith}
-use borrow.Author.Tests.{eq-eqb, eqb-true, not-false}
+use borrow.Author.Tests.{eq-eqb, ne-eqb, eqb-true, not-false}
 use lib.ListN.{length}
 use Rattle.model.specs.declared.Counts.{Counts}
 use Rattle.model.specs.Limits.{wordBits}
@@ -39,6 +39,9 @@ accepted-accepts q k p keep a = go (accepts q) refl
     go true e = e
     go false e = absurd (not-both a (ap not (eq-eqb _ 2 (ap (λ (p : Reply). (p .answer) .kind) (keep ∙ reply-refused q e .1)))))
 
+pub accepts-accepted : (q : Request) (k : Call) (p : Reply) → Keeps q p → accepts q ≡ true → isAccepted (k, p) ≡ true
+accepts-accepted q k p keep a = ap not (ne-eqb _ 2 (λ e. refused-not q (sym (ap (λ (p : Reply). (p .answer) .kind) keep) ∙ e) a))
+
 -- a refused one leaves what it was lent
 refused-leaves : (q : Request) (k : Call) (p : Reply) → Keeps q p → isAccepted (k, p) ≡ false → (n : ℕ) × (p ≡ refused n q)
 refused-leaves q k p keep a = go (accepts q) refl
@@ -69,10 +72,10 @@ module _ (I : Instance) (s : Marks) where
   cs = combinationsOf I
 
   -- what is left of the starting tuples without those of t
-  abbrev rest : (ℕ → Bool) → TupleSet
+  abbrev pub rest : (ℕ → Bool) → TupleSet
   rest t = filtered N cs (without t (starting I ws))
 
-  rest-length : (t : ℕ → Bool) → length (rest t) ≡ total N
+  pub rest-length : (t : ℕ → Bool) → length (rest t) ≡ total N
   rest-length t = filtered-length N cs (without t (starting I ws)) ∙ without-length t (starting I ws) ∙ living-length (total N) ws
 
   -- a change on what is left
@@ -83,14 +86,14 @@ module _ (I : Instance) (s : Marks) where
       ∙ ap (filtered N cs) (without-without (removes N change) t (starting I ws))
 
   -- a call on the shared lists
-  abbrev shared : List ℕ → Change → Call
+  abbrev pub shared : List ℕ → Change → Call
   shared supports change = record { given = I; own = none; supports = supports; change = change }
 
   shared-call : (c : Call) → c .given ≡ I → c .own ≡ none → shared (c .supports) (c .change) ≡ c
   shared-call c e f = λ i. record { given = sym e i; own = sym f i; supports = c .supports; change = c .change }
 
   -- the marks with what is left without t
-  abbrev leaves : (ℕ → Bool) → Marks
+  abbrev pub leaves : (ℕ → Bool) → Marks
   leaves t = record { words = written (total N) (rest t) ws; counts = liveCounts N (rest t) }
 
   -- The state after accepted calls that removed the tuples of t.
@@ -119,7 +122,7 @@ module _ (I : Instance) (s : Marks) where
         truth = truth;
       }
 
-  after-first : (st : State) (supports : List ℕ) (change : Change) (p : Reply) → st .marks ≡ s → st .gone ≡ 0 → Keeps (callRequest (st .marks) (shared supports change)) p → isAccepted (shared supports change, p) ≡ true → After (removes N change) (after st (shared supports change, p))
+  pub after-first : (st : State) (supports : List ℕ) (change : Change) (p : Reply) → st .marks ≡ s → st .gone ≡ 0 → Keeps (callRequest (st .marks) (shared supports change)) p → isAccepted (shared supports change, p) ≡ true → After (removes N change) (after st (shared supports change, p))
   unfolding remainder accepted
   after-first st supports change p e z keep a =
       let k = shared supports change in
@@ -128,7 +131,7 @@ module _ (I : Instance) (s : Marks) where
       after-call (removes N change) st supports change p (starting I ws) a (keeps ∙ reply-accepted (callRequest s k) accepts-it) refl (omega arith)
       (accepts-words (callRequest s k) accepts-it) (accepts-true (callRequest s k) accepts-it)
 
-  after-next : (t : ℕ → Bool) (st : State) (supports : List ℕ) (change : Change) (p : Reply) → After t st → Keeps (callRequest (st .marks) (shared supports change)) p → isAccepted (shared supports change, p) ≡ true → After (λ (g : ℕ). t g || removes N change g) (after st (shared supports change, p))
+  pub after-next : (t : ℕ → Bool) (st : State) (supports : List ℕ) (change : Change) (p : Reply) → After t st → Keeps (callRequest (st .marks) (shared supports change)) p → isAccepted (shared supports change, p) ≡ true → After (λ (g : ℕ). t g || removes N change g) (after st (shared supports change, p))
   unfolding accepted
   after-next t st supports change p so-far keep a =
       let k = shared supports change in

@@ -1,7 +1,7 @@
 -- Laws of the first fault of a table, and what a network and a request without faults have.
 -- From the definitions alone.
 use mathlib.Core.Path.{_≡_, refl, sym, _∙_, ap, subst}
-use mathlib.Core.Bool.{Bool, true, false, cond}
+use mathlib.Core.Bool.{Bool, true, false, not, cond}
 use mathlib.Core.Option.{Option, none, some}
 use mathlib.Core.List.{List, [], _∷_, _++_, map, List·Memᴰ, List·Memᴰ·tail, List·Memᴰ·cases-cons, List·Memᴰ·not-nil, Memᴰ·append-left, Memᴰ·append-right}
 use mathlib.Core.Logic.{⊎-elim}
@@ -12,13 +12,13 @@ use native.Mathlib.Nat.{mul-le-mul-right}
 use lib.Dec.{leb, ltb, eqb}
 use lib.ListN.{length, getD}
 use borrow.Author.Tests.{le-ltb, ltb-true, ltb-false, leb-true, eqb-true, eqb-false, not-true, not-false}
-use Rattle.model.specs.Limits.{maxRelations, maxWidth, maxTuples, maxSupportNumbers, wordBits}
+use Rattle.model.specs.Limits.{maxRelations, maxWidth, maxTuples, variableCount, maxSupportNumbers, wordBits}
 use Rattle.model.specs.Lists.{from, sum, all, pairwise, isNone}
 use Rattle.model.specs.declared.Relation.{Relation}
 use Rattle.model.specs.Network.{Network, total, variablesIn, tuplesIn, valuesIn, scopeOf}
 use Rattle.model.specs.Combination.{Combination, connected}
 use Rattle.model.specs.Consistency.{needed}
-use Rattle.model.specs.Request.{Change, filter, withdraw, choose, Instance, combinationsOf, Request}
+use Rattle.model.specs.Request.{Change, filter, withdraw, choose, chooseSeveral, Instance, combinationsOf, Request}
 use Rattle.model.specs.Fault.{published, Fault, listFaults, untrue, firstFault, refusal, within, properWidth, different, properScope, properLengths, networkFaults, combinationFaults, wordsFault, supportsFault, changeFaults, properMembers, faultsOn, faults, accepts}
 use Rattle.model.proofs.Bools.{and-left, and-right, or-false-left, or-false-right, or-false-intro}
 use Rattle.model.proofs.Lists.{here, all-at, pairwise-getD, isNone-none}
@@ -143,19 +143,22 @@ module _ (I : Instance) (words numbers : ℕ) (wrong : Bool) where
   numbered-change filter = refl
   numbered-change (withdraw ids) = refl
   numbered-change (choose x v) = refl
+  numbered-change (chooseSeveral xs vs) = refl
 
   numbered-all : (change : Change) → numbered (faultsOn I words numbers wrong change) ≡ true
   unfolding faultsOn listFaults
   numbered-all filter = refl
   numbered-all (withdraw ids) = refl
   numbered-all (choose x v) = refl
+  numbered-all (chooseSeveral xs vs) = refl
 
-  -- the numbers are 2 to 14 and 18
+  -- the numbers are 2 to 14, 18 and 19
   numbers-all : (change : Change) → all (λ (f : Fault). published (f .0)) (faultsOn I words numbers wrong change) ≡ true
   unfolding faultsOn listFaults
   numbers-all filter = refl
   numbers-all (withdraw ids) = refl
   numbers-all (choose x v) = refl
+  numbers-all (chooseSeveral xs vs) = refl
 
   pub refusal-within : (change : Change) (k : ℕ) → firstFault (faultsOn I words numbers wrong change) ≡ some k → published k ≡ true
   refusal-within change k e = firstFault-number published (faultsOn I words numbers wrong change) k (numbers-all change) e
@@ -284,6 +287,31 @@ module _ (q : Request) (e : accepts q ≡ true) where
   pub accepts-true : untrue N (q .words) (q .counts) ≡ false
   unfolding faults faultsOn
   accepts-true = absent (Memᴰ·append-right (listFaults I (length (q .words)) (length (q .supports))) here)
+
+  -- it has neither a fault that all change calls test, nor one of its own
+  abbrev shared-faults : List Fault
+  shared-faults = faultsOn I (length (q .words)) (length (q .supports)) (untrue N (q .words) (q .counts)) filter
+
+  all-absent : firstFault (shared-faults ++ changeFaults N (q .change)) ≡ none
+  unfolding accepts faults
+  all-absent =
+      sym (ap firstFault (faultsOn-change I (length (q .words)) (length (q .supports)) (untrue N (q .words) (q .counts)) (q .change)))
+      ∙ isNone-none (firstFault (faults q)) e
+
+  pub accepts-own : firstFault (changeFaults N (q .change)) ≡ none
+  accepts-own = firstFault-back shared-faults (changeFaults N (q .change)) all-absent
+
+  -- a choice of a variable is then accepted too, on as many words and numbers, with true counts
+  pub accepts-choice : (words supports counts : List ℕ) → length words ≡ length (q .words) → length supports ≡ length (q .supports) → untrue N words counts ≡ false → (x v : ℕ) → ltb x variableCount ≡ true → accepts (record { given = I; words = words; supports = supports; counts = counts; change = choose x v }) ≡ true
+  unfolding accepts faults
+  accepts-choice words supports counts lw ls truth x v low =
+      let wrong = untrue N words counts in
+      let same : faultsOn I (length words) (length supports) wrong filter ≡ shared-faults = λ i. faultsOn I (lw i) (ls i) ((truth ∙ sym accepts-true) i) filter in
+      ap isNone
+      (ap firstFault (faultsOn-change I (length words) (length supports) wrong (choose x v))
+      ∙ firstFault-append-none (faultsOn I (length words) (length supports) wrong filter) (changeFaults N (choose x v))
+      (ap firstFault same ∙ firstFault-front shared-faults (changeFaults N (q .change)) all-absent)
+      ∙ fault-next (14, not (ltb x variableCount)) [] (ap not low))
 
   pub accepts-words : total N ≤ wordBits * length (q .words)
   accepts-words = omega (arith, ltb-false (length (q .words) * wordBits) (total N) (lists here))

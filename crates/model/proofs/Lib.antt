@@ -21,6 +21,7 @@ pub mod Locality
 pub mod Reply
 pub mod Edges
 pub mod Calls
+pub mod Several
 pub mod Mission
 pub mod Tighter
 pub mod Extension

@@ -13,7 +13,7 @@ use lib.Dec.{ltb, eqb}
 use lib.ListN.{length, getD, set, take, drop, length-map, length-drop, length-append}
 use lib.Seq.{getD-set-same, getD-set-other, take-all, length-take-le, take-at, drop-append-add, drop-append-le, take-append-le, drop-cons}
 use borrow.Author.Tests.{eqb-true, eq-eqb, ltb-true, lt-ltb, ne-eqb, le-ltb}
-use Rattle.model.specs.Lists.{all, any, elem, from, sum, select, keepIf, firstOr, pairwise, choices, prefixed, earlier, each, isNone, lesser, least}
+use Rattle.model.specs.Lists.{all, any, elem, from, sum, select, keepIf, firstOr, empty, Permutation, bare, ahead, swapped, further, pairwise, choices, prefixed, earlier, each, isNone, lesser, least}
 use Rattle.model.proofs.Bools.{and-left, and-right, and-intro, or-left, or-right, or-cases, iff-eq, not-both}
 
 module _ {ℓ} {A : Type ℓ} where
@@ -162,6 +162,38 @@ module _ {ℓ} {A : Type ℓ} where
   pub picks-append : {xss yss : List (List A)} {t u : List A} → Picks xss t → Picks yss u → Picks (xss ++ yss) (t ++ u)
   picks-append done q = q
   picks-append (pick m p) q = pick m (picks-append p q)
+
+-- ---- Permutations
+
+or-swap : (a b c : Bool) → (a || (b || c)) ≡ (b || (a || c))
+or-swap true true c = refl
+or-swap true false c = refl
+or-swap false b c = refl
+
+and-swap : (a b c : Bool) → (a && (b && c)) ≡ (b && (a && c))
+and-swap true b c = refl
+and-swap false true c = refl
+and-swap false false c = refl
+
+-- tests do not look at the order
+module _ {A : Type 0} where
+  pub any-permuted : (p : A → Bool) {xs ys : List A} → Permutation xs ys → any p xs ≡ any p ys
+  any-permuted p bare = refl
+  any-permuted p (ahead {x} h) = ap (λ (b : Bool). p x || b) (any-permuted p h)
+  any-permuted p (swapped {x} {y} {xs}) = or-swap (p x) (p y) (any p xs)
+  any-permuted p (further h k) = any-permuted p h ∙ any-permuted p k
+
+  pub all-permuted : (p : A → Bool) {xs ys : List A} → Permutation xs ys → all p xs ≡ all p ys
+  all-permuted p bare = refl
+  all-permuted p (ahead {x} h) = ap (λ (b : Bool). p x && b) (all-permuted p h)
+  all-permuted p (swapped {x} {y} {xs}) = and-swap (p x) (p y) (all p xs)
+  all-permuted p (further h k) = all-permuted p h ∙ all-permuted p k
+
+  pub empty-permuted : {xs ys : List A} → Permutation xs ys → empty xs ≡ empty ys
+  empty-permuted bare = refl
+  empty-permuted (ahead h) = refl
+  empty-permuted swapped = refl
+  empty-permuted (further h k) = empty-permuted h ∙ empty-permuted k
 
 -- ---- Selection
 

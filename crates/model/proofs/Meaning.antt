@@ -19,7 +19,7 @@ use Rattle.model.specs.Support.{candidates, isSupport, supports, firstSu
 use Rattle.model.specs.LiveCounts.{liveCounts}
 use Rattle.model.specs.Consistency.{supported, filtered, supportList, needed}
 use Rattle.model.specs.LiveWords.{living, written}
-use Rattle.model.specs.Request.{Change, filter, withdraw, choose, Instance, combinationsOf, removes}
+use Rattle.model.specs.Request.{Change, filter, withdraw, choose, chooseSeveral, Instance, combinationsOf, removes}
 use Rattle.model.specs.Fault.{Fault, within, properWidth, properScope, networkFaults, combinationFaults, wordsFault, supportsFault, changeFaults, untrue, listFaults, faultsOn, faults, firstFault}
 use Rattle.model.specs.Reply.{Reply, answerNumbers, lowestEmpty, answerFor, remainder, countsFor, leaving, accepted, replyTo, reply, request}
 use Rattle.model.specs.Moves.{withValues}
@@ -44,6 +44,7 @@ module _ (N : Network) where
   changeFaults-values vs filter = refl
   changeFaults-values vs (withdraw ids) = refl
   changeFaults-values vs (choose x v) = refl
+  changeFaults-values vs (chooseSeveral xs us) = refl
 
 module _ (N : Network) (us vs : List ℕ) (same : (g h : ℕ) → agree (withValues N us) g h ≡ agree (withValues N vs) g h) where
   abbrev A : Network

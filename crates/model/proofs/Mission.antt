@@ -1,7 +1,7 @@
 -- Mission points 1, 2 and 3, proved of `reply` for every request and every list of calls, and the promises of test and compare.
 -- The statements are the records of specs/Promises.antt; no hypothesis is left that "no listed fault" gives.
 use mathlib.Core.Path.{_≡_, refl, sym, _∙_, ap, ap₂, subst}
-use mathlib.Core.Bool.{Bool, true, false, cond, _&&_}
+use mathlib.Core.Bool.{Bool, true, false, not, cond, _&&_}
 use mathlib.Core.Option.{Option, none, some}
 use mathlib.Core.Logic.{_⊎_, _↔_}
 use mathlib.Core.List.{List, [], _∷_, _++_, map, List·Memᴰ, Memᴰ·cast}
@@ -22,14 +22,14 @@ use Rattle.model.specs.LiveCounts.{liveCounts}
 use Rattle.model.specs.Consistency.{supported, isConsistent, filtered, supportList, needed}
 use Rattle.model.specs.Solution.{Assignment, isSolution}
 use Rattle.model.specs.LiveWords.{isLive, living, written}
-use Rattle.model.specs.Request.{Change, filter, withdraw, choose, Instance, combinationsOf, Request, removes}
+use Rattle.model.specs.Request.{Change, filter, withdraw, choose, chooseSeveral, Instance, combinationsOf, Request, removes}
 use Rattle.model.specs.Fault.{Fault, firstFault, networkFaults, idsFault, listFaults, faultsOn, faults, testFaults, compareFaults, accepts}
 use Rattle.model.specs.Reply.{Reply, lowestEmpty, answerFor, answerNumbers, remainder, countsFor, leaving, accepted, replyTo, reply, verdictNumbers, comparisonNumbers, verdictFor, comparisonFor, testReply, compareReply}
 use Rattle.model.specs.Calls.{Marks, Proper, Made, State, start, afterAll, AllKeep, anyAccepted, removedBy, starting, remaining}
-use Rattle.model.specs.Promises.{Tells, Marked, Supports, Counted, NoFault, FirstFault, Answered, givenTuples, leftTuples, Spares, Filtered, StrikeRule, Apart, Local, Claim, TestAnswered, ClashUnder, FirstClash, NoClash, CompareAnswered}
+use Rattle.model.specs.Promises.{Tells, Marked, Supports, Counted, NoFault, FirstFault, Answered, givenTuples, leftTuples, Spares, AtOnce, Filtered, StrikeRule, Apart, Local, Claim, TestAnswered, ClashUnder, FirstClash, NoClash, CompareAnswered}
 use Rattle.model.proofs.Bools.{and-left, false-intro}
 use Rattle.model.proofs.Lists.{here, least-mem, least-none, least-below, least-is, none-least}
-use Rattle.model.proofs.TupleSet.{has-below, without-length, without-cong, without-none, without-stays, without-count}
+use Rattle.model.proofs.TupleSet.{has-below, restrict-test, without-length, without-cong, without-none, without-stays, without-count}
 use Rattle.model.proofs.Network.{relationOf-ids, ids-below}
 use Rattle.model.proofs.Agreement.{clash-unfit, clash-is, mem-clashes, clashes-mem, firstClash-low}
 use Rattle.model.proofs.Support.{firstSupport-dead, firstSupport-least}
@@ -42,10 +42,11 @@ use Rattle.model.proofs.Fault.{no-fault-at, none-firstFault, firstFault
 use Rattle.model.proofs.Reply.{reply-accepted, lowestEmpty-first, answerFor-tells, answerFor-kind, emptied-low, remainder-length, leaving-sum, leaving-left, leaving-withdrawn}
 use Rattle.model.proofs.LiveCounts.{counts-length, counts-at, counts-sum, count-same, true-counts}
 use Rattle.model.proofs.Calls.{all-accepted, all-refused, lists-kept}
+use Rattle.model.proofs.Several.{singly, contrary-kept}
 
 -- ---- The calls' faults, in checking order
 
--- filter uses 2 to 12 and 18, withdraw adds 13, choose 14; test uses 2 to 11, compare 2 to 6 and 13
+-- filter uses 2 to 12 and 18, withdraw adds 13, choose 14, choose several 19 and 14; test uses 2 to 11, compare 2 to 6 and 13
 pub filter-checks : (I : Instance) (n k : ℕ) (b : Bool) → map (λ (f : Fault). f .0) (faultsOn I n k b filter) ≡ from 2 11 ++ (18 ∷ [])
 unfolding faultsOn listFaults
 filter-checks I n k b = refl
@@ -57,6 +58,10 @@ withdraw-checks I n k b ids = refl
 pub choose-checks : (I : Instance) (n k : ℕ) (b : Bool) (x v : ℕ) → map (λ (f : Fault). f .0) (faultsOn I n k b (choose x v)) ≡ from 2 11 ++ (18 ∷ 14 ∷ [])
 unfolding faultsOn listFaults
 choose-checks I n k b x v = refl
+
+pub choose-several-checks : (I : Instance) (n k : ℕ) (b : Bool) (xs vs : List ℕ) → map (λ (f : Fault). f .0) (faultsOn I n k b (chooseSeveral xs vs)) ≡ from 2 11 ++ (18 ∷ 19 ∷ 14 ∷ [])
+unfolding faultsOn listFaults
+choose-several-checks I n k b xs vs = refl
 
 pub test-checks : (I : Instance) (ws : List ℕ) → map (λ (f : Fault). f .0) (testFaults I ws) ≡ from 2 10
 unfolding testFaults
@@ -181,6 +186,20 @@ module _ (q : Request) where
             ap (λ (p : Reply). (p .answer) .withdrawn) (reply-accepted q e) ∙ leaving-withdrawn I left counts (q .words) (q .supports) in
             omega (arith, w, without-count (removes N (q .change)) entry, ap count same)
 
+    -- a tuple that is left was not removed
+    kept-left : (g : ℕ) → has (leftTuples q (reply q)) g ≡ true → removes N (q .change) g ≡ false
+    kept-left g h =
+        not-true (removes N (q .change) g)
+        (restrict-test (λ (g : ℕ). not (removes N (q .change) g)) entry g (largest-left .inside g (ap (λ (X : TupleSet). has X g) (sym leftTuples-is) ∙ h)))
+
+    -- several choices at once
+    at-once : (xs vs : List ℕ) → q .change ≡ chooseSeveral xs vs → AtOnce q (reply q) xs vs
+    at-once xs vs c =
+        record {
+          singly = singly q e xs vs c;
+          contrary = λ x u v pu pv differ nu nv g a cell h. contrary-kept q e xs vs c x u v pu pv differ nu nv g a cell (kept-left g h);
+        }
+
     -- an accepted request leaves the largest consistent set and loses no solution
     pub filtering : Filtered q (reply q)
     unfolding accepted leaving countsFor
@@ -197,6 +216,7 @@ module _ (q : Request) where
           sum = subst (λ (p : Reply). (p .answer) .left + (p .answer) .withdrawn + (p .answer) .deleted ≡ count entry) (sym (reply-accepted q e)) (leaving-sum I (q .change) entry left (q .words) (q .supports));
           counted = subst (λ (p : Reply). Counted N (leftTuples q (reply q)) ((p .answer) .left) (p .counts)) (sym (reply-accepted q e)) (subst (λ (X : TupleSet). Counted N X (((accepted q) .answer) .left) (liveCounts N left)) (sym leftTuples-is) (counted-left N left (remainder-length I (q .change) entry ∙ living-length (total N) (q .words)) (((accepted q) .answer) .left) (leaving-left I left counts (q .words) (q .supports))));
           choice = spares;
+          several = at-once;
         }
 
 -- ---- Point 3

@@ -14,10 +14,10 @@ use Rattle.model.specs.Limits.{anyValue}
 use Rattle.model.specs.Lists.{all, any, elem, select, keepIf, isNone, least}
 use Rattle.model.specs.Network.{Network, width, valuesIn, before, scopeOf, relationOf, indexOf, valuesAt, tupleOf}
 use Rattle.model.specs.Agreement.{Cell, isAny, fit, cells, clash, clashes, cellsOf, firstClash, agree}
-use Rattle.model.specs.Request.{Change, filter, withdraw, choose, removes}
-use Rattle.model.specs.Fault.{Fault, networkFaults, changeFaults, firstFault}
+use Rattle.model.specs.Request.{Change, filter, withdraw, choose, chooseSeveral, unlike, removes}
+use Rattle.model.specs.Fault.{Fault, allVariables, networkFaults, changeFaults, firstFault}
 use Rattle.model.specs.Promises.{NoFault, FirstFault}
-use Rattle.model.specs.Moves.{oldAny, widened, narrowed, tooWide, Move, widen, narrow, moved, tooWideFaults, moveFaults, MoveReply, moveTo, moveReply, MoveAnswered, withValues, movedNetwork, valuesTo, Returns, fitBy, clashBy, firstClashBy, agreeBy, removesBy, widenedChange, valueTo, widenedNetwork, SameMeaning}
+use Rattle.model.specs.Moves.{oldAny, widened, narrowed, tooWide, Move, widen, narrow, moved, tooWideFaults, moveFaults, MoveReply, moveTo, moveReply, MoveAnswered, withValues, movedNetwork, valuesTo, Returns, fitBy, clashBy, firstClashBy, agreeBy, unlikeBy, removesBy, widenedChange, valueTo, widenedNetwork, SameMeaning}
 use Rattle.model.proofs.Bools.{and-left, and-right, and-intro, or-false-left, or-false-right, not-both}
 use Rattle.model.proofs.Fault.{no-fault-at, none-firstFault, firstFault-some, firstFault-append-none, firstFault-front, firstFault-back, no-fault-here}
 use Rattle.model.proofs.Meaning.{networkFaults-values, reply-same}
@@ -170,6 +170,7 @@ unfolding removes fit isAny
 removesBy-any N filter g = refl
 removesBy-any N (withdraw ids) g = refl
 removesBy-any N (choose x v) g = refl
+removesBy-any N (chooseSeveral xs vs) g = refl
 
 -- an old value is any in the new form exactly if it was any, and no two old values become one
 widened-any : (v : ℕ) → v ≤ oldAny → isAny (widened v) ≡ eqb v oldAny
@@ -296,20 +297,28 @@ module _ (N : Network) (small : valuesTo oldAny N ≡ true) where
   unfolding agree
   agrees-widened g h = ap isNone (clashes-widened g h)
 
+  unlike-widened : (p : Cell) → old p ≡ true → (g : ℕ) → unlike W g (wide p) ≡ unlikeBy oldAny N g p
+  unlike-widened p h g =
+      ap (any (λ (c : Cell). eqb (c .0) (p .0) && not (fit (c .1) (widened (p .1))))) (cellsOf-widened g)
+      ∙ any-widened (λ (c : Cell). eqb (c .0) (p .0) && not (fit (c .1) (widened (p .1)))) (λ (c : Cell). eqb (c .0) (p .0) && not (fitBy oldAny (c .1) (p .1))) (cellsOf N g)
+      (λ c o. ap (λ (b : Bool). eqb (c .0) (p .0) && not b) (fit-widened (c .1) (p .1) (leb-true (c .1) oldAny o) (leb-true (p .1) oldAny h)))
+      (cellsOf-old g)
+
   removes-widened : (change : Change) → valueTo oldAny change ≡ true → (g : ℕ) → removes W (widenedChange change) g ≡ removesBy oldAny N change g
   unfolding removes
   removes-widened filter h g = refl
   removes-widened (withdraw ids) h g = refl
-  removes-widened (choose x v) h g =
-      ap (any (λ (c : Cell). eqb (c .0) x && not (fit (c .1) (widened v)))) (cellsOf-widened g)
-      ∙ any-widened (λ (c : Cell). eqb (c .0) x && not (fit (c .1) (widened v))) (λ (c : Cell). eqb (c .0) x && not (fitBy oldAny (c .1) v)) (cellsOf N g)
-      (λ c o. ap (λ (b : Bool). eqb (c .0) x && not b) (fit-widened (c .1) v (leb-true (c .1) oldAny o) (leb-true v oldAny h)))
-      (cellsOf-old g)
+  removes-widened (choose x v) h g = unlike-widened (x, v) h g
+  removes-widened (chooseSeveral xs vs) h g =
+      ap (any (unlike W g)) (cells-widened xs vs)
+      ∙ any-widened (unlike W g) (unlikeBy oldAny N g) (cells xs vs) (λ p o. unlike-widened p o g) (cells-old xs vs h)
 
   changeFaults-widened : (change : Change) → changeFaults N (widenedChange change) ≡ changeFaults N change
   changeFaults-widened filter = refl
   changeFaults-widened (withdraw ids) = refl
   changeFaults-widened (choose x v) = refl
+  changeFaults-widened (chooseSeveral xs vs) =
+      ap (λ (n : ℕ). (19, not (eqb (length xs) n)) ∷ (14, not (allVariables xs)) ∷ []) (length-map vs widened)
 
   -- In the new form the network means what it meant.
   pub same-meaning : SameMeaning N

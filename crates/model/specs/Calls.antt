@@ -11,7 +11,8 @@ use Rattle.model.specs.TupleSet.{TupleSet, without}
 use Rattle.model.specs.Network.{total}
 use Rattle.model.specs.Consistency.{filtered}
 use Rattle.model.specs.LiveWords.{living}
-use Rattle.model.specs.Request.{Change, Instance, combinationsOf, Request, removes}
+use Rattle.model.specs.Agreement.{Cell}
+use Rattle.model.specs.Request.{Change, choose, Instance, combinationsOf, Request, removes}
 use Rattle.model.specs.Reply.{Reply, Keeps}
 
 -- The lists that are handed from call to call: the live words and the live counts.
@@ -100,3 +101,18 @@ starting I ws = living (total (I .network)) ws
 -- one filtering of the starting tuples without all that accepted calls removed
 unfoldable pub remaining : Instance → List ℕ → List Made → TupleSet
 remaining I ws made = filtered (I .network) (combinationsOf I) (without (removedBy I made) (starting I ws))
+
+-- ---- Choices one by one (card 7)
+
+-- one choose call for each pair, in their order, on the instance and the shared marks, each lent the supports that the last one left
+abbrev pub Singly : Instance → List ℕ → List Cell → List Made → Type 0
+Singly I supports [] [] = Unit {0}
+Singly I supports [] (c ∷ made) = ⊥
+Singly I supports (p ∷ pairs) [] = ⊥
+Singly I supports (p ∷ pairs) (c ∷ made) =
+    (c .0 ≡ record { given = I; own = none; supports = supports; change = choose (p .0) (p .1) }) × Singly I ((c .1) .supports) pairs made
+
+-- the supports that the last of them leaves
+abbrev pub supportsAfter : List ℕ → List Made → List ℕ
+supportsAfter supports [] = supports
+supportsAfter supports (c ∷ made) = supportsAfter ((c .1) .supports) made

@@ -1,4 +1,4 @@
--- Document 01's examples P1 to P9 and those of card 4, as one statement over their table.
+-- Document 01's examples P1 to P9 and those of the cards 4 and 7, as one statement over their table.
 use mathlib.Core.Path.{_≡_, refl}
 use mathlib.Core.Bool.{Bool, true, false}
 use mathlib.Core.Option.{Option, none, some}
@@ -19,7 +19,7 @@ use Rattle.model.specs.Support
 use Rattle.model.specs.Consistency
 use Rattle.model.specs.LiveWords
 use Rattle.model.specs.Request
-use Rattle.model.specs.Request.{Instance, combinationsOf, Request, Change, filter, withdraw, choose}
+use Rattle.model.specs.Request.{Instance, combinationsOf, Request, Change, filter, withdraw, choose, chooseSeveral}
 use Rattle.model.specs.Fault
 use Rattle.model.specs.Reply
 use Rattle.model.specs.Reply.{Numbers, reply, compareReply}
@@ -151,6 +151,14 @@ table =
     ∷ record { request = asked vague 2 (0 ∷ 1 ∷ []) (15 ∷ []) (choose 0 4); answer = numbers 0 64 2 1 1; words = 5 ∷ []; counts = 1 ∷ 1 ∷ []; place = 0; supports = 0 ∷ 0 ∷ 65535 ∷ [] }
     -- A4: choosing any removes nothing
     ∷ record { request = asked vague 2 (0 ∷ 1 ∷ []) (15 ∷ []) (choose 0 anyValue); answer = numbers 0 64 4 0 0; words = 15 ∷ []; counts = 2 ∷ 2 ∷ []; place = 0; supports = 0 ∷ 0 ∷ 1 ∷ 1 ∷ [] }
+    -- S1 (card 7): 2 under variable 1 removes ids 0 and 3, 6 under variable 2 ids 3 and 5
+    ∷ record { request = asked networkA 2 pairs (127 ∷ []) (chooseSeveral (1 ∷ 2 ∷ []) (2 ∷ 6 ∷ [])); answer = numbers 0 64 3 3 1; words = 82 ∷ []; counts = 1 ∷ 1 ∷ 1 ∷ []; place = 0; supports = [] }
+    -- S2: the pairs go by place
+    ∷ record { request = asked networkA 2 pairs (127 ∷ []) (chooseSeveral (2 ∷ 1 ∷ []) (5 ∷ 1 ∷ [])); answer = numbers 0 64 3 4 0; words = 41 ∷ []; counts = 1 ∷ 1 ∷ 1 ∷ []; place = 0; supports = [] }
+    -- S3: of contrary values for variable 0, any alone is left
+    ∷ record { request = asked vague 2 (0 ∷ 1 ∷ []) (15 ∷ []) (chooseSeveral (0 ∷ 0 ∷ []) (3 ∷ 4 ∷ [])); answer = numbers 0 64 2 1 1; words = 5 ∷ []; counts = 1 ∷ 1 ∷ []; place = 0; supports = 0 ∷ 0 ∷ 65535 ∷ [] }
+    -- S4: no pair
+    ∷ record { request = asked networkA 2 pairs (127 ∷ []) (chooseSeveral [] []); answer = numbers 0 64 6 0 1; words = 123 ∷ []; counts = 2 ∷ 2 ∷ 2 ∷ []; place = 0; supports = [] }
     ∷ []
 
 abbrev pub Seen : Type 0
@@ -166,7 +174,7 @@ given e =
 unfoldable pub said : Example → Seen
 said e = (e .answer, e .words, e .counts, e .supports)
 
--- P1 to P9, A1 to A4
+-- P1 to P9, A1 to A4, S1 to S4
 pub examples : map given table ≡ map said table
 unfolding table given said relation networkA triangle lone chain vague pairs asked next numbers p1 p3 p6 p7 a1 a2 TupleSet.closure Network.relationOf Network.indexOf Network.scopeOf Network.valuesAt Network.tupleOf Agreement.isAny Agreement.fit Agreement.clash Agreement.clashes Agreement.cellsOf Agreement.firstClash Agreement.agree Agreement.share Combination.combinations Combination.connected Support.candidates Support.isSupport Support.supports Support.firstSupport Consistency.supported Consistency.filtered Consistency.supportList Consistency.needed LiveWords.bit LiveWords.isSet LiveWords.isLive LiveWords.living LiveWords.word LiveWords.written Request.removes LiveCounts.liveCounts Fault.untrue Fault.listFaults Fault.faultsOn Fault.faults Reply.lowestEmpty Reply.answerFor Reply.remainder Reply.countsFor Reply.leaving Reply.accepted Reply.reply
 examples = refl
@@ -208,7 +216,7 @@ tallied k change =
       change = change;
     }
 
--- Requests with the faults 2 to 12, 18, 13 and 14: each has its own fault and nearly all later ones.
+-- Requests with the faults 2 to 12, 18, 13, 14 and 19: each has its own fault and nearly all later ones.
 damaged : List Request
 unfolding twins sized bare tallied
 damaged =
@@ -227,10 +235,13 @@ damaged =
     ∷ tallied 0 (choose 64 0)
     ∷ tallied 1 (withdraw (0 ∷ 2 ∷ []))
     ∷ tallied 1 (choose 64 0)
+    ∷ tallied 0 (chooseSeveral (64 ∷ []) [])
+    ∷ tallied 1 (chooseSeveral (64 ∷ []) [])
+    ∷ tallied 1 (chooseSeveral (0 ∷ 64 ∷ []) (0 ∷ 0 ∷ []))
     ∷ []
 
 -- each is refused with the number of its first fault
-first-fault-wins : map (λ (q : Request). (reply q) .answer) damaged ≡ map (λ (n : ℕ). numbers 2 n 0 0 0) (from 2 11 ++ (18 ∷ 18 ∷ 13 ∷ 14 ∷ []))
+first-fault-wins : map (λ (q : Request). (reply q) .answer) damaged ≡ map (λ (n : ℕ). numbers 2 n 0 0 0) (from 2 11 ++ (18 ∷ 18 ∷ 13 ∷ 14 ∷ 18 ∷ 19 ∷ 14 ∷ []))
 unfolding damaged twins sized bare tallied relation asked numbers TupleSet.closure Network.relationOf Network.indexOf Network.scopeOf Network.valuesAt Network.tupleOf Agreement.isAny Agreement.fit Agreement.clash Agreement.clashes Agreement.cellsOf Agreement.firstClash Agreement.agree Agreement.share Combination.combinations Combination.connected Support.candidates Support.isSupport Support.supports Support.firstSupport Consistency.supported Consistency.filtered Consistency.supportList Consistency.needed LiveWords.bit LiveWords.isSet LiveWords.isLive LiveWords.living LiveWords.word LiveWords.written Request.removes LiveCounts.liveCounts Fault.untrue Fault.listFaults Fault.faultsOn Fault.faults Reply.lowestEmpty Reply.answerFor Reply.remainder Reply.countsFor Reply.leaving Reply.accepted Reply.reply
 first-fault-wins = refl
 

@@ -13,11 +13,11 @@ use Rattle.model.specs.Combination.{Combination, connected}
 use Rattle.model.specs.LiveCounts.{liveCounts}
 use Rattle.model.specs.Consistency.{needed}
 use Rattle.model.specs.LiveWords.{living}
-use Rattle.model.specs.Request.{Change, filter, withdraw, choose, Instance, combinationsOf, Request}
+use Rattle.model.specs.Request.{Change, filter, withdraw, choose, chooseSeveral, Instance, combinationsOf, Request}
 
 -- the refusal numbers of the change calls, but for number 1 at the C boundary
 abbrev pub published : ℕ → Bool
-published n = leb 2 n && leb n 14 || eqb n 18
+published n = leb 2 n && leb n 14 || (eqb n 18 || eqb n 19)
 
 -- A refusal number, and whether the request has that fault.
 abbrev pub Fault : Type 0
@@ -43,9 +43,13 @@ properWidth R = within 1 maxWidth (R .width)
 abbrev pub different : ℕ → ℕ → Bool
 different x y = not (eqb x y)
 
+-- every number listed is a variable
+abbrev pub allVariables : List ℕ → Bool
+allVariables xs = all (λ (x : ℕ). ltb x variableCount) xs
+
 -- a scope's variables are all below 64, and none stands twice
 abbrev pub properScope : List ℕ → Bool
-properScope xs = all (λ (x : ℕ). ltb x variableCount) xs && pairwise different xs
+properScope xs = allVariables xs && pairwise different xs
 
 -- the lists of variables and values are as long as the records call for
 abbrev pub properLengths : Network → Bool
@@ -100,6 +104,7 @@ abbrev pub changeFaults : Network → Change → List Fault
 changeFaults N filter = []
 changeFaults N (withdraw ids) = idsFault N ids ∷ []
 changeFaults N (choose x v) = (14, not (ltb x variableCount)) ∷ []
+changeFaults N (chooseSeveral xs vs) = (19, not (eqb (length xs) (length vs))) ∷ (14, not (allVariables xs)) ∷ []
 
 -- the counts are not those of the live tuples (card 6)
 unfoldable pub untrue : Network → List ℕ → List ℕ → Bool
@@ -109,7 +114,7 @@ untrue N words counts = not (equal counts (liveCounts N (living (total N) words)
 unfoldable pub listFaults : Instance → ℕ → ℕ → List Fault
 listFaults I words numbers = instanceFaults I ++ (wordsFault (I .network) words ∷ supportsFault I numbers ∷ [])
 
--- of filter, withdraw and choose, on so many words and support numbers, with counts that are untrue or not
+-- of the change calls, on so many words and support numbers, with counts that are untrue or not
 unfoldable pub faultsOn : Instance → ℕ → ℕ → Bool → Change → List Fault
 faultsOn I words numbers wrong change =
     listFaults I words numbers ++ ((18, wrong) ∷ changeFaults (I .network) change)

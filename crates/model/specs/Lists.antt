@@ -58,6 +58,13 @@ module _ {ℓ} {A : Type ℓ} where
   choices [] = [] ∷ []
   choices (xs ∷ xss) = prefixed xs (choices xss)
 
+-- Lists with the same elements, each as often, in any order.
+pub data Permutation {A : Type 0} : List A → List A → Type 0 where
+  bare : Permutation [] []
+  ahead : {x : A} {xs ys : List A} → Permutation xs ys → Permutation (x ∷ xs) (x ∷ ys)
+  swapped : {x y : A} {xs : List A} → Permutation (x ∷ y ∷ xs) (y ∷ x ∷ xs)
+  further : {xs ys zs : List A} → Permutation xs ys → Permutation ys zs → Permutation xs zs
+
 -- f of each element, end to end
 abbrev pub each {ℓ κ} : {A : Type ℓ} {B : Type κ} → (A → List B) → List A → List B
 each f [] = []

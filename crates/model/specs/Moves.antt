@@ -11,8 +11,8 @@ use Rattle.model.specs.declared.Moved.the-variants.{Done, Refused}
 use Rattle.model.specs.Limits.{anyValue}
 use Rattle.model.specs.Lists.{all, any, elem, select, isNone, least}
 use Rattle.model.specs.Network.{Network}
-use Rattle.model.specs.Agreement.{Cell, isAny, cellsOf, firstClash, agree}
-use Rattle.model.specs.Request.{Change, filter, withdraw, choose, Instance, removes}
+use Rattle.model.specs.Agreement.{Cell, cells, isAny, cellsOf, firstClash, agree}
+use Rattle.model.specs.Request.{Change, filter, withdraw, choose, chooseSeveral, Instance, removes}
 use Rattle.model.specs.Fault.{Fault, networkFaults, changeFaults, firstFault}
 use Rattle.model.specs.Reply.{reply, request}
 use Rattle.model.specs.Promises.{NoFault, FirstFault}
@@ -104,7 +104,7 @@ Returns there back N target =
 
 -- ---- What a network means where another value stands for every value
 
--- `fit`, `clash`, `firstClash`, `agree` and `removes` (specs/Agreement, specs/Request) with w in the place of any
+-- `fit`, `clash`, `firstClash`, `agree`, `unlike` and `removes` (specs/Agreement, specs/Request) with w in the place of any
 abbrev pub fitBy : ℕ → ℕ → ℕ → Bool
 fitBy w a b = eqb a b || (eqb a w || eqb b w)
 
@@ -117,21 +117,27 @@ firstClashBy w N g h = least (map (λ (x : Cell). x .0) (select (λ (x : Cell). 
 abbrev pub agreeBy : ℕ → Network → ℕ → ℕ → Bool
 agreeBy w N g h = isNone (firstClashBy w N g h)
 
+abbrev pub unlikeBy : ℕ → Network → ℕ → Cell → Bool
+unlikeBy w N g p = any (λ (c : Cell). eqb (c .0) (p .0) && not (fitBy w (c .1) (p .1))) (cellsOf N g)
+
 abbrev pub removesBy : ℕ → Network → Change → ℕ → Bool
 removesBy w N filter g = false
 removesBy w N (withdraw ids) g = elem g ids
-removesBy w N (choose x v) g = any (λ (c : Cell). eqb (c .0) x && not (fitBy w (c .1) v)) (cellsOf N g)
+removesBy w N (choose x v) g = unlikeBy w N g (x, v)
+removesBy w N (chooseSeveral xs vs) g = any (unlikeBy w N g) (cells xs vs)
 
--- the change with its value in the new form
+-- the change with its values in the new form
 abbrev pub widenedChange : Change → Change
 widenedChange filter = filter
 widenedChange (withdraw ids) = withdraw ids
 widenedChange (choose x v) = choose x (widened v)
+widenedChange (chooseSeveral xs vs) = chooseSeveral xs (map widened vs)
 
 abbrev pub valueTo : ℕ → Change → Bool
 valueTo top filter = true
 valueTo top (withdraw ids) = true
 valueTo top (choose x v) = leb v top
+valueTo top (chooseSeveral xs vs) = all (λ (v : ℕ). leb v top) vs
 
 -- N in the new form
 abbrev pub widenedNetwork : Network → Network

@@ -9,20 +9,20 @@ use Prim.Native.Nat.{ℕ, _+_, _*_, _≤_, _<_}
 use lib.Dec.{ltb}
 use lib.ListN.{length, getD, drop, replicate}
 use Rattle.model.specs.Limits.{maxRelations, noVariable, noSupport, wordBits}
-use Rattle.model.specs.Lists.{sum, earlier}
+use Rattle.model.specs.Lists.{sum, empty, earlier, Permutation}
 use Rattle.model.specs.TupleSet.{TupleSet, has, count, without, Largest, Consistent}
 use Rattle.model.specs.Network.{Network, total, idsOf, relationOf, indexOf}
-use Rattle.model.specs.Agreement.{isAny, fit, cellsOf}
+use Rattle.model.specs.Agreement.{Cell, isAny, fit, cells, cellsOf}
 use Rattle.model.specs.Combination.{Combination, Chain}
 use Rattle.model.specs.Support.{candidates, isSupport, firstSupport}
 use Rattle.model.specs.LiveCounts.{liveCount, liveCounts}
 use Rattle.model.specs.Consistency.{supported, supportList, needed}
 use Rattle.model.specs.Solution.{Assignment, isSolution}
 use Rattle.model.specs.LiveWords.{isLive, living}
-use Rattle.model.specs.Request.{choose, Instance, combinationsOf, Request, removes}
+use Rattle.model.specs.Request.{choose, chooseSeveral, Instance, combinationsOf, Request, removes}
 use Rattle.model.specs.Fault.{Fault, faults, testFaults, compareFaults}
 use Rattle.model.specs.Reply.{Numbers, Reply, isEmptied, refused}
-use Rattle.model.specs.Calls.{Marks, Call, lentMarks, marksIn, Made, State, start, afterAll, anyAccepted, removedBy, starting, remaining}
+use Rattle.model.specs.Calls.{Marks, Call, lentMarks, marksIn, Made, isAccepted, State, start, afterAll, AllKeep, anyAccepted, removedBy, starting, remaining, Singly, supportsAfter}
 
 -- ---- What an accepted call says and leaves of the tuples L
 
@@ -91,9 +91,26 @@ pub record Spares (q : Request) (p : Reply) (x v : ℕ) : Type 0 where
   pub under : (g a : ℕ) → isAny a ≡ true → List·Memᴰ (x, a) (cellsOf (q .given .network) g) → has (givenTuples q) g ≡ has (entryTuples q) g
   pub chosen : isAny v ≡ true → (givenTuples q ≡ entryTuples q) × ((p .answer) .withdrawn ≡ 0)
 
+-- the live words and counts lent
+abbrev pub marksOf : Request → Marks
+marksOf q = record { words = q .words; counts = q .counts }
+
+-- Calls leave together what one call on the same lists leaves, with the reply p: each of them is accepted, and in the end the words,
+-- the counts and the supports are those of p.
+pub record LeaveAlike (s : Marks) (supports : List ℕ) (made : List Made) (p : Reply) : Type 0 where
+  pub accepted : (c : Made) → List·Memᴰ c made → isAccepted c ≡ true
+  pub marks : (afterAll (start s) made) .marks ≡ marksIn p
+  pub numbers : supportsAfter supports made ≡ p .supports
+
+-- Choosing several at once, variables xs with the values vs (card 7). Where there is a pair, it leaves what choosing the pairs one by one
+-- leaves, in any order. Of two different values for one variable, neither of them any, no tuple is left but with any under it.
+pub record AtOnce (q : Request) (p : Reply) (xs vs : List ℕ) : Type 0 where
+  pub singly : empty (cells xs vs) ≡ false → (order : List Cell) → Permutation (cells xs vs) order → (made : List Made) → Singly (q .given) (q .supports) order made → AllKeep (start (marksOf q)) made → LeaveAlike (marksOf q) (q .supports) made p
+  pub contrary : (x u v : ℕ) → List·Memᴰ (x, u) (cells xs vs) → List·Memᴰ (x, v) (cells xs vs) → (u ≡ v → ⊥) → isAny u ≡ false → isAny v ≡ false → (g a : ℕ) → List·Memᴰ (x, a) (cellsOf (q .given .network) g) → has (leftTuples q p) g ≡ true → isAny a ≡ true
+
 -- The tuples left are the largest consistent set inside those given, the only such set; a relation in no combination keeps
--- its tuples; no solution is lost, and Emptied means that none exists; the counts add up to the live tuples at entry; and a
--- choice spares any.
+-- its tuples; no solution is lost, and Emptied means that none exists; the counts add up to the live tuples at entry; a
+-- choice spares any; and several choices at once are as good as one by one.
 pub record Filtered (q : Request) (p : Reply) : Type 0 where
   pub largest : Largest (supported (q .given .network) (combinationsOf (q .given))) (givenTuples q) (leftTuples q p)
   pub only : (T : TupleSet) → length T ≡ total (q .given .network) → Largest (supported (q .given .network) (combinationsOf (q .given))) (givenTuples q) T → T ≡ leftTuples q p
@@ -106,6 +123,7 @@ pub record Filtered (q : Request) (p : Reply) : Type 0 where
   pub counted : Counted (q .given .network) (leftTuples q p) ((p .answer) .left) (p .counts)
   pub sum : (p .answer) .left + (p .answer) .withdrawn + (p .answer) .deleted ≡ count (entryTuples q)
   pub choice : (x v : ℕ) → q .change ≡ choose x v → Spares q p x v
+  pub several : (xs vs : List ℕ) → q .change ≡ chooseSeveral xs vs → AtOnce q p xs vs
 
 -- ---- Mission point 3
 

@@ -109,7 +109,7 @@ abbrev pub replyTo : Option ℕ → Request → Reply
 replyTo none q = accepted q
 replyTo (some f) q = refused f q
 
--- What filter, withdraw and choose answer and leave.
+-- What the change calls answer and leave.
 unfoldable pub reply : Request → Reply
 reply q = replyTo (firstFault (faults q)) q
 

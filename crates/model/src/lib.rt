@@ -53,7 +53,7 @@ pub struct Counts {
     pub deleted: u16,
 }
 
-// What filter, withdraw and choose answer: Emptied names the lowest relation that has no live tuple.
+// What the change calls answer: Emptied names the lowest relation that has no live tuple.
 pub enum Answer {
     Settled(Counts),
     Emptied(u16, Counts),

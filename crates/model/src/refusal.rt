@@ -42,7 +42,10 @@ pub const COUNT: u8 = 18;
 // An id given is not below the number of tuples.
 pub const ID: u8 = 13;
 
-// The variable chosen is above 63.
+// The variables and the values chosen together are not as many (card 7).
+pub const PAIRS: u8 = 19;
+
+// A variable chosen is above 63.
 pub const VARIABLE: u8 = 14;
 
 // A value has no place in the old form (card 9).

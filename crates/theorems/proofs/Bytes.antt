@@ -31,7 +31,7 @@ use Rattle.wire.proofs.Entries.{entries-below, entries64-length, bytes-length, 
 use Rattle.encoding.specs.Records.{records, countsIn, withCounts}
 use Rattle.encoding.specs.Whole.{whole, wholeNetwork, wholeInstance, wholeChange}
 use Rattle.encoding.specs.Packed.{packed, unpacked, packedPair, pairIn, Outcome, outcome, encoded, replyBytes}
-use Rattle.encoding.specs.Call.{ByteBook, byteNetwork, byteInstance, ByteRequest, isWhole, wholeLists, wholeIds, notWhole, decodedChange, decoded, acceptsBytes, byteReply, KeepsBytes, wholeTest, byteTest, TestedBytes, wholeBook, byteCompare, ComparedBytes}
+use Rattle.encoding.specs.Call.{ByteBook, byteNetwork, byteInstance, ByteRequest, isWhole, wholeLists, wholeOwn, notWhole, decodedChange, decoded, acceptsBytes, byteReply, KeepsBytes, wholeTest, byteTest, TestedBytes, wholeBook, byteCompare, ComparedBytes}
 use Rattle.encoding.proofs.Records.{records-length}
 use Rattle.encoding.proofs.Counts.{counts-length, written-length, written-bytes, written-records, written-counts, written-again, written-held}
 use Rattle.encoding.proofs.Whole.{whole-written, whole-records}
@@ -80,14 +80,14 @@ module _ (q : ByteRequest) (o : Outcome) (kept : KeepsBytes q o) where
   sheets = q .book .sheets
 
   -- every byte as lent, with this answer
-  abbrev as-lent : ℕ → Outcome
+  abbrev pub as-lent : ℕ → Outcome
   as-lent n = outcome n sheets (q .marks) (q .supports)
 
   chosen : (b : Bool) → isWhole q ≡ b → o ≡ cond b (replyBytes r sheets (q .marks) (q .supports)) (as-lent notWhole)
   unfolding byteReply
   chosen b e = kept ∙ ap (λ (x : Bool). cond x (replyBytes r sheets (q .marks) (q .supports)) (as-lent notWhole)) e
 
-  not-whole : isWhole q ≡ false → o ≡ as-lent notWhole
+  pub not-whole : isWhole q ≡ false → o ≡ as-lent notWhole
   not-whole e = chosen false e
 
   untouched-by : (n : ℕ) → o ≡ as-lent n → Untouched q o
@@ -99,14 +99,14 @@ module _ (q : ByteRequest) (o : Outcome) (kept : KeepsBytes q o) where
     unfolding replyBytes
     back b e = chosen true w ∙ ap (λ (x : Bool). cond x (as-lent (packed (r .answer))) (encoded r sheets)) e
 
-    back-refused : r .answer .kind ≡ 2 → o ≡ as-lent (packed (r .answer))
+    pub back-refused : r .answer .kind ≡ 2 → o ≡ as-lent (packed (r .answer))
     back-refused k = back true (eq-eqb _ _ k)
 
     pub back-accepted : (r .answer .kind ≡ 2 → ⊥) → o ≡ encoded r sheets
     back-accepted k = back false (ne-eqb _ _ k)
 
-    lists-whole : wholeLists (q .book) (q .marks) (q .supports) ≡ true
-    lists-whole = and-left (wholeLists (q .book) (q .marks) (q .supports)) (wholeIds (q .change)) w
+    pub lists-whole : wholeLists (q .book) (q .marks) (q .supports) ≡ true
+    lists-whole = and-left (wholeLists (q .book) (q .marks) (q .supports)) (wholeOwn (q .change)) w
 
     -- ---- The counts
 
@@ -208,7 +208,7 @@ whole-same : (c : ByteCall) (s t : ByteMarks) → AsLong s t → isWhole (reques
 whole-same c s t e =
     let R = c .rest in
     let l = lent-long (c .own) s t e in
-    λ i. wholeChange (l .0 i) (length (R .questions)) (length (R .codes)) (length (R .combinations)) (l .1 i) (length (c .supports)) && wholeIds (c .change)
+    λ i. wholeChange (l .0 i) (length (R .questions)) (length (R .codes)) (length (R .combinations)) (l .1 i) (length (c .supports)) && wholeOwn (c .change)
 
 -- the request of the decoded call is the decoded request, where the shared records are those of the start
 lent-same : (own : Option ByteMarks) (s : ByteMarks) → lentMarks (decodedOwn own) (decodedMarks s) ≡ decodedMarks (lentBytes own s)
@@ -256,7 +256,7 @@ pub record Kept (lent left : ByteMarks) : Type 0 where
   pub long : length (left .marks) ≡ length (lent .marks)
   pub are-bytes : Bytes (left .marks)
 
-kept-self : (s : ByteMarks) → AreBytes s → Kept s s
+pub kept-self : (s : ByteMarks) → AreBytes s → Kept s s
 kept-self s b = record { only = only-self (s .sheets) (b .0); long = refl; are-bytes = b .1 }
 
 kept-next : (own : Option ByteMarks) (s t left : ByteMarks) → Kept s t → Kept (lentBytes own t) left → Kept s (sharedBytes own t left)
@@ -314,7 +314,7 @@ not-whole-refused s c keep e = ap (λ (p : Outcome). not (eqb ((unpacked (p .ans
 
 module _ (s : ByteMarks) where
   -- of the shared bytes, those of the start are kept
-  abbrev Shared : ByteState → Type 0
+  abbrev pub Shared : ByteState → Type 0
   Shared st = Kept s (st .shared)
 
   module _ (st : ByteState) (c : ByteMade) (shared : Shared st) (b : AreBytes (lentBytes ((c .0) .own) s)) (bs : Bytes ((c .0) .supports)) (keep : KeepsBytes (requestOf (st .shared) (c .0)) (c .1)) where
@@ -352,7 +352,7 @@ module _ (s : ByteMarks) where
         }
 
   -- What the bytes of these calls hold is what their decoded calls leave.
-  record Decoded (st : ByteState) (made : List ByteMade) (calls : List Made) : Type 0 where
+  pub record Decoded (st : ByteState) (made : List ByteMade) (calls : List Made) : Type 0 where
     pub keep : AllKeep (decodedState s st) calls
     pub state : decodedState s (afterAllBytes st made) ≡ afterAll (decodedState s st) calls
     pub any : anyAcceptedBytes made ≡ anyAccepted calls
@@ -382,7 +382,7 @@ module _ (s : ByteMarks) where
         shared = rest .shared;
       }
 
-  decoded-all : (st : ByteState) (made : List ByteMade) → Shared st → AllBytes s made → AllKeepBytes st made → Decoded st made (decodedAll s made)
+  pub decoded-all : (st : ByteState) (made : List ByteMade) → Shared st → AllBytes s made → AllKeepBytes st made → Decoded st made (decodedAll s made)
   unfolding anyAccepted
   decoded-all st [] shared are keep = record { keep = keep; state = refl; any = refl; shared = shared }
   decoded-all st (c ∷ made) shared are keep =

@@ -2,7 +2,7 @@
 -- what it is lent, a, and of what it gives and leaves, s. A contract that says anything else fails here. (Those of `records` are cited
 -- in their own walks.)
 use denote.Ref.{now}
-use Rattle.model.specs.Request.{filter, withdraw, choose}
+use Rattle.model.specs.Request.{filter, withdraw, choose, chooseSeveral}
 use Rattle.model.specs.Reply.{verdictNumbers, comparisonNumbers, request, replied, Keeps, Tested, Compared}
 use Rattle.model.specs.Moves.{widen, narrow, KeepsMove}
 use Rattle.layout.specs.Shape.{networkOf, instanceOf}
@@ -16,9 +16,11 @@ use Rattle.consistency.proofs.test.Reads as test
 use Rattle.changes.proofs.filter.Reads as changes-filter
 use Rattle.changes.proofs.withdraw.Reads as changes-withdraw
 use Rattle.changes.proofs.choose.Reads as changes-choose
+use Rattle.changes.proofs.choose_several.Reads as changes-choose-several
 use Rattle.capi.proofs.wakhvosi_filter.Reads as wakhvosi-filter
 use Rattle.capi.proofs.wakhvosi_withdraw.Reads as wakhvosi-withdraw
 use Rattle.capi.proofs.wakhvosi_choose.Reads as wakhvosi-choose
+use Rattle.capi.proofs.wakhvosi_choose_several.Reads as wakhvosi-choose-several
 use Rattle.capi.proofs.wakhvosi_test.Reads as wakhvosi-test
 use Rattle.capi.proofs.wakhvosi_compare.Reads as wakhvosi-compare
 use Rattle.capi.proofs.wakhvosi_widen.Reads as wakhvosi-widen
@@ -34,6 +36,9 @@ withdraw-keeps κs a r s kept = kept
 
 pub choose-keeps : (κs : _) (a : _) (r : _) (s : _) → changes-choose.Post κs a r s → Keeps (request (instanceOf (a .0) (now (a .1 .0)) (now (a .1 .1 .0)) (a .1 .1 .1 .0) (now (a .1 .1 .1 .1 .0))) (now (a .1 .1 .1 .1 .1 .0)) (now (a .1 .1 .1 .1 .1 .1 .0)) (now (a .1 .1 .1 .1 .1 .1 .1 .0)) (choose (a .1 .1 .1 .1 .1 .1 .1 .1 .0) (a .1 .1 .1 .1 .1 .1 .1 .1 .1 .0))) (replied r (now (s .1 .1 .1 .1 .1 .0)) (now (s .1 .1 .1 .1 .1 .1 .0)) (now (s .1 .1 .1 .1 .1 .1 .1 .0)))
 choose-keeps κs a r s kept = kept
+
+pub choose-several-keeps : (κs : _) (a : _) (r : _) (s : _) → changes-choose-several.Post κs a r s → Keeps (request (instanceOf (a .0) (now (a .1 .0)) (now (a .1 .1 .0)) (a .1 .1 .1 .0) (now (a .1 .1 .1 .1 .0))) (now (a .1 .1 .1 .1 .1 .0)) (now (a .1 .1 .1 .1 .1 .1 .0)) (now (a .1 .1 .1 .1 .1 .1 .1 .0)) (chooseSeveral (now (a .1 .1 .1 .1 .1 .1 .1 .1 .0)) (now (a .1 .1 .1 .1 .1 .1 .1 .1 .1 .0)))) (replied r (now (s .1 .1 .1 .1 .1 .0)) (now (s .1 .1 .1 .1 .1 .1 .0)) (now (s .1 .1 .1 .1 .1 .1 .1 .0)))
+choose-several-keeps κs a r s kept = kept
 
 pub test-tested : (κs : _) (a : _) (r : _) (s : _) → test.Post κs a r s → Tested (instanceOf (a .0) (now (a .1 .0)) (now (a .1 .1 .0)) (a .1 .1 .1 .0) (now (a .1 .1 .1 .1 .0))) (now (a .1 .1 .1 .1 .1 .0)) (verdictNumbers r)
 test-tested κs a r s kept = kept
@@ -57,6 +62,9 @@ withdraw-keeps-bytes κs a r s kept = kept
 
 pub choose-keeps-bytes : (κs : _) (a : _) (r : _) (s : _) → wakhvosi-choose.Post κs a r s → KeepsBytes (byteRequest (byteBook now (a .0) (a .1 .0) (a .1 .1 .0) (a .1 .1 .1 .0) (a .1 .1 .1 .1 .0)) (now (a .1 .1 .1 .1 .1 .0)) (now (a .1 .1 .1 .1 .1 .1 .0)) (choose (a .1 .1 .1 .1 .1 .1 .1 .0) (a .1 .1 .1 .1 .1 .1 .1 .1 .0))) (outcome r (now (s .0)) (now (s .1 .1 .1 .1 .1 .0)) (now (s .1 .1 .1 .1 .1 .1 .0)))
 choose-keeps-bytes κs a r s kept = kept
+
+pub choose-several-keeps-bytes : (κs : _) (a : _) (r : _) (s : _) → wakhvosi-choose-several.Post κs a r s → KeepsBytes (byteRequest (byteBook now (a .0) (a .1 .0) (a .1 .1 .0) (a .1 .1 .1 .0) (a .1 .1 .1 .1 .0)) (now (a .1 .1 .1 .1 .1 .0)) (now (a .1 .1 .1 .1 .1 .1 .0)) (chooseSeveral (now (a .1 .1 .1 .1 .1 .1 .1 .0)) (now (a .1 .1 .1 .1 .1 .1 .1 .1 .0)))) (outcome r (now (s .0)) (now (s .1 .1 .1 .1 .1 .0)) (now (s .1 .1 .1 .1 .1 .1 .0)))
+choose-several-keeps-bytes κs a r s kept = kept
 
 pub test-tested-bytes : (κs : _) (a : _) (r : _) (s : _) → wakhvosi-test.Post κs a r s → TestedBytes (byteBook now (a .0) (a .1 .0) (a .1 .1 .0) (a .1 .1 .1 .0) (a .1 .1 .1 .1 .0)) (now (a .1 .1 .1 .1 .1 .0)) r
 test-tested-bytes κs a r s kept = kept

@@ -23,7 +23,7 @@ use Rattle.wire.proofs.Entries.{entries16-length}
 use Rattle.encoding.specs.Records.{countsIn, withCounts}
 use Rattle.encoding.specs.Whole.{wholeChange}
 use Rattle.encoding.specs.Packed.{Outcome}
-use Rattle.encoding.specs.Call.{byteNetwork, byteInstance, ByteRequest, isWhole, wholeIds, wholeLists, decodedChange, decoded, acceptsBytes, KeepsBytes}
+use Rattle.encoding.specs.Call.{byteNetwork, byteInstance, ByteRequest, isWhole, wholeOwn, wholeLists, decodedChange, decoded, acceptsBytes, KeepsBytes}
 use Rattle.encoding.proofs.Counts.{written-held}
 use Rattle.encoding.proofs.Whole.{whole-written}
 use Rattle.theorems.specs.ByteCalls.{decodedOutcome}
@@ -63,7 +63,7 @@ module _ (first second : ByteRequest) (o o′ : Outcome) (kept : KeepsBytes firs
   marks-whole : length (o′ .marks) % 8 ≡ 0
   marks-whole =
       let B = second .book in
-      let lists = and-left (wholeLists B (second .marks) (second .supports)) (wholeIds (second .change)) (is-whole second a′) in
+      let lists = and-left (wholeLists B (second .marks) (second .supports)) (wholeOwn (second .change)) (is-whole second a′) in
       let w = whole-written (length (B .sheets)) (length (B .questions)) (length (B .codes)) (length (B .combinations)) (length (second .marks)) (length (second .supports)) lists .0 in
       ap (λ (n : ℕ). n % 8) (leaves second o′ kept′ (b′ .sheets, b′ .marks) .long) ∙ w
 
@@ -102,12 +102,12 @@ module _ (q : ByteRequest) (o : Outcome) (kept : KeepsBytes q o) (b : IsBytes q)
         go (inl e) = inl (ap decodedChange e)
         go (inr e) = inr (ap decodedChange e)
 
-    whole-ids : wholeIds change ≡ true
-    whole-ids = go spent
+    whole-own : wholeOwn change ≡ true
+    whole-own = go spent
       where
-        go : SpentBytes q change → wholeIds change ≡ true
-        go (inl e) = ap wholeIds e
-        go (inr e) = ap wholeIds e ∙ and-right (wholeLists (q .book) (q .marks) (q .supports)) (wholeIds (q .change)) (is-whole q a)
+        go : SpentBytes q change → wholeOwn change ≡ true
+        go (inl e) = ap wholeOwn e
+        go (inr e) = ap wholeOwn e ∙ and-right (wholeLists (q .book) (q .marks) (q .supports)) (wholeOwn (q .change)) (is-whole q a)
 
     -- the lists are as long as those of q
     whole-again : isWhole q′ ≡ true
@@ -118,8 +118,8 @@ module _ (q : ByteRequest) (o : Outcome) (kept : KeepsBytes q o) (b : IsBytes q)
         let m = k .long in
         and-intro
         ((λ i. wholeChange (l i) (length (B .questions)) (length (B .codes)) (length (B .combinations)) (m i) (long i))
-        ∙ and-left (wholeLists (q .book) (q .marks) (q .supports)) (wholeIds (q .change)) (is-whole q a))
-        whole-ids
+        ∙ and-left (wholeLists (q .book) (q .marks) (q .supports)) (wholeOwn (q .change)) (is-whole q a))
+        whole-own
 
     -- it is on the same network
     decoded-again : decoded q′ ≡ again (decoded q) (decodedOutcome o) (decodedChange change) (entries16 supports)

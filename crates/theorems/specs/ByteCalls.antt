@@ -10,13 +10,14 @@ use mathlib.Core.List.{List, [], _∷_, List·Memᴰ}
 use Prim.Native.Nat.{ℕ, _+_}
 use lib.Dec.{eqb}
 use lib.ListN.{length}
-use Rattle.model.specs.Lists.{any}
-use Rattle.model.specs.Request.{Change, Instance}
+use Rattle.model.specs.Lists.{any, empty, Permutation}
+use Rattle.model.specs.Agreement.{Cell, cells}
+use Rattle.model.specs.Request.{Change, choose, Instance}
 use Rattle.model.specs.Fault.{published}
 use Rattle.model.specs.Reply.{Reply}
 use Rattle.model.specs.Calls.{Marks, Call, Made, State}
 use Rattle.model.specs.Promises.{Answered, Filtered, StrikeRule, Local, TestAnswered, CompareAnswered}
-use Rattle.wire.specs.Entries.{Bytes, entries16, entries64, bytes}
+use Rattle.wire.specs.Entries.{Bytes, entries16, entries32, entries64, bytes}
 use Rattle.encoding.specs.Records.{countsIn, withCounts}
 use Rattle.encoding.specs.Packed.{unpacked, repliedIn, pairIn, Outcome, outcome}
 use Rattle.encoding.specs.Call.{ByteBook, byteNetwork, byteInstance, wholeTest, wholeBook, ByteRequest, byteRequest, isWhole, notWhole, decodedChange, decoded, acceptsBytes, KeepsBytes}
@@ -47,7 +48,7 @@ pub record ByteAnswered (q : ByteRequest) (o : Outcome) : Type 0 where
   -- number 1 comes before all others
   pub not-whole : isWhole q ≡ false → o ≡ outcome notWhole (q .book .sheets) (q .marks) (q .supports)
   pub whole : isWhole q ≡ true → Answered (decoded q) (decodedOutcome o)
-  -- a refusal has one of the numbers 1 to 14 and 18, and changes no lent byte
+  -- a refusal has one of the numbers 1 to 14, 18 and 19, and changes no lent byte
   pub refused : (unpacked (o .answer)) .kind ≡ 2 → Untouched q o × PublishedByte ((unpacked (o .answer)) .subject)
   pub filtered : acceptsBytes q ≡ true → Filtered (decoded q) (decodedOutcome o)
   -- the bytes are those of the counts, the words and the numbers that they hold, and every other byte of the records is as lent
@@ -195,6 +196,43 @@ pub record ByteClaim (R : ByteRest) (s : ByteMarks) (made : List ByteMade) : Typ
   -- the records but for their counts as at the start, as many marks, and all bytes
   pub sheets-left : OnlyCounts (s .sheets) ((afterAllBytes (startBytes s) made) .shared .sheets)
   pub marks-left : (length ((afterAllBytes (startBytes s) made) .shared .marks) ≡ length (s .marks)) × Bytes ((afterAllBytes (startBytes s) made) .shared .marks)
+
+-- ---- Several choices at once (card 7)
+
+-- one choose call for each pair, in their order, on the shared bytes, each lent the supports that the last one left
+abbrev pub SinglyBytes : ByteRest → List ℕ → List Cell → List ByteMade → Type 0
+SinglyBytes R supports [] [] = Unit {0}
+SinglyBytes R supports [] (c ∷ made) = ⊥
+SinglyBytes R supports (p ∷ pairs) [] = ⊥
+SinglyBytes R supports (p ∷ pairs) (c ∷ made) =
+    (c .0 ≡ record { rest = R; own = none; supports = supports; change = choose (p .0) (p .1) }) × SinglyBytes R ((c .1) .supports) pairs made
+
+-- the supports that the last of them leaves
+abbrev pub supportsAfterBytes : List ℕ → List ByteMade → List ℕ
+supportsAfterBytes supports [] = supports
+supportsAfterBytes supports (c ∷ made) = supportsAfterBytes ((c .1) .supports) made
+
+-- Calls leave together the bytes that one call on the same ones leaves, with the outcome o, and each of them is accepted.
+pub record LeaveAlikeBytes (s : ByteMarks) (supports : List ℕ) (made : List ByteMade) (o : Outcome) : Type 0 where
+  pub accepted : (c : ByteMade) → List·Memᴰ c made → isAcceptedByte c ≡ true
+  pub shared : (afterAllBytes (startBytes s) made) .shared ≡ leftIn o
+  pub numbers : supportsAfterBytes supports made ≡ o .supports
+
+-- the pairs that bytes of questions and of codes hold
+abbrev pub bytePairs : List ℕ → List ℕ → List Cell
+bytePairs questions codes = cells (entries16 questions) (entries32 codes)
+
+-- Where there is a pair, the call leaves the bytes that choosing the pairs one by one leaves, in any order.
+abbrev pub AtOnceBytes : ByteRest → ByteMarks → List ℕ → List ℕ → List ℕ → Outcome → Type 0
+AtOnceBytes R s supports questions codes o =
+    empty (bytePairs questions codes) ≡ false
+    → (order : List Cell)
+    → Permutation (bytePairs questions codes) order
+    → (made : List ByteMade)
+    → AllBytes s made
+    → SinglyBytes R supports order made
+    → AllKeepBytes (startBytes s) made
+    → LeaveAlikeBytes s supports made o
 
 -- ---- Test and compare
 

@@ -1,9 +1,9 @@
 -- Read this first: the mission's three points, of the calls themselves and from nothing but their contracts.
 --
 --   the calls                                         their contract               what follows of them
---   changes::filter, withdraw, choose                 Keeps                        point-1, point-2, point-3
---   wakhvosi_filter_records, .. (records as a slice)  Keeps, of the packed answer  point-1, point-2, point-3
---   wakhvosi_filter, withdraw, choose (bytes)         KeepsBytes                   points-1-2, point-3-bytes
+--   changes::filter, withdraw, choose, choose_several Keeps                        point-1, point-2, point-3, at-once, no-pair
+--   wakhvosi_filter_records, .. (records as a slice)  Keeps, of the packed answer  point-1, point-2, point-3, at-once, no-pair
+--   wakhvosi_filter, .., choose_several (bytes)       KeepsBytes                   points-1-2, point-3-bytes, at-once-bytes, no-pair-bytes
 --   consistency::test, network::comparison::compare   Tested, Compared             test-promise, compare-promise
 --   wakhvosi_test_records, wakhvosi_compare_records   Tested, Compared             test-promise, compare-promise
 --   wakhvosi_test, wakhvosi_compare (bytes)           TestedBytes, ComparedBytes   test-promise-bytes, compare-promise-bytes
@@ -35,14 +35,15 @@ use Rattle.model.specs.LiveCounts
 use Rattle.model.specs.Consistency
 use Rattle.model.specs.LiveWords
 use Rattle.model.specs.Request
-use Rattle.model.specs.Request.{withdraw, choose, Instance, Request}
+use Rattle.model.specs.Request.{filter, withdraw, choose, chooseSeveral, Instance, Request}
 use Rattle.model.specs.Fault
 use Rattle.model.specs.Fault.{accepts}
 use Rattle.model.specs.Reply
-use Rattle.model.specs.Reply.{Reply, reply, answerNumbers, verdictNumbers, testReply, comparisonNumbers, compareReply, replied, Keeps, Tested, Compared}
+use Rattle.model.specs.Reply.{Reply, reply, request, answerNumbers, verdictNumbers, testReply, comparisonNumbers, compareReply, replied, Keeps, Tested, Compared}
 use Rattle.model.specs.Calls.{Marks, Proper, Made, start, AllKeep}
-use Rattle.model.specs.Promises.{Answered, Filtered, Claim, TestAnswered, CompareAnswered}
-use Rattle.model.specs.Examples.{relation, networkA, triangle, crossed, pairs, asked, next, p1, p3, p7}
+use Rattle.model.specs.Promises.{Answered, Filtered, AtOnce, Claim, TestAnswered, CompareAnswered}
+use Rattle.model.specs.Examples.{relation, networkA, triangle, vague, crossed, pairs, asked, next, p1, p3, p7}
+use Rattle.model.proofs.Several.{none-filters}
 use Rattle.model.proofs.Mission.{answered, filtering, claim, test-answered, compare-answered}
 
 -- ---- Points 1 and 2, of one change call
@@ -63,6 +64,16 @@ module _ (q : Request) (p : Reply) (kept : Keeps q p) where
 pub point-3 : (I : Instance) (s : Marks) (made : List Made) → Proper I made → AllKeep (start s) made → Claim I s made
 point-3 = claim
 
+-- ---- Choosing several at once (card 7): what an accepted call with the reply p leaves is what choosing the pairs one by one leaves, in
+-- any order; and of two contrary values for a variable no tuple is left but with any there
+
+pub at-once : (q : Request) (p : Reply) → Keeps q p → accepts q ≡ true → (xs vs : List ℕ) → q .change ≡ chooseSeveral xs vs → AtOnce q p xs vs
+at-once q p kept e = point-2 q p kept e .several
+
+-- without a pair it answers and leaves what filter does, whatever it is lent
+pub no-pair : (I : Instance) (words supports counts : List ℕ) (p : Reply) → Keeps (request I words supports counts (chooseSeveral [] [])) p → Keeps (request I words supports counts filter) p
+no-pair I words supports counts p kept = kept ∙ none-filters I words supports counts
+
 -- ---- Test and compare
 
 -- yes exactly if there is no fault and the live tuples are consistent; refused exactly for the first fault
@@ -80,6 +91,14 @@ compare-promise N g h n kept = subst (CompareAnswered N g h) (sym kept) (compare
 p9 : Request
 p9 = asked networkA 2 pairs (127 ∷ []) (choose 2 6)
 
+-- value 2 chosen under variable 1 and 6 under variable 2, on fresh book A
+both : Request
+both = asked networkA 2 pairs (127 ∷ []) (chooseSeveral (1 ∷ 2 ∷ []) (2 ∷ 6 ∷ []))
+
+-- 4 and 3 chosen under variable 0, where one tuple has any
+contrary : Request
+contrary = asked vague 2 (0 ∷ 1 ∷ []) (15 ∷ []) (chooseSeveral (0 ∷ 0 ∷ []) (4 ∷ 3 ∷ []))
+
 -- tuple 5 listed twice
 twice : Request
 twice = asked networkA 2 pairs (127 ∷ []) (withdraw (5 ∷ 5 ∷ []))
@@ -88,9 +107,9 @@ pairsOf : Network → Instance
 pairsOf N = record { network = N; m = 2; members = pairs }
 
 -- what the definitions give
-right : ((reply p1) .words ≡ 123 ∷ []) × (((reply p7) .answer) .kind ≡ 1) × ((reply p3) .words ≡ 82 ∷ []) × (((reply twice) .answer) .withdrawn ≡ 1) × ((reply p9) .words ≡ 82 ∷ []) × (((reply p9) .answer) .left ≡ 3) × (testReply (pairsOf networkA) (127 ∷ []) ≡ (0, 0)) × (testReply (p7 .given) (63 ∷ []) ≡ (0, 0)) × (compareReply networkA 0 3 ≡ (1, 64)) × (compareReply networkA 2 3 ≡ (0, 1)) × (compareReply networkA 0 2 ≡ (0, 0)) × (compareReply crossed 0 3 ≡ (0, 4)) × ((reply p1) .counts ≡ 2 ∷ 2 ∷ 2 ∷ [])
-unfolding p9 twice pairsOf relation networkA triangle crossed pairs asked next p1 p3 p7 TupleSet.closure Network.relationOf Network.indexOf Network.scopeOf Network.valuesAt Network.tupleOf Agreement.isAny Agreement.fit Agreement.clash Agreement.clashes Agreement.cellsOf Agreement.firstClash Agreement.agree Agreement.share Combination.combinations Combination.connected Support.candidates Support.isSupport Support.supports Support.firstSupport Consistency.supported Consistency.isConsistent Consistency.filtered Consistency.supportList Consistency.needed LiveWords.bit LiveWords.isSet LiveWords.isLive LiveWords.living LiveWords.word LiveWords.written Request.removes LiveCounts.liveCounts Fault.untrue Fault.listFaults Fault.faultsOn Fault.faults Fault.testFaults Fault.compareFaults Reply.lowestEmpty Reply.answerFor Reply.remainder Reply.countsFor Reply.leaving Reply.accepted Reply.reply Reply.testReply Reply.compareReply
-right = (refl, refl, refl, refl, refl, refl, refl, refl, refl, refl, refl, refl, refl)
+right : ((reply p1) .words ≡ 123 ∷ []) × (((reply p7) .answer) .kind ≡ 1) × ((reply p3) .words ≡ 82 ∷ []) × (((reply twice) .answer) .withdrawn ≡ 1) × ((reply p9) .words ≡ 82 ∷ []) × (((reply p9) .answer) .left ≡ 3) × (testReply (pairsOf networkA) (127 ∷ []) ≡ (0, 0)) × (testReply (p7 .given) (63 ∷ []) ≡ (0, 0)) × (compareReply networkA 0 3 ≡ (1, 64)) × (compareReply networkA 2 3 ≡ (0, 1)) × (compareReply networkA 0 2 ≡ (0, 0)) × (compareReply crossed 0 3 ≡ (0, 4)) × ((reply p1) .counts ≡ 2 ∷ 2 ∷ 2 ∷ []) × (((reply both) .answer) .withdrawn ≡ 3) × ((reply contrary) .words ≡ 5 ∷ [])
+unfolding p9 both contrary twice pairsOf relation networkA triangle vague crossed pairs asked next p1 p3 p7 TupleSet.closure Network.relationOf Network.indexOf Network.scopeOf Network.valuesAt Network.tupleOf Agreement.isAny Agreement.fit Agreement.clash Agreement.clashes Agreement.cellsOf Agreement.firstClash Agreement.agree Agreement.share Combination.combinations Combination.connected Support.candidates Support.isSupport Support.supports Support.firstSupport Consistency.supported Consistency.isConsistent Consistency.filtered Consistency.supportList Consistency.needed LiveWords.bit LiveWords.isSet LiveWords.isLive LiveWords.living LiveWords.word LiveWords.written Request.removes LiveCounts.liveCounts Fault.untrue Fault.listFaults Fault.faultsOn Fault.faults Fault.testFaults Fault.compareFaults Reply.lowestEmpty Reply.answerFor Reply.remainder Reply.countsFor Reply.leaving Reply.accepted Reply.reply Reply.testReply Reply.compareReply
+right = (refl, refl, refl, refl, refl, refl, refl, refl, refl, refl, refl, refl, refl, refl, refl)
 
 -- a filter that touches nothing
 filter-touches-nothing : (a : Answer) (supports counts : List ℕ) → Keeps p1 (replied a (127 ∷ []) supports counts) → ⊥
@@ -128,6 +147,17 @@ choose-unfiltered : (a : Answer) (words supports counts : List ℕ) → (answerN
 choose-unfiltered a words supports counts n kept =
     let e : (answerNumbers a) .left ≡ 3 = ap (λ (p : Reply). (p .answer) .left) kept ∙ right .5 in
     omega arith
+
+-- a choice of several that makes one call for each pair, and so counts as withdrawn what the filter had not deleted before
+several-call-by-call : (a : Answer) (words supports counts : List ℕ) → (answerNumbers a) .withdrawn ≡ 2 → Keeps both (replied a words supports counts) → ⊥
+several-call-by-call a words supports counts n kept =
+    let e : (answerNumbers a) .withdrawn ≡ 3 = ap (λ (p : Reply). (p .answer) .withdrawn) kept ∙ right .13 in
+    omega arith
+
+-- .. that keeps the last value given for a variable
+several-last-value : (a : Answer) (supports counts : List ℕ) → Keeps contrary (replied a (15 ∷ []) supports counts) → ⊥
+several-last-value a supports counts kept =
+    eqb-false 15 5 refl (ap (λ (p : Reply). getD (p .words) 0 0) kept ∙ ap (λ (ws : List ℕ). getD ws 0 0) (right .14))
 
 -- a test that says yes to all
 test-says-yes : Tested (pairsOf networkA) (127 ∷ []) (verdictNumbers Yes) → ⊥
