@@ -8,13 +8,14 @@ ghost use Rattle.layout.specs.Loan.{entry};
 ghost use Rattle.layout.specs.Setting.{SoundLists};
 ghost use Rattle.layout.specs.Shape.{instanceOf};
 ghost use Rattle.request.specs.Plan.{listsFrom, PlansOn};
-ghost use Rattle.encoding.specs.Call.{byteBook, byteInstance, byteRequest, wholeIds, decodedChange, KeepsBytes, left};
+ghost use Rattle.encoding.specs.Call.{byteBook, byteInstance, byteRequest, wholeOwn, decodedChange, KeepsBytes, left};
 ghost use Rattle.byte_calls.specs.Call.{changeIn};
 ghost use Rattle.byte_calls.specs.Planned.{fewValues, settingFor, Writable, WritesChange, AnswersOn, WholeBytes, PlansBytes, LeavesPlanned, Readable, OpensBytes, AnswersOpened};
 use super::FEW_VALUES;
 use super::NOT_WHOLE;
 use changes::change;
 use combination::needed;
+use encoding::choices::choices_at;
 use encoding::ids::ids_at;
 use encoding::lengths::change_whole;
 use encoding::packing::pack;
@@ -33,6 +34,7 @@ use request::checks::checked;
 use request::counts::counted;
 use request::plan::Plan;
 use request::plan::plan_choose;
+use request::plan::plan_choose_several;
 use request::plan::plan_filter;
 use request::plan::plan_withdraw;
 use wire::load16;
@@ -46,17 +48,32 @@ pub enum Call {
     Filter,
     Withdraw,
     Choose(u16, Value),
+    ChooseSeveral,
 }
 
-// What the call is to do, with this opening. Only withdraw reads the ids.
-fn plan(call: Call, opening: Opening, variables: &[u16], values: &[Value], ids: &[u8]) -> Plan
+// What the call is to do, with this opening. Withdraw reads its ids where they are listed, and choose several its variables there and
+// its values where they are chosen; the others read neither.
+fn plan(
+    call: Call,
+    opening: Opening,
+    variables: &[u16],
+    values: &[Value],
+    listed: &[u8],
+    chosen: &[u8],
+) -> Plan
     requires { ⌜ (opening .fault ≡ 0 → SoundLists (listsFrom opening (now variables) (now values))) ⌝ }
-    ensures { λ p. ⌜ PlansOn p opening (entry variables) (entry values) (decodedChange (changeIn call (entry ids))) ⌝ }
+    ensures { λ p. ⌜ PlansOn p opening (entry variables) (entry values) (decodedChange (changeIn call (entry listed) (entry chosen))) ⌝ }
 {
     match call {
         Call::Filter => plan_filter(opening),
-        Call::Withdraw => plan_withdraw(opening, ids_at(ids)),
+        Call::Withdraw => plan_withdraw(opening, ids_at(listed)),
         Call::Choose(x, v) => plan_choose(opening, variables, values, x, v),
+        Call::ChooseSeveral => plan_choose_several(
+            opening,
+            variables,
+            values,
+            choices_at(listed, chosen),
+        ),
     }
 }
 
@@ -143,13 +160,14 @@ fn change_counted(
     sheets: &mut [u8],
     marks: &mut [u8],
     supports: &mut [u8],
-    ids: &[u8],
+    listed: &[u8],
+    chosen: &[u8],
 ) -> u64
     requires { ⌜ OpensBytes opening (now variables) (now values) m (now members) (now words) (now counts) (now sheets) (now marks) (now supports) ⌝ }
-    ensures { λ n. ⌜ AnswersOpened n opening (entry variables) (entry values) m (entry members) sheets marks supports (changeIn call (entry ids)) ⌝ }
+    ensures { λ n. ⌜ AnswersOpened n opening (entry variables) (entry values) m (entry members) sheets marks supports (changeIn call (entry listed) (entry chosen)) ⌝ }
 {
     let opened = counted(opening, words, counts);
-    let plan = plan(call, opened, variables, values, ids);
+    let plan = plan(call, opened, variables, values, listed, chosen);
     if plan.fault != 0 {
         return pack(Answer::Refused(plan.fault));
     }
@@ -179,10 +197,11 @@ fn change_opened(
     sheets: &mut [u8],
     marks: &mut [u8],
     supports: &mut [u8],
-    ids: &[u8],
+    listed: &[u8],
+    chosen: &[u8],
 ) -> u64
     requires { ⌜ Readable opening (shape .count) (instanceOf shape (now variables) (now values) m (now members)) (now sheets) (now marks) (now supports) ⌝ }
-    ensures { λ n. ⌜ AnswersOn n (instanceOf shape (entry variables) (entry values) m (entry members)) sheets marks supports (changeIn call (entry ids)) ⌝ }
+    ensures { λ n. ⌜ AnswersOn n (instanceOf shape (entry variables) (entry values) m (entry members)) sheets marks supports (changeIn call (entry listed) (entry chosen)) ⌝ }
 {
     let starts = opening.starts;
     let word_count = words_for(tuple_count(&starts));
@@ -202,7 +221,8 @@ fn change_opened(
         sheets,
         marks,
         supports,
-        ids,
+        listed,
+        chosen,
     )
 }
 
@@ -217,10 +237,11 @@ fn change_decoded(
     sheets: &mut [u8],
     marks: &mut [u8],
     supports: &mut [u8],
-    ids: &[u8],
+    listed: &[u8],
+    chosen: &[u8],
 ) -> u64
     requires { ⌜ (shape .count ≡ length (now sheets) / 6) × WholeBytes (now marks) (now supports) ⌝ }
-    ensures { λ n. ⌜ AnswersOn n (instanceOf shape (entry variables) (entry values) m (entry members)) sheets marks supports (changeIn call (entry ids)) ⌝ }
+    ensures { λ n. ⌜ AnswersOn n (instanceOf shape (entry variables) (entry values) m (entry members)) sheets marks supports (changeIn call (entry listed) (entry chosen)) ⌝ }
 {
     let words = marks.len() / 8;
     let numbers = supports.len() / 2;
@@ -239,7 +260,8 @@ fn change_decoded(
         sheets,
         marks,
         supports,
-        ids,
+        listed,
+        chosen,
     )
 }
 
@@ -253,10 +275,11 @@ fn change_many(
     combinations: &[u8],
     marks: &mut [u8],
     supports: &mut [u8],
-    ids: &[u8],
+    listed: &[u8],
+    chosen: &[u8],
 ) -> u64
     requires { ⌜ WholeBytes (now marks) (now supports) ⌝ }
-    ensures { λ n. ⌜ AnswersOn n (byteInstance (byteBook entry sheets questions codes m combinations)) sheets marks supports (changeIn call (entry ids)) ⌝ }
+    ensures { λ n. ⌜ AnswersOn n (byteInstance (byteBook entry sheets questions codes m combinations)) sheets marks supports (changeIn call (entry listed) (entry chosen)) ⌝ }
 {
     let mut variables = [0u16; 513];
     let mut values = [0u32; 32769];
@@ -275,7 +298,8 @@ fn change_many(
         sheets,
         marks,
         supports,
-        ids,
+        listed,
+        chosen,
     )
 }
 
@@ -289,10 +313,11 @@ fn change_few(
     combinations: &[u8],
     marks: &mut [u8],
     supports: &mut [u8],
-    ids: &[u8],
+    listed: &[u8],
+    chosen: &[u8],
 ) -> u64
     requires { ⌜ WholeBytes (now marks) (now supports) × (length (now codes) ≤ 4 * fewValues) ⌝ }
-    ensures { λ n. ⌜ AnswersOn n (byteInstance (byteBook entry sheets questions codes m combinations)) sheets marks supports (changeIn call (entry ids)) ⌝ }
+    ensures { λ n. ⌜ AnswersOn n (byteInstance (byteBook entry sheets questions codes m combinations)) sheets marks supports (changeIn call (entry listed) (entry chosen)) ⌝ }
 {
     let mut variables = [0u16; 513];
     let mut values = [0u32; FEW_VALUES];
@@ -311,7 +336,8 @@ fn change_few(
         sheets,
         marks,
         supports,
-        ids,
+        listed,
+        chosen,
     )
 }
 
@@ -325,10 +351,11 @@ fn change_bytes(
     combinations: &[u8],
     marks: &mut [u8],
     supports: &mut [u8],
-    ids: &[u8],
+    listed: &[u8],
+    chosen: &[u8],
 ) -> u64
     requires { ⌜ WholeBytes (now marks) (now supports) ⌝ }
-    ensures { λ n. ⌜ AnswersOn n (byteInstance (byteBook entry sheets questions codes m combinations)) sheets marks supports (changeIn call (entry ids)) ⌝ }
+    ensures { λ n. ⌜ AnswersOn n (byteInstance (byteBook entry sheets questions codes m combinations)) sheets marks supports (changeIn call (entry listed) (entry chosen)) ⌝ }
 {
     if codes.len() <= 4 * FEW_VALUES {
         return change_few(
@@ -340,7 +367,8 @@ fn change_bytes(
             combinations,
             marks,
             supports,
-            ids,
+            listed,
+            chosen,
         );
     }
     change_many(
@@ -352,11 +380,12 @@ fn change_bytes(
         combinations,
         marks,
         supports,
-        ids,
+        listed,
+        chosen,
     )
 }
 
-// The call, whose ids are whole: refused with number 1 before all else if another list is not.
+// The call, whose own lists are whole: refused with number 1 before all else if another list is not.
 pub fn change_call(
     call: Call,
     sheets: &mut [u8],
@@ -366,10 +395,11 @@ pub fn change_call(
     combinations: &[u8],
     marks: &mut [u8],
     supports: &mut [u8],
-    ids: &[u8],
+    listed: &[u8],
+    chosen: &[u8],
 ) -> u64
-    requires { ⌜ wholeIds (changeIn call (now ids)) ≡ true ⌝ }
-    ensures { λ n. ⌜ KeepsBytes (byteRequest (byteBook entry sheets questions codes m combinations) (entry marks) (entry supports) (changeIn call (entry ids))) (left n sheets marks supports) ⌝ }
+    requires { ⌜ wholeOwn (changeIn call (now listed) (now chosen)) ≡ true ⌝ }
+    ensures { λ n. ⌜ KeepsBytes (byteRequest (byteBook entry sheets questions codes m combinations) (entry marks) (entry supports) (changeIn call (entry listed) (entry chosen))) (left n sheets marks supports) ⌝ }
 {
     if !change_whole(
         sheets.len(),
@@ -390,6 +420,7 @@ pub fn change_call(
         combinations,
         marks,
         supports,
-        ids,
+        listed,
+        chosen,
     )
 }

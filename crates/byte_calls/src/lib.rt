@@ -1,5 +1,5 @@
 // The calls on lists of bytes: decode what is needed, make the call, and encode what it gives and leaves.
-pub mod change; // filter, withdraw and choose
+pub mod change; // the change calls
 pub mod reading; // test and compare
 
 // So many values a call on a small book has room for, and so less to clear.

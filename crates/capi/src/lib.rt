@@ -1,5 +1,5 @@
 // The calls from C: numbers and lists of bytes. include/wakhvosi.h says what each byte means.
-ghost use Rattle.model.specs.Request.{filter, withdraw, choose};
+ghost use Rattle.model.specs.Request.{filter, withdraw, choose, chooseSeveral};
 ghost use Rattle.model.specs.Moves.{widen, narrow};
 ghost use Rattle.layout.specs.Loan.{entry, exit};
 ghost use Rattle.encoding.specs.Call.{byteBook, byteRequest, left, KeepsBytes, TestedBytes, ComparedBytes};
@@ -11,6 +11,7 @@ use byte_calls::reading::compare_bytes;
 use byte_calls::reading::test_bytes;
 use byte_moves::narrow_bytes;
 use byte_moves::widen_bytes;
+use encoding::lengths::cells_whole;
 use encoding::lengths::instance_whole;
 use encoding::lengths::network_whole;
 use model::Value;
@@ -37,6 +38,7 @@ pub extern "C" fn wakhvosi_filter(
         combinations,
         marks,
         supports,
+        &questions[..0],
         &questions[..0],
     )
 }
@@ -68,6 +70,7 @@ pub extern "C" fn wakhvosi_withdraw(
         marks,
         supports,
         ids,
+        &questions[..0],
     )
 }
 
@@ -96,6 +99,40 @@ pub extern "C" fn wakhvosi_choose(
         marks,
         supports,
         &questions[..0],
+        &questions[..0],
+    )
+}
+
+// Withdraws every tuple that has, under a variable of `chosen_questions`, another value than `chosen_codes` has in the same place, and
+// filters what then lives.
+#[no_mangle]
+pub extern "C" fn wakhvosi_choose_several(
+    sheets: &mut [u8],
+    questions: &[u8],
+    codes: &[u8],
+    m: u16,
+    combinations: &[u8],
+    marks: &mut [u8],
+    supports: &mut [u8],
+    chosen_questions: &[u8],
+    chosen_codes: &[u8],
+) -> u64
+    ensures { λ n. ⌜ KeepsBytes (byteRequest (byteBook entry sheets questions codes m combinations) (entry marks) (entry supports) (chooseSeveral (entry «chosen_questions») (entry «chosen_codes»))) (left n sheets marks supports) ⌝ }
+{
+    if !cells_whole(chosen_questions.len(), chosen_codes.len()) {
+        return NOT_WHOLE;
+    }
+    change_call(
+        Call::ChooseSeveral,
+        sheets,
+        questions,
+        codes,
+        m,
+        combinations,
+        marks,
+        supports,
+        chosen_questions,
+        chosen_codes,
     )
 }
 

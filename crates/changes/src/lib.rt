@@ -1,6 +1,6 @@
-// The change calls: filter, withdraw and choose. Each is planned, which finds its first fault or the ids that it removes; `change`
+// The change calls: filter, withdraw, choose and choose several. Each is planned, which finds its first fault or the ids that it removes; `change`
 // does the rest for all of them.
-ghost use Rattle.model.specs.Request.{filter, withdraw, choose};
+ghost use Rattle.model.specs.Request.{filter, withdraw, choose, chooseSeveral};
 ghost use Rattle.layout.specs.Loan.{entry};
 ghost use Rattle.layout.specs.Shape.{instanceOf};
 ghost use Rattle.layout.specs.Setting.{setting};
@@ -13,10 +13,12 @@ use live::count;
 use model::Answer;
 use model::Value;
 use request::answer::answer_for;
+use request::choices::paired;
 use request::counts::count_all;
 use request::counts::opened;
 use request::plan::Plan;
 use request::plan::plan_choose;
+use request::plan::plan_choose_several;
 use request::plan::plan_filter;
 use request::plan::plan_withdraw;
 use request::removal::listed;
@@ -160,5 +162,34 @@ pub fn choose(
         counts,
     );
     let plan = plan_choose(opening, variables, values, x, v);
+    make(variables, values, m, members, words, supports, counts, plan)
+}
+
+// Withdraws every tuple that has, under a variable of xs, another value than vs has in the same place, and filters what then lives.
+pub fn choose_several(
+    shape: Shape,
+    variables: &[u16],
+    values: &[Value],
+    m: u16,
+    members: &[u16],
+    words: &mut [u64],
+    supports: &mut [u16],
+    counts: &mut [u16],
+    xs: &[u16],
+    vs: &[Value],
+) -> Answer
+    ensures { λ a. ⌜ Replies a (instanceOf shape (entry variables) (entry values) m (entry members)) words supports counts (chooseSeveral (entry xs) (entry vs)) ⌝ }
+{
+    let opening = opened(
+        shape,
+        variables,
+        values,
+        m,
+        members,
+        words,
+        supports.len(),
+        counts,
+    );
+    let plan = plan_choose_several(opening, variables, values, paired(xs, vs));
     make(variables, values, m, members, words, supports, counts, plan)
 }

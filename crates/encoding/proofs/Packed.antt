@@ -2,7 +2,7 @@
 -- From the laws of replies.
 use mathlib.Core.Logic.{⊎-elim}
 use mathlib.Core.Path.{_≡_, refl, ap, _∙_}
-use mathlib.Core.Bool.{true, _&&_}
+use mathlib.Core.Bool.{true, _&&_, _||_}
 use mathlib.Core.Option.{Option, none, some}
 use mathlib.Core.List.{List, [], _∷_}
 use Prim.Native.Nat.{ℕ, zero, suc, _+_, _*_, _/_, _%_, _≤_, _<_}
@@ -91,8 +91,10 @@ at-most-sum (x ∷ xs) (suc i) = omega (arith, at-most-sum xs i)
 -- a refusal number fits its byte
 published-small : (n : ℕ) → published n ≡ true → n < 256
 published-small n h =
-    ⊎-elim (λ low. omega (arith, leb-true n 14 (and-right (leb 2 n) (leb n 14) low))) (λ e. omega (arith, eqb-true n 18 e))
-    (or-cases (leb 2 n && leb n 14) (eqb n 18) h)
+    ⊎-elim
+    (λ low. omega (arith, leb-true n 14 (and-right (leb 2 n) (leb n 14) low)))
+    (λ late. ⊎-elim (λ e. omega (arith, eqb-true n 18 e)) (λ e. omega (arith, eqb-true n 19 e)) (or-cases (eqb n 18) (eqb n 19) late))
+    (or-cases (leb 2 n && leb n 14) (eqb n 18 || eqb n 19) h)
 
 -- an answer's subject is 64 or a relation's number
 pub answer-subject : (N : Network) (L : TupleSet) (k : Counts) → length (N .relations) ≤ maxRelations → Dec (lowestEmpty N L < length (N .relations)) → answerNumbers (answerFor N L k) .subject < 256

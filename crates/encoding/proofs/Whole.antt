@@ -4,7 +4,11 @@ use mathlib.Core.Bool.{Bool, true, _&&_}
 use Prim.Native.Nat.{ℕ, _%_}
 use borrow.Author.Tests.{eqb-true}
 use Rattle.model.proofs.Bools.{and-left, and-right}
-use Rattle.encoding.specs.Whole.{whole, wholeNetwork, wholeInstance, wholeChange}
+use Rattle.encoding.specs.Whole.{whole, wholeCells, wholeNetwork, wholeInstance, wholeChange}
+
+-- where the first holds, the second decides
+pub second : {a : Bool} (x : Bool) → a ≡ true → x ≡ (a && x)
+second x e = sym (ap (λ (d : Bool). d && x) e)
 
 -- where the first two hold, the third decides
 pub third : {a b : Bool} (x : Bool) → a ≡ true → b ≡ true → x ≡ (a && (b && x))
@@ -14,7 +18,7 @@ third {b = b} x e f = sym (ap (λ (d : Bool). d && (b && x)) e ∙ ap (λ (d : B
 pub whole-records : (sheets questions codes combinations marks supports : ℕ) → wholeChange sheets questions codes combinations marks supports ≡ true → sheets % 6 ≡ 0
 whole-records sheets questions codes combinations marks supports w =
     eqb-true _ _
-    (and-left (whole 6 sheets) (whole 2 questions && whole 4 codes)
+    (and-left (whole 6 sheets) (wholeCells questions codes)
     (and-left (wholeNetwork sheets questions codes) (whole 2 combinations)
     (and-left (wholeInstance sheets questions codes combinations) (whole 8 marks && whole 2 supports) w)))
 

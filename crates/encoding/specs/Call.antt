@@ -5,13 +5,13 @@ use mathlib.Core.List.{List}
 use Prim.Native.Nat.{ℕ}
 use lib.ListN.{length}
 use Rattle.model.specs.Network.{Network}
-use Rattle.model.specs.Request.{Change, filter, withdraw, choose, Instance, Request}
+use Rattle.model.specs.Request.{Change, filter, withdraw, choose, chooseSeveral, Instance, Request}
 use Rattle.model.specs.Fault.{accepts}
 use Rattle.model.specs.Reply.{reply, testReply, compareReply}
 use Rattle.layout.specs.Loan.{Loan, exit}
 use Rattle.wire.specs.Entries.{entries16, entries32, entries64}
 use Rattle.encoding.specs.Records.{records, countsIn}
-use Rattle.encoding.specs.Whole.{whole, wholeNetwork, wholeInstance, wholeChange}
+use Rattle.encoding.specs.Whole.{whole, wholeCells, wholeNetwork, wholeInstance, wholeChange}
 use Rattle.encoding.specs.Packed.{packedPair, Outcome, outcome, replyBytes}
 
 -- ---- Books
@@ -45,7 +45,7 @@ notWhole = packedPair (2, 1)
 
 -- ---- The change calls
 
--- A request as bytes. The ids of a withdrawal are bytes too.
+-- A request as bytes. The lists of its change are bytes too.
 pub record ByteRequest : Type 0 where
   pub book : ByteBook
   pub marks : List ℕ
@@ -55,25 +55,27 @@ pub record ByteRequest : Type 0 where
 abbrev pub byteRequest : ByteBook → List ℕ → List ℕ → Change → ByteRequest
 byteRequest B marks supports change = record { book = B; marks = marks; supports = supports; change = change }
 
--- the ids are a whole number of entries
-abbrev pub wholeIds : Change → Bool
-wholeIds filter = true
-wholeIds (withdraw ids) = whole 2 (length ids)
-wholeIds (choose x v) = true
+-- the change's own lists are whole numbers of entries
+abbrev pub wholeOwn : Change → Bool
+wholeOwn filter = true
+wholeOwn (withdraw ids) = whole 2 (length ids)
+wholeOwn (choose x v) = true
+wholeOwn (chooseSeveral xs vs) = wholeCells (length xs) (length vs)
 
--- every list but the ids is
+-- every other list is
 abbrev pub wholeLists : ByteBook → List ℕ → List ℕ → Bool
 wholeLists B marks supports =
     wholeChange (length (B .sheets)) (length (B .questions)) (length (B .codes)) (length (B .combinations)) (length marks) (length supports)
 
 -- every list is
 abbrev pub isWhole : ByteRequest → Bool
-isWhole q = wholeLists (q .book) (q .marks) (q .supports) && wholeIds (q .change)
+isWhole q = wholeLists (q .book) (q .marks) (q .supports) && wholeOwn (q .change)
 
 abbrev pub decodedChange : Change → Change
 decodedChange filter = filter
 decodedChange (withdraw ids) = withdraw (entries16 ids)
 decodedChange (choose x v) = choose x v
+decodedChange (chooseSeveral xs vs) = chooseSeveral (entries16 xs) (entries32 vs)
 
 -- the request that the bytes hold
 abbrev pub decoded : ByteRequest → Request
@@ -90,7 +92,7 @@ decoded q =
 unfoldable pub acceptsBytes : ByteRequest → Bool
 acceptsBytes q = isWhole q && accepts (decoded q)
 
--- What filter, withdraw and choose give and leave: where every list is whole, the reply as a number and bytes; else a refusal, and
+-- What the change calls give and leave: where every list is whole, the reply as a number and bytes; else a refusal, and
 -- every byte as lent.
 unfoldable pub byteReply : ByteRequest → Outcome
 byteReply q =

@@ -7,9 +7,13 @@ use lib.Dec.{eqb}
 abbrev pub whole : ℕ → ℕ → Bool
 whole k n = eqb (n % k) 0
 
--- relation records, variables and values
+-- variables and values
+abbrev pub wholeCells : ℕ → ℕ → Bool
+wholeCells questions codes = whole 2 questions && whole 4 codes
+
+-- .. and relation records
 abbrev pub wholeNetwork : ℕ → ℕ → ℕ → Bool
-wholeNetwork sheets questions codes = whole 6 sheets && (whole 2 questions && whole 4 codes)
+wholeNetwork sheets questions codes = whole 6 sheets && wholeCells questions codes
 
 -- .. and members of combinations
 abbrev pub wholeInstance : ℕ → ℕ → ℕ → ℕ → Bool

@@ -1,19 +1,26 @@
 // Tests that lists of bytes are cut between entries. A relation record takes six bytes, a value four, a live word
 // eight, any other entry two.
 ghost use mathlib.Core.Path.{_≡_};
-ghost use Rattle.encoding.specs.Whole.{wholeNetwork, wholeInstance, wholeChange};
+ghost use Rattle.encoding.specs.Whole.{wholeCells, wholeNetwork, wholeInstance, wholeChange};
 
-// Tests the three lists of a network, by their lengths in bytes.
+// Tests a list of variables and a list of values, by their lengths in bytes.
+pub fn cells_whole(questions: usize, codes: usize) -> bool
+    ensures { λ b. ⌜ b ≡ wholeCells questions codes ⌝ }
+{
+    if questions % 2 != 0 {
+        return false;
+    }
+    codes % 4 == 0
+}
+
+// Tests the three lists of a network.
 pub fn network_whole(sheets: usize, questions: usize, codes: usize) -> bool
     ensures { λ b. ⌜ b ≡ wholeNetwork sheets questions codes ⌝ }
 {
     if sheets % 6 != 0 {
         return false;
     }
-    if questions % 2 != 0 {
-        return false;
-    }
-    codes % 4 == 0
+    cells_whole(questions, codes)
 }
 
 // Tests the lists of a network and the list of its combinations.
@@ -26,7 +33,7 @@ pub fn instance_whole(sheets: usize, questions: usize, codes: usize, combination
     combinations % 2 == 0
 }
 
-// Tests every list of a change call but the ids.
+// Tests every list of a change call but the change's own.
 pub fn change_whole(
     sheets: usize,
     questions: usize,

@@ -1,10 +1,10 @@
-// The five calls over a list of relation records, exported for C programs with typed arrays. include/wakhvosi.h says what each
+// The calls over a list of relation records, exported for C programs with typed arrays. include/wakhvosi.h says what each
 // means there. A change call takes the records apart, works on their parts, and writes the live counts back.
 ghost use mathlib.Core.Path.{_≡_};
 ghost use Prim.Native.Nat.{min, _<_};
 ghost use lib.ListN.{getD};
 ghost use Rattle.model.specs.Limits.{maxRelations};
-ghost use Rattle.model.specs.Request.{filter, withdraw, choose};
+ghost use Rattle.model.specs.Request.{filter, withdraw, choose, chooseSeveral};
 ghost use Rattle.model.specs.Reply.{Tested, Compared};
 ghost use Rattle.layout.specs.Loan.{entry};
 ghost use Rattle.encoding.specs.Packed.{pairIn};
@@ -162,6 +162,36 @@ pub extern "C" fn wakhvosi_choose_records(
 {
     let parts = parts_of(relations);
     let done = packed::choose(parts, variables, values, m, members, words, supports, x, v);
+    write_back(relations, done)
+}
+
+// Withdraws every tuple that has, under a variable of xs, another value than vs has in the same place, and filters what then lives.
+#[no_mangle]
+pub extern "C" fn wakhvosi_choose_several_records(
+    relations: &mut [Record],
+    variables: &[u16],
+    values: &[Value],
+    m: u16,
+    members: &[u16],
+    words: &mut [u64],
+    supports: &mut [u16],
+    xs: &[u16],
+    vs: &[Value],
+) -> u64
+    ensures { λ n. ⌜ RepliesIn n (entryInstance relations variables values m members) relations words supports (chooseSeveral (entry xs) (entry vs)) ⌝ }
+{
+    let parts = parts_of(relations);
+    let done = packed::choose_several(
+        parts,
+        variables,
+        values,
+        m,
+        members,
+        words,
+        supports,
+        xs,
+        vs,
+    );
     write_back(relations, done)
 }
 

@@ -1,7 +1,7 @@
-// The five calls on the records' parts, with their answers as one number.
+// The calls on the records' parts, with their answers as one number.
 ghost use mathlib.Core.Path.{_≡_};
 ghost use Prim.Native.Nat.{_<_};
-ghost use Rattle.model.specs.Request.{filter, withdraw, choose};
+ghost use Rattle.model.specs.Request.{filter, withdraw, choose, chooseSeveral};
 ghost use Rattle.model.specs.Reply.{answerNumbers, Tested, Compared};
 ghost use Rattle.layout.specs.Loan.{entry};
 ghost use Rattle.layout.specs.Shape.{networkOf, instanceOf};
@@ -127,6 +127,38 @@ pub fn choose(
         &mut live[..n],
         x,
         v,
+    );
+    done(a, n, live)
+}
+
+// Withdraws every tuple that has, under a variable of xs, another value than vs has in the same place, and filters what then lives.
+pub fn choose_several(
+    parts: Parts,
+    variables: &[u16],
+    values: &[Value],
+    m: u16,
+    members: &[u16],
+    words: &mut [u64],
+    supports: &mut [u16],
+    xs: &[u16],
+    vs: &[Value],
+) -> Done
+    ensures { λ d. ⌜ RepliesDone d parts (instanceOf (parts .shape) (entry variables) (entry values) m (entry members)) words supports (chooseSeveral (entry xs) (entry vs)) ⌝ }
+{
+    let shape = parts.shape;
+    let n = at_most_64(shape.count);
+    let mut live = parts.live;
+    let a = changes::choose_several(
+        shape,
+        variables,
+        values,
+        m,
+        members,
+        words,
+        supports,
+        &mut live[..n],
+        xs,
+        vs,
     );
     done(a, n, live)
 }

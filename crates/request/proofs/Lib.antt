@@ -3,3 +3,4 @@ pub mod Openings
 pub mod Plans
 pub mod Removed
 pub mod Unlike
+pub mod Pairs

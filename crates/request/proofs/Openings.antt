@@ -55,7 +55,7 @@ testFaults-on I ws = refl
 
 -- ---- The change's own fault
 
-ltb-not-leb : (n b : ℕ) → ltb n b ≡ not (leb b n)
+pub ltb-not-leb : (n b : ℕ) → ltb n b ≡ not (leb b n)
 ltb-not-leb n b = go (ltb n b) refl
   where
     go : (x : Bool) → ltb n b ≡ x → x ≡ not (leb b n)

@@ -1,7 +1,7 @@
 -- Which tuples choose removes: of one relation those with another value in the variable's column, and of all relations
 -- those of one after the other.
 -- From the laws of places and columns, and what the model says of a tuple by its relation and index.
-use mathlib.Core.Path.{_≡_, refl, sym, ap, _∙_}
+use mathlib.Core.Path.{_≡_, refl, sym, ap, subst, _∙_}
 use mathlib.Core.Bool.{Bool, true, false, not, _&&_, _||_, and-true, and-false, or-false, or-assoc}
 use mathlib.Core.List.{List}
 use Prim.Native.Nat.{ℕ, _+_, _-_, _*_, _≤_, _<_}
@@ -15,14 +15,14 @@ use borrow.Author.Tests.{le-leb, lt-leb, lt-ltb, le-ltb, eq-eqb, ne-eqb}
 use Rattle.model.specs.Limits.{maxRelations, variableCount}
 use Rattle.model.specs.Lists.{all, pairwise}
 use Rattle.model.specs.Network.{Network, width, size, total, tuplesIn, firstId, scopeOf}
-use Rattle.model.specs.Agreement.{fit}
+use Rattle.model.specs.Agreement.{isAny, fit}
 use Rattle.model.specs.LiveWords.{isLive, raised}
 use Rattle.model.specs.Request.{choose, removes}
 use Rattle.model.specs.Fault.{different}
 use Rattle.model.proofs.Bools.{and-right}
 use Rattle.model.proofs.Network.{before-past}
 use Rattle.model.proofs.LiveWords.{none-isLive, raised-isLive}
-use Rattle.model.proofs.Request.{choose-without, choose-at}
+use Rattle.model.proofs.Request.{choose-without, choose-at, choose-any}
 use Rattle.layout.specs.Starts.{tupleStart, valueStart, recordsIn}
 use Rattle.layout.specs.Columns.{columnOf}
 use Rattle.layout.specs.Setting.{Lists, networkIn, SoundLists}
@@ -188,41 +188,64 @@ module _ {L : Lists} (laid : SoundLists L) (r : ℕ) (h : r < maxRelations) wher
 
 -- ---- One relation after the other
 
--- The words hold what the relations before r add.
-pub record Unlike (L : Lists) (x v : ℕ) (ws : List ℕ) (r : ℕ) : Type 0 where
+-- The words are those of the start with what the relations before r add.
+pub record Unlike (L : Lists) (x v : ℕ) (ws₀ ws : List ℕ) (r : ℕ) : Type 0 where
   pub few : r ≤ length (recordsIn (L .starts))
-  pub full : WordArray ws
-  pub holds : Holds ws (λ (g : ℕ). between 0 (tupleStart (L .starts) r) g && removes (networkIn L) (choose x v) g)
+  pub added : Added ws₀ ws (λ (g : ℕ). between 0 (tupleStart (L .starts) r) g && removes (networkIn L) (choose x v) g)
 
-module _ {L : Lists} (laid : SoundLists L) (x v : ℕ) where
-  pub unlike-start : Unlike L x v (replicate 64 0) 0
-  unlike-start =
+module _ {L : Lists} (laid : SoundLists L) (x v : ℕ) (ws₀ : List ℕ) where
+  pub unlike-start : WordArray ws₀ → Unlike L x v ws₀ ws₀ 0
+  unlike-start full =
+      let e : 0 ≡ tupleStart (L .starts) 0 = sym (tuple-start (laid .framed) 0 (omega arith)) in
       record {
         few = omega arith;
-        full = blank-full;
-        holds =
-            λ g h.
-            none-isLive 64 g
-            ∙ sym (ap (λ (y : Bool). y && removes (networkIn L) (choose x v) g) (between-above 0 (tupleStart (L .starts) 0) g (omega (arith, tuple-start (laid .framed) 0 (omega arith)))));
+        added = subst (λ (n : ℕ). Added ws₀ ws₀ (λ (g : ℕ). between 0 n g && removes (networkIn L) (choose x v) g)) e (added-none (removes (networkIn L) (choose x v)) ws₀ 0 full);
       }
 
-  module _ (ws : List ℕ) (r : ℕ) (u : Unlike L x v ws r) where
-    pub unlike-next : (us : List ℕ) → r < length (recordsIn (L .starts)) → Added ws us (removedIn L r (choose x v)) → Unlike L x v us (r + 1)
-    unlike-next us l added =
+  module _ (ws : List ℕ) (r : ℕ) (u : Unlike L x v ws₀ ws r) where
+    pub unlike-next : (us : List ℕ) → r < length (recordsIn (L .starts)) → Added ws us (removedIn L r (choose x v)) → Unlike L x v ws₀ us (r + 1)
+    unlike-next us l more =
         record {
           few = omega arith;
-          full = added .full;
-          holds =
-              λ g k.
-              added .bits g k
-              ∙ ap (λ (y : Bool). y || removedIn L r (choose x v) g) (u .holds g k)
-              ∙ span-join (removes (networkIn L) (choose x v)) 0 (tupleStart (L .starts) r) (tupleStart (L .starts) (r + 1)) g (omega arith) (ids-rise (laid .framed) r (omega (arith, relations-few (laid .framed))));
+          added = record {
+            full = more .full;
+            bits =
+                λ g k.
+                more .bits g k
+                ∙ ap (λ (y : Bool). y || removedIn L r (choose x v) g) (u .added .bits g k)
+                ∙ or-assoc (isLive ws₀ g) _ (removedIn L r (choose x v) g)
+                ∙ ap (λ (y : Bool). isLive ws₀ g || y)
+                (span-join (removes (networkIn L) (choose x v)) 0 (tupleStart (L .starts) r) (tupleStart (L .starts) (r + 1)) g (omega arith) (ids-rise (laid .framed) r (omega (arith, relations-few (laid .framed)))));
+          };
         }
 
-    pub unlike-end : length (recordsIn (L .starts)) ≤ r → Holds ws (removedBy (networkIn L) (choose x v))
-    unlike-end l g k =
+    pub unlike-end : length (recordsIn (L .starts)) ≤ r → Added ws₀ ws (removedBy (networkIn L) (choose x v))
+    unlike-end l =
         let N = networkIn L in
         let e : tupleStart (L .starts) r ≡ total N = tuple-start (laid .framed) r (omega (arith, u .few, relations-few (laid .framed))) ∙ before-past tuplesIn (recordsIn (L .starts)) r l in
-        u .holds g k
-        ∙ ap (λ (n : ℕ). between 0 n g && removes N (choose x v) g) e
-        ∙ ap (λ (y : Bool). y && ltb g (total N) && removes N (choose x v) g) (le-leb 0 g (omega arith))
+        record {
+          full = u .added .full;
+          bits =
+              λ g k.
+              u .added .bits g k
+              ∙ ap (λ (n : ℕ). isLive ws₀ g || (between 0 n g && removes N (choose x v) g)) e
+              ∙ ap (λ (y : Bool). isLive ws₀ g || (y && ltb g (total N) && removes N (choose x v) g)) (le-leb 0 g (omega arith));
+        }
+
+  -- any adds none
+  pub unlike-any : WordArray ws₀ → isAny v ≡ true → Added ws₀ ws₀ (removedBy (networkIn L) (choose x v))
+  unlike-any full e =
+      let N = networkIn L in
+      record {
+        full = full;
+        bits =
+            λ g k.
+            sym
+            (ap (λ (y : Bool). isLive ws₀ g || (ltb g (total N) && y)) (choose-any N x v g e)
+            ∙ ap (λ (y : Bool). isLive ws₀ g || y) (and-false (ltb g (total N)))
+            ∙ or-false (isLive ws₀ g));
+      }
+
+-- what is added to no id at all is all that is held
+pub added-holds : (ws : List ℕ) (p : ℕ → Bool) → Added (replicate 64 0) ws p → Holds ws p
+added-holds ws p added g h = added .bits g h ∙ ap (λ (y : Bool). y || p g) (none-isLive 64 g)

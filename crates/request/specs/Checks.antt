@@ -3,7 +3,7 @@ use mathlib.Core.Path.{_≡_}
 use mathlib.Core.Bool.{not}
 use mathlib.Core.List.{List, [], _∷_, _++_}
 use Prim.Native.Nat.{ℕ}
-use lib.Dec.{ltb}
+use lib.Dec.{ltb, eqb}
 use Rattle.model.specs.declared.Relation.{Relation}
 use Rattle.model.specs.Limits.{variableCount}
 use Rattle.model.specs.Network.{Network}
@@ -38,3 +38,8 @@ idsRefusal tuples bound = refusal (firstFault ((13, ltb tuples bound) ∷ []))
 -- the number of the fault 14, or 0: x is no variable
 abbrev pub variableRefusal : ℕ → ℕ
 variableRefusal x = refusal (firstFault ((14, not (ltb x variableCount)) ∷ []))
+
+-- the number of the faults 19 and 14, or 0: so many variables and values are chosen, and bound is the least number above all variables
+abbrev pub choicesRefusal : ℕ → ℕ → ℕ → ℕ
+choicesRefusal variables values bound =
+    refusal (firstFault ((19, not (eqb variables values)) ∷ (14, ltb variableCount bound) ∷ []))

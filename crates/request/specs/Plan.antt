@@ -6,7 +6,7 @@ use Prim.Native.Nat.{ℕ, _*_, _≤_}
 use Rattle.model.specs.Limits.{wordBits, maxSupportNumbers}
 use Rattle.model.specs.Network.{total}
 use Rattle.model.specs.Consistency.{needed}
-use Rattle.model.specs.Request.{Change, filter, withdraw, Instance}
+use Rattle.model.specs.Request.{Change, filter, withdraw, chooseSeveral, Instance}
 use Rattle.model.specs.Fault.{firstFault, refusal, faultsOn}
 use Rattle.live.specs.Words.{WordArray}
 use Rattle.layout.specs.declared.Shape.{Shape}
@@ -15,8 +15,10 @@ use Rattle.layout.specs.Setting.{Lists, Setting, network, instanceIn, listed, S
 use Rattle.request.specs.declared.checks.Opening.{Opening}
 use Rattle.request.specs.declared.plan.Plan.{Plan}
 use Rattle.request.specs.declared.removal.Ids.{Ids}
+use Rattle.request.specs.declared.choices.Choices.{Choices}
 use Rattle.request.specs.Checks.{Opened}
 use Rattle.request.specs.Removal.{IdsOf, Holds, removedBy}
+use Rattle.request.specs.Choices.{ChoicesOf}
 
 -- the lists of an instance, with these starts
 abbrev pub settingOf : List ℕ → Instance → Setting
@@ -72,3 +74,7 @@ PlansOn p o variables values change =
     (S : Shape) (m : ℕ) (members : List ℕ) (words numbers : ℕ) (wrong : Bool) →
     Opens o S variables values m members words numbers wrong →
     Planned p (instanceOf S variables values m members) words numbers wrong change
+
+-- .. of the choice of all pairs whose choices these are
+abbrev pub PlansChoices : Plan → Opening → List ℕ → List ℕ → Choices → Type 0
+PlansChoices p o variables values r = (xs vs : List ℕ) → ChoicesOf r xs vs → PlansOn p o variables values (chooseSeveral xs vs)

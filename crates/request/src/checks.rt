@@ -3,7 +3,7 @@ ghost use mathlib.Core.Path.{_≡_};
 ghost use Rattle.model.specs.Fault.{networkFaults, instanceFaults, listFaults};
 ghost use Rattle.layout.specs.Loan.{entry};
 ghost use Rattle.layout.specs.Shape.{relationsOf, networkOf, instanceOf};
-ghost use Rattle.request.specs.Checks.{Opened, testFaultsOn, idsRefusal, variableRefusal};
+ghost use Rattle.request.specs.Checks.{Opened, testFaultsOn, idsRefusal, variableRefusal, choicesRefusal};
 use combination::needed;
 use combination::supports_fault;
 use combination::words_fault;
@@ -115,6 +115,19 @@ pub fn variable_fault(x: u16) -> u8
     ensures { λ f. ⌜ f ≡ variableRefusal x ⌝ }
 {
     if VARIABLES <= wide(x) {
+        return refusal::VARIABLE;
+    }
+    0
+}
+
+// 19 if the variables and the values chosen are not as many, or 14 if the bound says that one is no variable, or 0.
+pub fn choices_fault(variables: usize, values: usize, bound: usize) -> u8
+    ensures { λ f. ⌜ f ≡ choicesRefusal variables values bound ⌝ }
+{
+    if variables != values {
+        return refusal::PAIRS;
+    }
+    if VARIABLES < bound {
         return refusal::VARIABLE;
     }
     0

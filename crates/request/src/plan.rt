@@ -3,10 +3,13 @@ ghost use mathlib.Core.Path.{_≡_};
 ghost use Rattle.model.specs.Request.{filter, choose};
 ghost use Rattle.layout.specs.Loan.{entry};
 ghost use Rattle.layout.specs.Setting.{SoundLists};
-ghost use Rattle.request.specs.Plan.{listsFrom, PlansFrom, PlansIds, PlansOn};
+ghost use Rattle.request.specs.Plan.{listsFrom, PlansFrom, PlansIds, PlansOn, PlansChoices};
 use super::checks::Opening;
+use super::checks::choices_fault;
 use super::checks::ids_fault;
 use super::checks::variable_fault;
+use super::choices::Choices;
+use super::choices::unlike_any;
 use super::removal::Ids;
 use super::removal::unlike;
 use layout::Starts;
@@ -75,6 +78,37 @@ pub fn plan_choose(opening: Opening, variables: &[u16], values: &[Value], x: u16
     }
     let fault = variable_fault(x);
     let removed = unlike(variables, values, &starts, x, v);
+    Plan {
+        fault,
+        starts,
+        removed,
+    }
+}
+
+// Choose several, of the pairs gathered.
+pub fn plan_choose_several(
+    opening: Opening,
+    variables: &[u16],
+    values: &[Value],
+    choices: Choices,
+) -> Plan
+    requires { ⌜ (opening .fault ≡ 0 → SoundLists (listsFrom opening (now variables) (now values))) ⌝ }
+    ensures { λ p. ⌜ PlansChoices p opening (entry variables) (entry values) choices ⌝ }
+{
+    let fault = opening.fault;
+    let starts = opening.starts;
+    if fault != 0 {
+        let removed = [0u64; WORDS];
+        return Plan {
+            fault,
+            starts,
+            removed,
+        };
+    }
+    let firsts = choices.firsts;
+    let seconds = choices.seconds;
+    let fault = choices_fault(choices.variables, choices.values, choices.bound);
+    let removed = unlike_any(variables, values, &starts, &firsts, &seconds);
     Plan {
         fault,
         starts,

@@ -12,6 +12,7 @@ ghost use Rattle.request.specs.Removal.{added, above, IdsOf, Holds, remo
 use layout::Starts;
 use layout::column_of;
 use layout::fit;
+use layout::is_any;
 use layout::relation_count;
 use layout::tuple_start;
 use layout::value_start;
@@ -89,18 +90,36 @@ fn unlike_in(
     }
 }
 
+// The ids of all tuples, live or dead, with another value than v under variable x are set, and every other bit stays.
+pub fn add_unlike(
+    variables: &[u16],
+    values: &[Value],
+    starts: &Starts,
+    x: u16,
+    v: Value,
+    removed: &mut [u64],
+)
+    requires { ⌜ SoundLists (lists now variables values starts) × WordArray (now removed) ⌝ }
+    ensures { λ _. ⌜ Added (entry removed) (exit removed) (removedBy (networkIn (lists entry variables values starts)) (choose x v)) ⌝ }
+{
+    if is_any(v) {
+        return;
+    }
+    let count = relation_count(starts);
+    let mut r = 0;
+    while r < count {
+        unlike_in(variables, values, starts, r, x, v, removed);
+        r += 1;
+    }
+}
+
 // The ids of all tuples, live or dead, with another value than v under variable x.
 pub fn unlike(variables: &[u16], values: &[Value], starts: &Starts, x: u16, v: Value) -> Words
     requires { ⌜ SoundLists (lists now variables values starts) ⌝ }
     ensures { λ removed. ⌜ Holds removed (removedBy (networkIn (lists entry variables values starts)) (choose x v)) ⌝ }
 {
-    let count = relation_count(starts);
     let mut removed = [0u64; WORDS];
-    let mut r = 0;
-    while r < count {
-        unlike_in(variables, values, starts, r, x, v, &mut removed);
-        r += 1;
-    }
+    add_unlike(variables, values, starts, x, v, &mut removed);
     removed
 }
 

@@ -1,5 +1,6 @@
 // The calls on plain lists, exported for the test driver of tests/c.
 use changes::choose;
+use changes::choose_several;
 use changes::filter;
 use changes::withdraw;
 use layout::Shape;
@@ -119,6 +120,36 @@ pub extern "C" fn plain_choose(
         counts,
         x,
         v,
+    );
+    put(answer, out);
+}
+
+// The choices are variables and their values.
+#[no_mangle]
+pub extern "C" fn plain_choose_several(
+    records: &[u16],
+    variables: &[u16],
+    values: &[Value],
+    m: u16,
+    members: &[u16],
+    words: &mut [u64],
+    supports: &mut [u16],
+    counts: &mut [u16],
+    xs: &[u16],
+    vs: &[Value],
+    out: &mut [u16; 5],
+) {
+    let answer = choose_several(
+        shape_of(records),
+        variables,
+        values,
+        m,
+        members,
+        words,
+        supports,
+        counts,
+        xs,
+        vs,
     );
     put(answer, out);
 }

@@ -1,5 +1,6 @@
-// Document 01's examples P1 to P9, and test and compare beside them, through the calls on plain lists.
+// Document 01's examples P1 to P9, and S1 of card 7, test and compare beside them, through the calls on plain lists.
 use changes::choose;
+use changes::choose_several;
 use changes::filter;
 use changes::withdraw;
 use consistency::test;
@@ -212,6 +213,27 @@ fn book_a() {
     chosen(&variables, &values, &mut words, &mut supports, &mut counts);
 }
 
+// S1: fresh A with value 2 chosen under variable 1 and 6 under variable 2.
+fn chosen_together() {
+    let mut words = [127u64; 1];
+    let mut supports = [7u16; 40];
+    let mut counts = [3u16, 2, 2];
+    let s1 = choose_several(
+        triangle(3, 2, 2),
+        &[0u16, 1, 1, 2, 2, 0],
+        &[1u32, 1, 1, 2, 2, 2, 1, 5, 2, 6, 5, 1, 6, 1],
+        2,
+        &[0u16, 1, 0, 2, 1, 2],
+        &mut words,
+        &mut supports,
+        &mut counts,
+        &[1u16, 2],
+        &[2u32, 6],
+    );
+    say_answer(b"S1: ", s1, words[0]);
+    say_counts(counts[0], counts[1], counts[2]);
+}
+
 // P6 and P7.
 fn triples() {
     let shape = triangle(2, 2, 2);
@@ -275,6 +297,7 @@ fn empty_sheet() {
 
 fn main() {
     book_a();
+    chosen_together();
     triples();
     empty_sheet();
 }

@@ -89,6 +89,10 @@ pub entries16-at : (bs : List ℕ) (i : ℕ) → i < length bs / 2 → getD (ent
 unfolding entries16
 entries16-at bs i h = entries-at 2 (length bs / 2) bs i h
 
+pub entries32-at : (bs : List ℕ) (i : ℕ) → i < length bs / 4 → getD (entries32 bs) i 0 ≡ entryAt 4 bs i
+unfolding entries32
+entries32-at bs i h = entries-at 4 (length bs / 4) bs i h
+
 pub entries-next : (k n : ℕ) (bs : List ℕ) → entries k (n + 1) bs ≡ entries k n bs ++ (entryAt k bs n ∷ [])
 unfolding entryAt
 entries-next k zero bs = rw mul-zero

@@ -23,7 +23,7 @@ pub fn u16_at(s: &[u8], i: usize) -> u16
 }
 
 // Entry i of a list of 32-bit entries.
-fn u32_at(s: &[u8], i: usize) -> u32
+pub fn u32_at(s: &[u8], i: usize) -> u32
     requires { ⌜ 4 * i + 4 ≤ length (now s) ⌝ }
     ensures { λ x. ⌜ x ≡ entryAt 4 (now (s .entry)) i ⌝ }
 {

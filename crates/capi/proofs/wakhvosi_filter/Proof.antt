@@ -1,4 +1,4 @@
--- `wakhvosi_filter` makes its call, with no ids. From what `change_call` ensures.
+-- `wakhvosi_filter` makes its call, with no lists of its own. From what `change_call` ensures.
 use mathlib.Core.Path.{refl}
 use Rattle.byte_calls.specs.Call.{changeIn}
 use borrow.Author.Needs.{needs}
@@ -17,7 +17,7 @@ pub wakhvosi-filter-spec : {M : Type 1} → statement M
 wakhvosi-filter-spec =
     tie.close
     (tie.spec
-    (λ c. search needs)
+    (λ c. search needs) (λ c. search needs)
     change-call-requires
     (λ c. search needs) (λ c. search needs) (λ c. search needs)
     returns)

@@ -20,7 +20,7 @@ returns c =
 
 change-call-requires : tie.Need-change-call-requires
 unfolding changeIn
-change-call-requires c κs = eq-eqb _ _ (c .before .before .before .if1 .left)
+change-call-requires c κs = eq-eqb _ _ (c .before .before .before .before .if1 .left)
 
 returns-2 : tie.Need-returns-2
 unfolding changeIn
@@ -31,6 +31,7 @@ wakhvosi-withdraw-spec =
     tie.close
     (tie.spec
     returns
+    (λ c. search needs)
     change-call-requires
     (λ c. search needs) (λ c. search needs) (λ c. search needs)
     returns-2)

@@ -17,13 +17,13 @@ use Rattle.byte_calls.proofs.change.change_counted.Statement.{statement
 use Rattle.byte_calls.proofs.change.change_counted.Tie as tie
 
 abbrev start : tie.After-counted → tie.Start
-start c = c .before .before .before .before .before .before .before .before .before .before .before .before
+start c = c .before .before .before .before .before .before .before .before .before .before .before .before .before
 
 abbrev instance : tie.Start → Shape → Instance
 instance s S = let a = s .args in instanceOf S (a .variables .now) (a .values .now) (a .m) (a .members .now)
 
 abbrev asked : tie.Start → Change
-asked s = decodedChange (changeIn (s .args .call) (s .args .ids .now))
+asked s = decodedChange (changeIn (s .args .call) (s .args .listed .now) (s .args .chosen .now))
 
 abbrev replied : tie.Start → Shape → Reply
 replied s S = let a = s .args in reply (requestIn (instance s S) (a .sheets .now) (a .marks .now) (a .supports .now) (asked s))
@@ -95,7 +95,7 @@ pub change-counted-spec : {M : Type 1} → statement M
 change-counted-spec =
     tie.close
     (tie.spec
-    (λ c κs. λ _. c .before .before .before .before .before .before .before .before .before .before .before .pre .decoded .covered)
+    (λ c κs. λ _. c .before .before .before .before .before .before .before .before .before .before .before .before .pre .decoded .covered)
     plan-requires
     (λ c κs. search needs) (λ c. search needs) (λ c. search needs)
     returns

@@ -12,13 +12,13 @@ use Rattle.byte_calls.proofs.change.change_decoded.Statement.{statement
 use Rattle.byte_calls.proofs.change.change_decoded.Tie as tie
 
 abbrev start : tie.After-checked → tie.Start
-start c = c .before .before .before .before .before .before .before .before
+start c = c .before .before .before .before .before .before .before .before .before
 
 abbrev instance : tie.Start → Instance
 instance s = let a = s .args in instanceOf (a .shape) (a .variables .now) (a .values .now) (a .m) (a .members .now)
 
 abbrev asked : tie.Start → Change
-asked s = decodedChange (changeIn (s .args .call) (s .args .ids .now))
+asked s = decodedChange (changeIn (s .args .call) (s .args .listed .now) (s .args .chosen .now))
 
 returns : tie.Need-returns
 returns c =

@@ -25,7 +25,7 @@ use Rattle.byte_calls.proofs.change.change_opened.Tie as tie
 
 module _ (c : tie.After-words-for) where
   abbrev start : tie.Start
-  start = c .before .before .before .before .before .before .before .before .before .before .before
+  start = c .before .before .before .before .before .before .before .before .before .before .before .before
 
   abbrev marks : List ℕ
   marks = start .args .marks .now
@@ -109,7 +109,7 @@ change-counted-requires c κs =
     }
 
 returns : tie.Need-returns
-returns c = let made = c .before .before .before .before .before .before .before .before in let s = made .before .before .before .before .before .before .before .before .before .before .before .before .before .before .before .before .before .before .before .before .before .before .before in made .change-counted .ensures (s .args .shape) (s .pre .opened)
+returns c = let made = c .before .before .before .before .before .before .before .before in let s = made .before .before .before .before .before .before .before .before .before .before .before .before .before .before .before .before .before .before .before .before .before .before .before .before in made .change-counted .ensures (s .args .shape) (s .pre .opened)
 
 pub change-opened-spec : {M : Type 1} → statement M
 change-opened-spec =
