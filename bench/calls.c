@@ -68,6 +68,9 @@ static void *nothing(void *arg) { return arg; }
 static void *call_filter(void *arg) { return wakhvosi_filter(LENT), arg; }
 static void *call_withdraw(void *arg) { return wakhvosi_withdraw(LENT, BYTES(&row, 1)), arg; }
 static void *call_choose(void *arg) { return wakhvosi_choose(LENT, 2, 1), arg; }
+static const uint16_t chosen_questions[] = {1, 2};
+static const uint32_t chosen_codes[] = {1, 1};
+static void *call_several(void *arg) { return wakhvosi_choose_several(LENT, BYTES(chosen_questions, 2), BYTES(chosen_codes, 2)), arg; }
 static void *call_test(void *arg) { return wakhvosi_test(GIVEN, (uint16_t)n.m, BYTES(n.members, n.pairs), (uint8_t *)marks, sizeof marks), arg; }
 static void *call_compare(void *arg) { return wakhvosi_compare(GIVEN, 0, 1), arg; }
 
@@ -89,13 +92,13 @@ static size_t stack_of(void *(*call)(void *)) {
 }
 
 static int stacks(void) {
-    static void *(*const calls[])(void *) = {call_filter, call_withdraw, call_choose, call_test, call_compare};
+    static void *(*const calls[])(void *) = {call_filter, call_withdraw, call_choose, call_several, call_test, call_compare};
     size_t most = 0, base = stack_of(nothing);
     for (size_t k = 0; k < growth_count; k++) {
         if (growth[k].tuples * growth[k].relations < 4000) continue;
         draw_lists(growth + k);
         printf("m = %zu, 4000 tuples:", n.m);
-        for (int i = 0; i < 5; i++) {
+        for (size_t i = 0; i < sizeof calls / sizeof *calls; i++) {
             size_t used = stack_of(calls[i]) - base;
             printf(" %zu", used);
             if (most < used) most = used;
@@ -111,6 +114,6 @@ int main(void) {
     for (size_t i = 0; i < suite_count; i++)
         if (suite[i].shape == NEIGHBOURS && suite[i].factor == 1) cost(suite + i);
     for (size_t i = 0; i < growth_count; i++) cost(growth + i);
-    puts("stack of filter, withdraw, choose, test, compare:");
+    puts("stack of filter, withdraw, choose, choose several, test, compare:");
     return stacks();
 }

@@ -94,6 +94,15 @@ static uint64_t choose(uint16_t question, uint32_t code) {
                            sizeof combinations, marks, sizeof marks, supports, sizeof supports, question, code);
 }
 
+static uint64_t choose_both(const uint16_t chosen_questions[2], const uint32_t chosen_codes[2]) {
+    uint8_t question_bytes[4], code_bytes[8];
+    encode(question_bytes, chosen_questions, 2);
+    encode_codes(code_bytes, chosen_codes, 2);
+    return wakhvosi_choose_several(sheets, sizeof sheets, questions, sizeof questions, codes, sizeof codes, M, combinations,
+                                   sizeof combinations, marks, sizeof marks, supports, sizeof supports, question_bytes,
+                                   sizeof question_bytes, code_bytes, sizeof code_bytes);
+}
+
 static uint64_t test(void) {
     return wakhvosi_test(sheets, sizeof sheets, questions, sizeof questions, codes, sizeof codes, M, combinations,
                          sizeof combinations, marks, sizeof marks);
@@ -135,6 +144,8 @@ int main(void) {
 
     all_living();
     show("choose code 6 for question 2 on the fresh book", choose(2, 6));
+    all_living();
+    show("choose code 2 for question 1 and 6 for question 2, at once", choose_both((uint16_t[]){1, 2}, (uint32_t[]){2, 6}));
     show_comparison("compare rows 0 and 3", compare(0, 3));
     show_comparison("compare rows 0 and 4", compare(0, 4));
     show_comparison("compare rows 0 and 2", compare(0, 2));

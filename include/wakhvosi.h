@@ -13,6 +13,8 @@
  *                 and 1 means living
  *   supports      2 bytes for each number: by combination, member, that member's row, then m own numbers
  *   rows          2 bytes for each book number of a row (withdraw)
+ *   chosen_questions, chosen_codes
+ *                 2 bytes for each question and 4 for each code, paired by place (choose several)
  *
  * A row's book number is its number in its sheet, counted from 0, and the rows of all earlier sheets added.
  * Two codes fit if they are equal or one of them is 4,294,967,295, which means any; two rows agree if their codes fit under every
@@ -20,7 +22,7 @@
  * A list may be empty; its pointer is then not read and may be NULL. The lists lent to one call do not overlap, and nothing else
  * writes them while the call runs. A list may have any length: one that is too long is refused like any other fault.
  *
- * What a call writes. An accepted change call (filter, withdraw, choose) leaves in the marks the rows that are left, in the sheets
+ * What a call writes. An accepted change call (filter, withdraw, choose, choose several) leaves in the marks the rows that are left, in the sheets
  * the count of each sheet's rows left, and in the supports each living row's first support, 65,535 m times for a dead row. Marks of
  * row numbers that the book does not have, supports beyond the needed ones, widths and numbers of rows keep their contents. A refused
  * call changes no byte. Test and compare write nothing.
@@ -44,12 +46,13 @@
  *   12  the supports need over 32,768 numbers, or are shorter than needed
  *   18  a sheet's count differs from its marks
  *   13  a book number is not below the number of rows
- *   14  the question chosen is above 63
+ *   19  the questions and the codes chosen are not as many
+ *   14  a question chosen is above 63
  *   23  a code that is to move back is from 65,535 to 4,294,967,294
  *   24  the list that codes are to move to is too short
  *
- * Filter uses 1 to 12 and 18; withdraw adds 13, choose 14; test uses 1 to 11; compare 1 to 6 and 13; widen 1 to 6 and 24; narrow
- * 1 to 6, 23 and 24.
+ * Filter uses 1 to 12 and 18; withdraw adds 13, choose 14, choose several 19 and 14; test uses 1 to 11; compare 1 to 6 and 13; widen 1 to
+ * 6 and 24; narrow 1 to 6, 23 and 24.
  */
 #ifndef WAKHVOSI_H
 #define WAKHVOSI_H
@@ -128,7 +131,7 @@ static inline size_t wakhvosi_supports_bytes(const uint8_t *sheets, size_t sheet
 
 /* ---- Answers */
 
-/* The kind of a change call's answer (filter, withdraw, choose), of test's and of compare's. */
+/* The kind of a change call's answer, of test's and of compare's. */
 enum {
     WAKHVOSI_SETTLED = 0, /* every sheet has a row left */
     WAKHVOSI_EMPTIED = 1, /* a sheet has none: no complete order exists */
@@ -189,6 +192,19 @@ uint64_t wakhvosi_choose(uint8_t *sheets, size_t sheets_bytes,
                          uint8_t *marks, size_t marks_bytes,
                          uint8_t *supports, size_t supports_bytes,
                          uint16_t question, uint32_t code);
+
+/* Choose several: living rows lose their marks that a choice of one of the pairs would strike, then filter, once. It leaves the marks,
+ * supports and counts of choosing the pairs one by one, in any order. Repeats are allowed. Of two different codes for one question,
+ * neither of them any, no row of a sheet asking it is left but with any there. Where both lists are empty it only filters. */
+uint64_t wakhvosi_choose_several(uint8_t *sheets, size_t sheets_bytes,
+                                 const uint8_t *questions, size_t questions_bytes,
+                                 const uint8_t *codes, size_t codes_bytes,
+                                 uint16_t m,
+                                 const uint8_t *combinations, size_t combinations_bytes,
+                                 uint8_t *marks, size_t marks_bytes,
+                                 uint8_t *supports, size_t supports_bytes,
+                                 const uint8_t *chosen_questions, size_t chosen_questions_bytes,
+                                 const uint8_t *chosen_codes, size_t chosen_codes_bytes);
 
 /* ---- Test and compare: the answer has a kind and a subject, which is 0 where test is not refused; its other bits are 0 */
 
@@ -268,6 +284,16 @@ uint64_t wakhvosi_choose_records(wakhvosi_sheet *sheets, size_t sheets_entries,
                                  uint64_t *marks, size_t marks_entries,
                                  uint16_t *supports, size_t supports_entries,
                                  uint16_t question, uint32_t code);
+
+uint64_t wakhvosi_choose_several_records(wakhvosi_sheet *sheets, size_t sheets_entries,
+                                         const uint16_t *questions, size_t questions_entries,
+                                         const uint32_t *codes, size_t codes_entries,
+                                         uint16_t m,
+                                         const uint16_t *combinations, size_t combinations_entries,
+                                         uint64_t *marks, size_t marks_entries,
+                                         uint16_t *supports, size_t supports_entries,
+                                         const uint16_t *chosen_questions, size_t chosen_questions_entries,
+                                         const uint32_t *chosen_codes, size_t chosen_codes_entries);
 
 uint64_t wakhvosi_test_records(const wakhvosi_sheet *sheets, size_t sheets_entries,
                                const uint16_t *questions, size_t questions_entries,

@@ -64,12 +64,14 @@ static list one_code(size_t n, uint32_t x) {
 
 /* ---- Book A */
 
-/* Book A with its pairs, all rows living, nothing to withdraw; question 2 and code 6 to choose, rows 2 and 6 to compare. */
+/* Book A with its pairs, all rows living, nothing to withdraw; question 2 and code 6 to choose, and with them code 2 under question 1;
+ * rows 2 and 6 to compare. */
 static request book_a(void) {
     return (request){FILTER, 2, 2, 6,
                      {[SHEETS] = NUMBERS(2, 3, 3, 2, 2, 2, 2, 2, 2), [QUESTIONS] = NUMBERS(0, 1, 1, 2, 2, 0),
                       [CODES] = THE_CODES(1, 1, 1, 2, 2, 2, 1, 5, 2, 6, 5, 1, 6, 1), [COMBINATIONS] = NUMBERS(0, 1, 0, 2, 1, 2),
-                      [MARKS] = bytes(8, LIVING), [SUPPORTS] = repeated(40, 7), [COUNTS] = new_list(0), [ROWS] = new_list(0)},
+                      [MARKS] = bytes(8, LIVING), [SUPPORTS] = repeated(40, 7), [COUNTS] = new_list(0), [ROWS] = new_list(0),
+                      [CHOSEN_QUESTIONS] = NUMBERS(1, 2), [CHOSEN_CODES] = THE_CODES(2, 6)},
                      BEHIND};
 }
 
@@ -86,7 +88,7 @@ static request small_book(int sheets, unsigned rows, size_t words) {
     return (request){FILTER, 2, 0, 0,
                      {[SHEETS] = sheet, [QUESTIONS] = repeated((size_t)sheets, 0), [CODES] = one_code(rows, 4),
                       [COMBINATIONS] = new_list(0), [MARKS] = bytes(8 * words, LIVING), [SUPPORTS] = new_list(0),
-                      [COUNTS] = new_list(0), [ROWS] = new_list(0)},
+                      [COUNTS] = new_list(0), [ROWS] = new_list(0), [CHOSEN_QUESTIONS] = new_list(0), [CHOSEN_CODES] = new_list(0)},
                      BEHIND};
 }
 
@@ -216,13 +218,51 @@ static void wide_codes(void) {
     }
 }
 
+/* Book A with these pairs to choose. */
+static request a_choosing(list chosen_questions, list chosen_codes) {
+    request q = book_a_with(CHOSEN_QUESTIONS, chosen_questions);
+    free(q.lists[CHOSEN_CODES].at), q.lists[CHOSEN_CODES] = chosen_codes;
+    return q;
+}
+
+static void several(void) {
+    leaves(book_a(), CHOOSE_SEVERAL, counted(0, 64, 3, 3, 1), &without_5, "2 under question 1 and 6 under question 2");
+    leaves(a_choosing(NUMBERS(2, 1), THE_CODES(6, 2)), CHOOSE_SEVERAL, counted(0, 64, 3, 3, 1), &without_5, "the other way round");
+    leaves(a_choosing(NUMBERS(2), THE_CODES(6)), CHOOSE_SEVERAL, counted(0, 64, 3, 2, 2), &without_5, "one pair");
+    leaves(a_choosing(new_list(0), new_list(0)), CHOOSE_SEVERAL, counted(0, 64, 6, 0, 1), &filtered, "no pair");
+    leaves(a_choosing(NUMBERS(1, 1), THE_CODES(1, 2)), CHOOSE_SEVERAL, counted(1, 0, 0, 5, 2), &nothing, "contrary codes");
+    leaves(a_choosing(NUMBERS(1, 63, 2), THE_CODES(WAKHVOSI_ANY, 9, 6)), CHOOSE_SEVERAL, counted(0, 64, 3, 2, 2), &without_5,
+           "any chosen, and a question that nobody asks");
+    leaves(a_choosing(NUMBERS(1, 2), THE_CODES(2, 65536 + 6)), CHOOSE_SEVERAL, counted(1, 0, 0, 5, 2), &nothing, "65,542 chosen where 6 stands");
+    leaves(a_choosing(repeated(100000, 2), one_code(100000, 6)), CHOOSE_SEVERAL, counted(0, 64, 3, 2, 2), &without_5,
+           "one pair 100,000 times");
+}
+
+/* Number 19, and its place behind 18 and before 14. */
+static void number_19(void) {
+    refused(a_choosing(NUMBERS(1, 2), THE_CODES(2)), CHOOSE_SEVERAL, CHOOSE_SEVERAL, 19, "a code short");
+    refused(a_choosing(NUMBERS(1), THE_CODES(2, 6)), CHOOSE_SEVERAL, CHOOSE_SEVERAL, 19, "a question short");
+    refused(a_choosing(new_list(0), THE_CODES(2)), CHOOSE_SEVERAL, CHOOSE_SEVERAL, 19, "no question");
+    refused(a_choosing(NUMBERS(64), new_list(0)), CHOOSE_SEVERAL, CHOOSE_SEVERAL, 19, "question 64 without a code");
+    refused(a_choosing(repeated(100000, 2), THE_CODES(6)), CHOOSE_SEVERAL, CHOOSE_SEVERAL, 19, "100,000 questions and a code");
+    refused(a_choosing(NUMBERS(2, 64), THE_CODES(6, 6)), CHOOSE_SEVERAL, CHOOSE_SEVERAL, 14, "question 64 chosen");
+    refused(a_choosing(NUMBERS(65535, 2), THE_CODES(6, 6)), CHOOSE_SEVERAL, CHOOSE_SEVERAL, 14, "question 65,535 chosen");
+    request q = counted_a(3, 2, 1, LIVING);
+    q.lists[CHOSEN_CODES].bytes = 4;
+    refused(q, CHOOSE_SEVERAL, CHOOSE_SEVERAL, 18, "and a code short");
+    q = book_a();
+    q.lists[CHOSEN_CODES].bytes = 4, q.lists[SUPPORTS].bytes = 2 * NEEDED - 2;
+    refused(q, CHOOSE_SEVERAL, CHOOSE_SEVERAL, 12, "and a code short");
+}
+
 /* A list that is so many bytes short of a whole number of entries. */
 static void odd_counts(void) {
     static const struct {
         int unit, first, last;
     } of[LISTS] = {[SHEETS] = {6, FILTER, COMPARE}, [QUESTIONS] = {2, FILTER, COMPARE}, [CODES] = {4, FILTER, COMPARE},
-                   [COMBINATIONS] = {2, FILTER, TEST}, [MARKS] = {8, FILTER, TEST}, [SUPPORTS] = {2, FILTER, CHOOSE},
-                   [ROWS] = {2, WITHDRAW, WITHDRAW}};
+                   [COMBINATIONS] = {2, FILTER, TEST}, [MARKS] = {8, FILTER, TEST}, [SUPPORTS] = {2, FILTER, CHOOSE_SEVERAL},
+                   [ROWS] = {2, WITHDRAW, WITHDRAW}, [CHOSEN_QUESTIONS] = {2, CHOOSE_SEVERAL, CHOOSE_SEVERAL},
+                   [CHOSEN_CODES] = {4, CHOOSE_SEVERAL, CHOOSE_SEVERAL}};
     for (int which = 0; which < LISTS; which++)
         for (int less = 1; less < of[which].unit; less++) {
             char what[40];
@@ -258,7 +298,7 @@ static void numbers_7_to_14(void) {
     refused_with(COMBINATIONS, NUMBERS(1, 0), FILTER, TEST, 9, "a combination that falls");
     refused_with(QUESTIONS, NUMBERS(0, 1, 2, 3, 2, 0), FILTER, TEST, 10, "sheets that share no question");
     refused_with(MARKS, new_list(0), FILTER, TEST, 11, "no marks");
-    refused_with(SUPPORTS, repeated(27, 7), FILTER, CHOOSE, 12, "supports short");
+    refused_with(SUPPORTS, repeated(27, 7), FILTER, CHOOSE_SEVERAL, 12, "supports short");
     refused_with(ROWS, NUMBERS(6, 7), WITHDRAW, WITHDRAW, 13, "a missing row");
     q = book_a();
     q.x = 64;
@@ -275,10 +315,10 @@ static void number_18(void) {
     for (size_t i = 0; i < sizeof of / sizeof *of; i++) {
         char what[40];
         snprintf(what, sizeof what, "counts %u, %u, %u", of[i][0], of[i][1], of[i][2]);
-        refused(counted_a(of[i][0], of[i][1], of[i][2], LIVING), FILTER, CHOOSE, 18, what);
+        refused(counted_a(of[i][0], of[i][1], of[i][2], LIVING), FILTER, CHOOSE_SEVERAL, 18, what);
     }
-    refused(counted_a(3, 2, 2, 123), FILTER, CHOOSE, 18, "filtered A, the counts of fresh A");
-    refused(counted_a(2, 2, 2, 127), FILTER, CHOOSE, 18, "fresh A, the counts of filtered A");
+    refused(counted_a(3, 2, 2, 123), FILTER, CHOOSE_SEVERAL, 18, "filtered A, the counts of fresh A");
+    refused(counted_a(2, 2, 2, 127), FILTER, CHOOSE_SEVERAL, 18, "fresh A, the counts of filtered A");
     answers(counted_a(4, 0, 65535, LIVING), TEST, 0, 1, "test of fresh A does not look at counts");
     answers(counted_a(9, 9, 9, 123), TEST, 1, 1, "test of filtered A does not look at counts");
     answers(counted_a(9, 9, 9, LIVING), COMPARE, counted(0, 0, 0, 0, 0), 0, "compare does not look at counts");
@@ -288,13 +328,13 @@ static void number_18(void) {
 static void order_of_18(void) {
     request q = counted_a(3, 2, 1, LIVING);
     q.lists[CODES].bytes--;
-    refused(q, FILTER, CHOOSE, 1, "and a count is untrue");
+    refused(q, FILTER, CHOOSE_SEVERAL, 1, "and a count is untrue");
     q = counted_a(3, 2, 1, LIVING);
     q.lists[SUPPORTS].bytes = 2 * NEEDED - 2;
-    refused(q, FILTER, CHOOSE, 12, "and a count is untrue");
+    refused(q, FILTER, CHOOSE_SEVERAL, 12, "and a count is untrue");
     q = counted_a(3, 2, 1, LIVING);
     q.lists[MARKS].bytes = 0;
-    refused(q, FILTER, CHOOSE, 11, "and a count is untrue");
+    refused(q, FILTER, CHOOSE_SEVERAL, 11, "and a count is untrue");
     q = counted_a(3, 2, 1, LIVING);
     q.x = 64;
     refused(q, CHOOSE, CHOOSE, 18, "and question 64 chosen");
@@ -324,6 +364,7 @@ static void two_bytes(void) {
 static void no_list(void) {
     answers(small_book(1, 1, 1), FILTER, counted(0, 64, 1, 0, 0), 1, "no combinations, no supports");
     answers(small_book(1, 1, 1), WITHDRAW, counted(0, 64, 1, 0, 0), 1, "no rows listed");
+    answers(small_book(1, 1, 1), CHOOSE_SEVERAL, counted(0, 64, 1, 0, 0), 1, "nothing chosen");
     answers(small_book(1, 0, 0), FILTER, counted(1, 0, 0, 0, 0), 0, "a sheet without rows needs no codes and no marks");
     answers(small_book(1, 0, 0), TEST, 1, 0, "nothing living is settled");
     refused(small_book(0, 0, 0), FILTER, COMPARE, 2, "nothing at all");
@@ -356,8 +397,9 @@ static void more_than_needed(void) {
     const struct {
         uint64_t answer;
         const rest *left;
-    } of[] = {{counted(0, 64, 6, 0, 1), &filtered}, {counted(0, 64, 3, 1, 3), &without_5}, {counted(0, 64, 3, 2, 2), &without_5}};
-    for (int call = FILTER; call <= CHOOSE; call++) {
+    } of[] = {{counted(0, 64, 6, 0, 1), &filtered}, {counted(0, 64, 3, 1, 3), &without_5}, {counted(0, 64, 3, 2, 2), &without_5},
+              {counted(0, 64, 3, 3, 1), &without_5}};
+    for (int call = FILTER; call <= CHOOSE_SEVERAL; call++) {
         char name[80];
         snprintf(name, sizeof name, "%s, no word touched but the one needed", call_names[call]);
         leaves(book_a_of(3, NEEDED), call, of[call].answer, of[call].left, name);
@@ -365,7 +407,7 @@ static void more_than_needed(void) {
         leaves(book_a_of(1, NEEDED + 2), call, of[call].answer, of[call].left, name);
     }
     answers(book_a_of(3, 0), TEST, 0, 1, "test, no word touched but the one needed");
-    refused_within(book_a_of(3, NEEDED - 1), FILTER, CHOOSE, 12, 8, "no word touched but the one needed");
+    refused_within(book_a_of(3, NEEDED - 1), FILTER, CHOOSE_SEVERAL, 12, 8, "no word touched but the one needed");
     request q = book_a_of(3, NEEDED);
     put16(q.lists[ROWS], 0, 7);
     refused_within(q, WITHDRAW, WITHDRAW, 13, 8, "no word touched but the one needed");
@@ -373,8 +415,11 @@ static void more_than_needed(void) {
     q.x = 64;
     refused_within(q, CHOOSE, CHOOSE, 14, 8, "no word touched but the one needed");
     q = book_a_of(3, NEEDED);
+    q.lists[CHOSEN_QUESTIONS].bytes = 2;
+    refused_within(q, CHOOSE_SEVERAL, CHOOSE_SEVERAL, 19, 8, "no word touched but the one needed");
+    q = book_a_of(3, NEEDED);
     put16(q.lists[SHEETS], 8, 1);
-    refused_within(q, FILTER, CHOOSE, 18, 8, "no word touched but the one needed");
+    refused_within(q, FILTER, CHOOSE_SEVERAL, 18, 8, "no word touched but the one needed");
 }
 
 /* Books that need none, or a whole number of words; a last word is lent that they do not need. */
@@ -404,7 +449,8 @@ static void most_supports(void) {
     request q = {FILTER, 2, 0, 0,
                  {[SHEETS] = NUMBERS(1, ROWS_EACH, ROWS_EACH, 1, ROWS_EACH, ROWS_EACH), [QUESTIONS] = NUMBERS(0, 0),
                   [CODES] = one_code(2 * ROWS_EACH, 4), [COMBINATIONS] = new_list(2 * 2 * TIMES), [MARKS] = bytes(8, LIVING),
-                  [SUPPORTS] = repeated(ALL + 1, 7), [COUNTS] = new_list(0), [ROWS] = new_list(0)},
+                  [SUPPORTS] = repeated(ALL + 1, 7), [COUNTS] = new_list(0), [ROWS] = new_list(0),
+                  [CHOSEN_QUESTIONS] = new_list(0), [CHOSEN_CODES] = new_list(0)},
                  BEHIND};
     for (size_t i = 0; i < TIMES; i++) put16(q.lists[COMBINATIONS], 2 * i + 1, 1);
     outcome expected = unchanged(&q, counted(0, 64, 2 * ROWS_EACH, 0, 0), 8, 2 * ALL);
@@ -420,6 +466,8 @@ int main(void) {
     good_calls();
     any_code();
     wide_codes();
+    several();
+    number_19();
     odd_counts();
     numbers_2_to_6();
     numbers_7_to_14();

@@ -73,8 +73,11 @@ static void join(list lists[WRITTEN]) {
 
 /* The lists, in the order in which the independent program writes them. */
 static void read_lists(request *q) {
-    static const int order[LISTS] = {SHEETS, QUESTIONS, CODES, COMBINATIONS, MARKS, SUPPORTS, COUNTS, ROWS};
-    for (int i = 0; i < LISTS; i++) q->lists[order[i]] = read_list(order[i] == MARKS ? 8 : order[i] == CODES ? 4 : 2);
+    static const struct {
+        int which, unit;
+    } order[LISTS] = {{SHEETS, 2},   {QUESTIONS, 2}, {CODES, 4}, {COMBINATIONS, 2},     {MARKS, 8},
+                      {SUPPORTS, 2}, {COUNTS, 2},    {ROWS, 2},  {CHOSEN_QUESTIONS, 2}, {CHOSEN_CODES, 4}};
+    for (int i = 0; i < LISTS; i++) q->lists[order[i].which] = read_list((size_t)order[i].unit);
 }
 
 /* Whether the call can be made: a record has room for one count. */

@@ -1,4 +1,4 @@
-/* Document 01's examples P1 to P9, and test and compare beside them, through the calls over relation records: the lines that the
+/* Document 01's examples P1 to P9, and S1 of card 7, test and compare beside them, through the calls over relation records: the lines that the
  * program test_examples writes through the calls on plain lists. */
 #include "wakhvosi.h"
 #include <inttypes.h>
@@ -58,7 +58,7 @@ static void renew_a(uint64_t words[1]) {
     memcpy(of_a, fresh_a, sizeof of_a);
 }
 
-/* P1 to P5 and P9, on book A; and its withdrawal with counts that are untrue. */
+/* P1 to P5, P9 and S1, on book A; and its withdrawal with counts that are untrue. */
 static void book_a(void) {
     uint64_t words[1];
     uint16_t supports[40];
@@ -80,6 +80,12 @@ static void book_a(void) {
     say_where("rows 0 and 3", wakhvosi_compare_records(BOOK_A, 0, 3));
     say_where("rows 2 and 3", wakhvosi_compare_records(BOOK_A, 2, 3));
     say_where("rows 0 and 2", wakhvosi_compare_records(BOOK_A, 0, 2));
+    renew_a(words);
+    const uint16_t chosen_questions[] = {1, 2};
+    const uint32_t chosen_codes[] = {2, 6};
+    uint64_t s1 = wakhvosi_choose_several_records(BOOK_A, 2, LIST(pairs), LIST(words), LIST(supports), LIST(chosen_questions),
+                                                  LIST(chosen_codes));
+    say("S1", s1, words[0], LIST(of_a));
 }
 
 /* P6 and P7. */

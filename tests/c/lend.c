@@ -5,8 +5,9 @@
 #include <stdlib.h>
 #include <string.h>
 
-const char *const call_names[CALLS] = {"filter", "withdraw", "choose", "test", "compare"};
-const char *const list_names[LISTS] = {"sheets", "marks", "supports", "counts", "questions", "codes", "combinations", "rows"};
+const char *const call_names[CALLS] = {"filter", "withdraw", "choose", "choose several", "test", "compare"};
+const char *const list_names[LISTS] = {"sheets", "marks", "supports",     "counts", "questions",
+                                       "codes",  "combinations", "rows", "chosen questions", "chosen codes"};
 
 list new_list(size_t bytes) { return (list){calloc(bytes + 1, 1), bytes}; }
 
@@ -45,7 +46,7 @@ static void make(void *with) {
 /* An accepted change call writes marks, supports and counts, and no call writes anything else. */
 static bool writes(const request *q, uint64_t answer, int which) {
     bool counts = which == (counts_in_records ? SHEETS : COUNTS);
-    return q->call <= CHOOSE && wakhvosi_kind(answer) != WAKHVOSI_REFUSED && (which == MARKS || which == SUPPORTS || counts);
+    return q->call <= CHOOSE_SEVERAL && wakhvosi_kind(answer) != WAKHVOSI_REFUSED && (which == MARKS || which == SUPPORTS || counts);
 }
 
 /* The list laid on its pages as the expected outcome asks. */

@@ -4,9 +4,9 @@
 #include "fence.h"
 #include <stdint.h>
 
-enum { FILTER, WITHDRAW, CHOOSE, TEST, COMPARE, CALLS };
+enum { FILTER, WITHDRAW, CHOOSE, CHOOSE_SEVERAL, TEST, COMPARE, CALLS };
 /* The lists that a call may write come first. The counts are lent where they do not stand in the sheets' records. */
-enum { SHEETS, MARKS, SUPPORTS, COUNTS, WRITTEN, QUESTIONS = WRITTEN, CODES, COMBINATIONS, ROWS, LISTS };
+enum { SHEETS, MARKS, SUPPORTS, COUNTS, WRITTEN, QUESTIONS = WRITTEN, CODES, COMBINATIONS, ROWS, CHOSEN_QUESTIONS, CHOSEN_CODES, LISTS };
 extern const char *const call_names[CALLS], *const list_names[LISTS];
 
 /* A list as the bytes that it takes in memory, the lowest byte of a number first. */

@@ -16,6 +16,7 @@ uint64_t answer_of(const request *q) {
     case FILTER: return wakhvosi_filter(LENT);
     case WITHDRAW: return wakhvosi_withdraw(LENT, AT(ROWS));
     case CHOOSE: return wakhvosi_choose(LENT, q->x, q->y);
+    case CHOOSE_SEVERAL: return wakhvosi_choose_several(LENT, AT(CHOSEN_QUESTIONS), AT(CHOSEN_CODES));
     case TEST: return wakhvosi_test(BOOK, q->m, AT(COMBINATIONS), AT(MARKS));
     default: return wakhvosi_compare(BOOK, q->x, (uint16_t)q->y);
     }

@@ -9,6 +9,7 @@ const bool counts_in_records = false;
 void plain_filter(CHANGED_LISTS, uint16_t *);
 void plain_withdraw(CHANGED_LISTS, const uint16_t *, size_t, uint16_t *);
 void plain_choose(CHANGED_LISTS, uint16_t, uint32_t, uint16_t *);
+void plain_choose_several(CHANGED_LISTS, const uint16_t *, size_t, const uint32_t *, size_t, uint16_t *);
 uint32_t plain_test(BOOK_LISTS, uint16_t, const uint16_t *, size_t, const uint64_t *, size_t);
 uint32_t plain_compare(BOOK_LISTS, uint16_t, uint16_t);
 
@@ -31,7 +32,8 @@ static uint64_t change(const request *q) {
     switch (q->call) {
     case FILTER: plain_filter(LENT, out); break;
     case WITHDRAW: plain_withdraw(LENT, AT(ROWS, uint16_t), out); break;
-    default: plain_choose(LENT, q->x, q->y, out);
+    case CHOOSE: plain_choose(LENT, q->x, q->y, out); break;
+    default: plain_choose_several(LENT, AT(CHOSEN_QUESTIONS, uint16_t), AT(CHOSEN_CODES, uint32_t), out);
     }
     uint64_t answer = packed(out);
     unfence(numbers);

@@ -14,6 +14,7 @@ uint64_t answer_of(const request *q) {
     case FILTER: return wakhvosi_filter_records(LENT);
     case WITHDRAW: return wakhvosi_withdraw_records(LENT, AT(ROWS, uint16_t));
     case CHOOSE: return wakhvosi_choose_records(LENT, q->x, q->y);
+    case CHOOSE_SEVERAL: return wakhvosi_choose_several_records(LENT, AT(CHOSEN_QUESTIONS, uint16_t), AT(CHOSEN_CODES, uint32_t));
     case TEST: return wakhvosi_test_records(BOOK, q->m, AT(COMBINATIONS, uint16_t), AT(MARKS, uint64_t));
     default: return wakhvosi_compare_records(BOOK, q->x, (uint16_t)q->y);
     }

@@ -37,6 +37,8 @@ class Request:
     rows: list[int] = field(default_factory=list)
     question: int = 0
     code: int = 0
+    chosen_questions: list[int] = field(default_factory=list)
+    chosen_codes: list[int] = field(default_factory=list)
 
 
 class Book(NamedTuple):
@@ -159,8 +161,13 @@ def bad_book_number(request: Request) -> bool:
     return any(g >= row_total(request) for g in request.rows)
 
 
+def unequal_lists(request: Request) -> bool:
+    return len(request.chosen_questions) != len(request.chosen_codes)
+
+
 def bad_choice(request: Request) -> bool:
-    return request.question > 63
+    asked = request.chosen_questions if request.call == "choose_several" else [request.question]
+    return any(question > 63 for question in asked)
 
 
 FAULT_TESTS: dict[int, Callable[[Request], bool]] = {
@@ -177,6 +184,7 @@ FAULT_TESTS: dict[int, Callable[[Request], bool]] = {
     12: bad_support_list,
     18: untrue_counts,
     13: bad_book_number,
+    19: unequal_lists,
     14: bad_choice,
 }
 
@@ -184,6 +192,7 @@ FAULTS_USED: dict[str, list[int]] = {
     "filter": [2, 3, 4, 5, 6, 7, 8, 9, 10, 11, 12, 18],
     "withdraw": [2, 3, 4, 5, 6, 7, 8, 9, 10, 11, 12, 18, 13],
     "choose": [2, 3, 4, 5, 6, 7, 8, 9, 10, 11, 12, 18, 14],
+    "choose_several": [2, 3, 4, 5, 6, 7, 8, 9, 10, 11, 12, 18, 19, 14],
     "test": [2, 3, 4, 5, 6, 7, 8, 9, 10, 11],
     "compare": [2, 3, 4, 5, 6, 13],
 }
@@ -284,12 +293,19 @@ def supports_after(book: Book, combinations: list[Combination], supports: list[i
     return needed + supports[len(needed) :]
 
 
+def struck_by_choice(book: Book, question: int, code: int) -> set[int]:
+    asking = [g for g, row in enumerate(book.rows) if question in row]
+    return {g for g in asking if not fit(book.rows[g][question], code)}
+
+
 def struck_rows(book: Book, request: Request) -> set[int]:
     if request.call == "withdraw":
         return set(request.rows)
     if request.call == "choose":
-        asking = [g for g, row in enumerate(book.rows) if request.question in row]
-        return {g for g in asking if not fit(book.rows[g][request.question], request.code)}
+        return struck_by_choice(book, request.question, request.code)
+    if request.call == "choose_several":
+        pairs = zip(request.chosen_questions, request.chosen_codes)
+        return set().union(*(struck_by_choice(book, question, code) for question, code in pairs))
     return set()
 
 

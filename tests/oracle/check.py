@@ -95,6 +95,30 @@ def p9() -> bool:
     return answer == (0, 64, 3, 2, 2) and marks == [0b1010010] and counts == [1, 1, 1]
 
 
+def choose_several(request: Request, *pairs: tuple[int, int]) -> Request:
+    questions, codes = [question for question, _ in pairs], [code for _, code in pairs]
+    return replace(request, call="choose_several", chosen_questions=questions, chosen_codes=codes)
+
+
+def several_by_hand() -> bool:
+    """On fresh A: pairs by place, whichever comes first; contrary codes leave no row but with any; no pair is a filter."""
+    asked = [((1, 2), (2, 6)), ((2, 6), (1, 2)), ((2, 5), (1, 1)), ((1, 1), (1, 2)), ((9, 1), (1, ANY)), ()]
+    replies = [book.reply(choose_several(book_a(), *pairs)) for pairs in asked]
+    left = [(answer, marks, counts) for answer, marks, _, counts in replies]
+    same, filtered = ((0, 64, 3, 3, 1), [0b1010010], [1, 1, 1]), ((0, 64, 6, 0, 1), [0b1111011], [2, 2, 2])
+    emptied = ((1, 0, 0, 5, 2), [0], [0, 0, 0])
+    beside = book.reply(choose_several(beside_any(), (0, 1), (0, 2)))
+    return left == [same, same, ((0, 64, 3, 4, 0), [0b101001], [1, 1, 1]), emptied, filtered, filtered] and beside[0][3] == 5
+
+
+def several_refused() -> bool:
+    """19 before 14, behind 18; and both lists empty are as long."""
+    lists = [([0], []), ([], [0]), ([64], []), ([64], [0]), ([63], [0]), ([0, 64], [0, 0]), ([], [])]
+    asked = [replace(book_a(), call="choose_several", chosen_questions=xs, chosen_codes=vs) for xs, vs in lists]
+    untrue = replace(asked[0], counts=[3, 2, 1])
+    return [book.first_fault(request) for request in asked + [untrue]] == [19, 19, 19, 14, 0, 14, 0, 18]
+
+
 def counts_by_hand() -> bool:
     """On filtered A: the counts of fresh A are refused and so is a count more, a count less, another sum or no count at all; a call
     refused for another fault does not say so, and test and compare do not look."""
@@ -105,7 +129,7 @@ def counts_by_hand() -> bool:
     asked = [replace(untrue, call=call) for call in draw.CALLS] + [replace(untrue, supports=[])]
     told = [book.first_fault(request) for request in asked]
     whole = [reply == ((2, 18, 0, 0, 0), left.marks, left.supports, counts) for reply, counts in zip(refused, others)]
-    return all(whole) and told == [18, 18, 18, 0, 13, 12] and book.first_fault(left) == 0
+    return all(whole) and told == [18, 18, 18, 18, 0, 13, 12] and book.first_fault(left) == 0
 
 
 def input_a() -> bool:
@@ -221,7 +245,8 @@ def faults_not_used() -> bool:
     asked = [
         replace(book_a(), call="filter", rows=[7], question=64),
         replace(book_a(), call="withdraw", question=64),
-        replace(book_a(), call="choose", rows=[7]),
+        replace(book_a(), call="choose", rows=[7], chosen_questions=[64]),
+        replace(book_a(), call="choose_several", rows=[7], question=64),
         replace(book_a(), call="test", supports=[], counts=[], rows=[7], question=64),
         replace(bare, call="compare", question=64),
     ]
@@ -316,15 +341,22 @@ def moves_return() -> bool:
     return {move.there for move in done} == {True, False}
 
 
+def code_lists(request: Request) -> tuple[list[int], list[int], list[int]]:
+    """The codes of the book, the one chosen, and those of pairs."""
+    return request.codes, [request.code], request.chosen_codes
+
+
+def with_codes(request: Request, codes: list[int], code: list[int], pairs: list[int]) -> Request:
+    return replace(request, codes=codes, code=code[0], chosen_codes=pairs)
+
+
 def moved_means_the_same() -> bool:
     """A widened book gets the replies that the old one gets where 65,535 is any."""
     for request, _ in sample("any", 300) + sample("coded", 100):
-        old = [book.OLD_ANY if code == ANY else code % book.OLD_ANY for code in (*request.codes, request.code)]
-        request = replace(request, codes=old[:-1], code=old[-1])
+        codes, code, pairs = ([book.OLD_ANY if c == ANY else c % book.OLD_ANY for c in cs] for cs in code_lists(request))
         with mock.patch.object(book, "fit", fit_old_any):
-            meant = book.reply(request)
-        new = book.widened(old)
-        if book.reply(replace(request, codes=new[:-1], code=new[-1])) != meant:
+            meant = book.reply(with_codes(request, codes, code, pairs))
+        if book.reply(with_codes(request, *map(book.widened, (codes, code, pairs)))) != meant:
             return False
     return True
 
@@ -501,6 +533,62 @@ def choices_leave_any() -> bool:
             if struck != {g for g, row in enumerate(whole.rows) if row.get(request.question, ANY) not in (code, ANY)}:
                 return False
     return True
+
+
+def pairs_of(request: Request) -> list[tuple[int, int]]:
+    return list(zip(request.chosen_questions, request.chosen_codes))
+
+
+def one_by_one(request: Request, pairs: Iterable[tuple[int, int]]) -> tuple[list[int], Reply]:
+    """The kinds of the answers of choosing the pairs in turn, each call lent what the last one left, and what is left in the end."""
+    kinds, left = [], ((), request.marks, request.supports, request.counts)
+    for question, code in pairs:
+        _, marks, supports, counts = left
+        left = book.reply(replace(request, call="choose", question=question, code=code, marks=marks, supports=supports, counts=counts))
+        kinds.append(left[0][0])
+    return kinds, left
+
+
+@functools.lru_cache(maxsize=None)
+def several(count: int) -> Replied:
+    drawn = draw.requests(3, count, ["choose_several"], "several")
+    return [(request, book.reply(request)) for request in drawn]
+
+
+def several_are_singles() -> bool:
+    """With a pair, an accepted choice of several leaves the marks, supports and counts of the pairs chosen one by one: in every order of
+    up to four pairs, and in some of more; and each choice is accepted. Without one it is a filter."""
+    rng, orders = random.Random(1), 0
+    for request, reply in several(300):
+        pairs = pairs_of(request)
+        if reply[0][0] == book.REFUSED or len(pairs) > 9:
+            continue
+        if not pairs and reply != book.reply(replace(request, call="filter")):
+            return False
+        every = list(itertools.permutations(pairs)) if len(pairs) < 4 else [rng.sample(pairs, len(pairs)) for _ in range(4)]
+        for order in every if pairs else []:
+            orders += 1
+            kinds, left = one_by_one(request, order)
+            if book.REFUSED in kinds or left[1:] != reply[1:] or left[0][:3] != reply[0][:3]:
+                return False
+    return orders > 300
+
+
+def contrary_leave_any() -> bool:
+    """Of two different codes for a question, neither any, the rows left that have the question have any there."""
+    seen = set()
+    for request, reply in several(300):
+        if reply[0][0] == book.REFUSED:
+            continue
+        whole = book.read_book(request)
+        left = [whole.rows[g] for g in book.living_rows(whole, reply[1])]
+        for question in set(request.chosen_questions):
+            if len({code for asked, code in pairs_of(request) if asked == question} - {ANY}) > 1:
+                codes = {row[question] for row in left if question in row}
+                seen.add(bool(codes))
+                if codes - {ANY}:
+                    return False
+    return seen == {False, True}
 
 
 def any_keeps_more() -> bool:
@@ -770,7 +858,7 @@ def refusals_occur() -> bool:
     drawn = {reply[0][1] for _, reply in sample("damaged", 600)}
     listed = [book.listing(text) for text in draw.texts(1, 300)]
     in_texts = {int(output.split(b",")[1]) for output in listed if output.startswith(b"2,")}
-    return drawn == {*range(2, 15), 18} and in_texts == {1, 6, 9, 10, 12}
+    return drawn == {*range(2, 15), 18, 19} and in_texts == {1, 6, 9, 10, 12}
 
 
 def any_in_texts() -> bool:
@@ -957,6 +1045,45 @@ def struck_by_any(whole: Book, request: Request) -> set[int]:
     return (struck_with_any if request.code == ANY else all_struck)(whole, request)
 
 
+def struck_by_every_pair(whole: Book, request: Request) -> set[int]:
+    """The pairs' intersection for their union."""
+    struck = [book.struck_by_choice(whole, *pair) for pair in pairs_of(request)]
+    return set.intersection(*struck) if struck else all_struck(whole, request)
+
+
+def struck_by_next_question(whole: Book, request: Request) -> set[int]:
+    return all_struck(whole, replace(request, chosen_questions=request.chosen_questions[1:]))
+
+
+def struck_but_by_last(whole: Book, request: Request) -> set[int]:
+    return all_struck(whole, replace(request, chosen_questions=request.chosen_questions[:-1]))
+
+
+def struck_by_first_code(whole: Book, request: Request) -> set[int]:
+    """Of several codes for a question the first."""
+    return struck_by_codes(whole, request, dict(reversed(pairs_of(request))))
+
+
+def struck_by_last_code(whole: Book, request: Request) -> set[int]:
+    return struck_by_codes(whole, request, dict(pairs_of(request)))
+
+
+def struck_by_codes(whole: Book, request: Request, codes: Row) -> set[int]:
+    return all_struck(whole, replace(request, chosen_questions=list(codes), chosen_codes=list(codes.values())))
+
+
+def struck_all_by_contrary(whole: Book, request: Request) -> set[int]:
+    """Strikes rows with any too where the codes are contrary."""
+    codes = {question: {code for asked, code in pairs_of(request) if asked == question} - {ANY} for question in request.chosen_questions}
+    contrary = [question for question, given in codes.items() if len(given) > 1]
+    return all_struck(whole, request) | {g for g, row in enumerate(whole.rows) if any(question in row for question in contrary)}
+
+
+def faults_with_14_first(request: Request) -> list[tuple[int, Callable]]:
+    used = book.FAULTS_USED[request.call]
+    return [(number, book.FAULT_TESTS[number]) for number in sorted(used, key=lambda n: 18.5 if n == 14 else {13: 18.7}.get(n, n))]
+
+
 def clash_at_any(one: Row, other: Row) -> Optional[int]:
     return min((question for question in one if question in other and one[question] != other[question]), default=None)
 
@@ -1110,7 +1237,7 @@ def refusal_that_counts(request: Request) -> Reply:
     answer, *left, counts = whole_reply(request)
     if answer[:2] == (book.REFUSED, 18):
         counts = reach.counted(request, request.marks)
-    elif answer[:2] in ((book.REFUSED, 13), (book.REFUSED, 14)) and request.call in draw.CHANGES:
+    elif answer[0] == book.REFUSED and answer[1] in (13, 14, 19) and request.call in draw.CHANGES:
         counts = whole_change(replace(request, rows=[g for g in request.rows if g < book.row_total(request)]))[3]
     return answer, *left, counts
 
@@ -1157,6 +1284,17 @@ CODED_VARIANTS: list[tuple[str, Callable]] = [
 ]
 
 
+SEVERAL_VARIANTS: list[tuple[str, Callable]] = [
+    ("struck_rows", struck_by_every_pair),
+    ("struck_rows", struck_by_next_question),
+    ("struck_rows", struck_but_by_last),
+    ("struck_rows", struck_by_first_code),
+    ("struck_rows", struck_by_last_code),
+    ("struck_rows", struck_all_by_contrary),
+    ("faults", faults_with_14_first),
+]
+
+
 def told_apart(place: str, variant: object, drawn: Callable[[], Replied], least: int) -> bool:
     """Whether so many of the drawn requests get another answer, other marks or other counts; supports are left out."""
     replied = drawn()
@@ -1190,8 +1328,8 @@ def count_variants() -> list[Check]:
 
 
 def of_many_pairs() -> Replied:
-    """Changes with all of the 1,024 pairs, by which rows fall and rows stay: some that together tell all variants apart."""
-    drawn = [sample("full", 16)[place] for place in (9, 14, 15)]
+    """Changes with all of the 1,024 pairs, by which rows fall and rows stay: two that together tell all variants apart."""
+    drawn = sample("full", 7)[5:]
     return [(asked, reply) for asked, reply in drawn if f"1,024 pairs, {asked.call}" in reach.reached(asked, reply)]
 
 
@@ -1208,13 +1346,13 @@ def later_pairs() -> list[Check]:
 
 def checks() -> list[Check]:
     plain = [p1, p2, p3, p4, p5, p6, p7, p8, p9, input_a, test_and_compare, lowest_clash, spare_and_missing_words]
-    plain += [any_is_no_chain, any_compared, any_chosen, counts_by_hand]
+    plain += [any_is_no_chain, any_compared, any_chosen, counts_by_hand, several_by_hand, several_refused]
     plain += [choice_edge, book_number_edge, faults_not_used, list_edges, whole_supports]
     plain += [text_edges, texts_not_in_form, texts_refused, moves_by_hand, moves_return, moved_means_the_same, older_texts]
     plain += [counts_add_up, old_counts_refused, filtering_repeats, spare_stays, refusals_change_nothing, largest_by_all_subsets]
     plain += [no_order_lost, connected_by_spreading, listing_as_filter, clash_unless_agreeing]
-    plain += [supports_by_orders, choices_leave_any, any_keeps_more, only_tightens, all_connected_tighten]
-    plain += [sheet_beside_extends]
+    plain += [supports_by_orders, choices_leave_any, any_keeps_more, several_are_singles, contrary_leave_any]
+    plain += [only_tightens, all_connected_tighten, sheet_beside_extends]
     plain += [lists_agree, lists_are_varied, sheets_out_of_reach_keep_rows]
     plain += [first_of_several, refusals_occur, any_in_texts, answers_occur, shapes_occur, same_seed_same_draws]
     named = [(function.__name__, function) for function in plain]
@@ -1226,6 +1364,8 @@ def checks() -> list[Check]:
     named += [(variant.__name__, functools.partial(told_apart, place, variant, any_too, 3)) for place, variant in ANY_VARIANTS]
     coded = functools.partial(sample, "coded", 300)
     named += [(variant.__name__, functools.partial(told_apart, place, variant, coded, 3)) for place, variant in CODED_VARIANTS]
+    pairs_drawn = functools.partial(several, 300)
+    named += [(variant.__name__, functools.partial(told_apart, place, variant, pairs_drawn, 3)) for place, variant in SEVERAL_VARIANTS]
     several_words = functools.partial(sample, "alike", 60)
     for law in (over_bigger, over_all_connected):
         named.append((f"chain_of_rows, {law.__name__}", functools.partial(breaks, law, "first_support", chain_of_rows)))

@@ -11,8 +11,8 @@ from book import ANY, OLD_ANY, Request, Row, write_text
 
 Page = tuple[list[int], list[list[int]]]  # a sheet: its questions and its rows
 
-CALLS = ["filter", "withdraw", "choose", "test", "compare"]
-CHANGES = ["filter", "withdraw", "choose"]
+CALLS = ["filter", "withdraw", "choose", "choose_several", "test", "compare"]
+CHANGES = ["filter", "withdraw", "choose", "choose_several"]
 EDGE_QUESTIONS = (0, 1, 2, 31, 32, 62, 63)
 TOP = ANY - 1  # the highest code that fits itself alone
 HALF = 2**16
@@ -468,6 +468,33 @@ def lend_counts(rng: random.Random, request: Request) -> None:
         miscount(rng, request)
 
 
+def draw_pair(rng: random.Random, rows: list[Row], base: Row, pairs: list[tuple[int, int]]) -> tuple[int, int]:
+    """Mostly out of the book, and often out of one row; or one again, or its question with another code, or one that nobody asks or
+    answers."""
+    kind = rng.randrange(100)
+    if pairs and kind < 10:
+        return rng.choice(pairs)
+    if pairs and kind < 22:
+        question = rng.choice(pairs)[0]
+        return question, rng.choice([row[question] for row in rows if question in row] + [0, TOP, ANY])
+    row = base if kind < 70 or not rows else rng.choice(rows)
+    if row and kind < 85:
+        return rng.choice(list(row.items()))
+    question = rng.choice(list(row)) if row and kind < 92 else rng.randrange(64)
+    return question, rng.choice((0, 1, TOP, ANY, ANY))
+
+
+def give_pairs(rng: random.Random, request: Request) -> None:
+    rows = book.read_book(request).rows
+    base = rng.choice(rows) if rows else {}
+    pairs: list[tuple[int, int]] = []
+    for _ in range(rng.choice((0, 1, 2, 2, 2, 3, 3, 4, 5, 70))):
+        question, code = draw_pair(rng, rows, base, pairs)
+        pairs.append((question, (code + HALF) % ANY if code != ANY and chance(rng, 5) else code))
+    request.chosen_questions = [question for question, _ in pairs]
+    request.chosen_codes = [code for _, code in pairs]
+
+
 def give_arguments(rng: random.Random, request: Request) -> None:
     total = book.row_total(request)
     if request.call == "withdraw" and total:
@@ -481,6 +508,8 @@ def give_arguments(rng: random.Random, request: Request) -> None:
         request.code = rng.choice(given)
         if request.code != ANY and chance(rng, 10):
             request.code = (request.code + rng.choice((HALF, 2**31))) % ANY
+    if request.call == "choose_several":
+        give_pairs(rng, request)
 
 
 def lend(rng: random.Random, network: Network, call: str) -> Request:
@@ -659,8 +688,22 @@ def lent_numbers(rng: random.Random, request: Request) -> None:
         request.rows.insert(rng.randint(0, len(request.rows)), bad)
 
 
+def lent_pairs(rng: random.Random, request: Request) -> None:
+    """One of the two lists cut short, or longer than the other."""
+    entries = rng.choice((request.chosen_questions, request.chosen_codes))
+    if entries and chance(rng, 50):
+        del entries[rng.choice((0, len(entries) - 1, rng.randrange(len(entries)))) :]
+    else:
+        entries.extend(rng.choice((0, 1, 63)) for _ in range(rng.choice((1, 1, 2, 64, 300))))
+
+
 def lent_choice(rng: random.Random, request: Request) -> None:
-    request.question = rng.choice(BAD_QUESTIONS)
+    bad = rng.choice(BAD_QUESTIONS)
+    if request.call != "choose_several":
+        request.question = bad
+        return
+    request.chosen_questions.insert(rng.randint(0, len(request.chosen_questions)), bad)
+    request.chosen_codes.append(rng.choice((0, 1, ANY)))
 
 
 LENT_DAMAGES: dict[int, Callable[[random.Random, Request], None]] = {
@@ -675,6 +718,7 @@ LENT_DAMAGES: dict[int, Callable[[random.Random, Request], None]] = {
     18: lent_counts,
     13: lent_numbers,
     14: lent_choice,
+    19: lent_pairs,
 }
 
 
@@ -717,6 +761,14 @@ def untrue_request(rng: random.Random, call: str) -> Request:
     """Untrue counts, mostly together with another fault, before them or behind them in the order."""
     others = [number for number in book.FAULTS_USED[call] if number != 18]
     return request_with_faults(rng, call, [18] + rng.sample(others, rng.choice((0, 1, 1))))
+
+
+def several_request(rng: random.Random, call: str) -> Request:
+    """Pairs that are accepted, or lists of unequal length, mostly together with another fault, before it or behind it in the order."""
+    if chance(rng, 75):
+        return request_on(any_network if chance(rng, 30) else small_network)(rng, call)
+    others = [number for number in book.FAULTS_USED[call] if number != 19]
+    return request_with_faults(rng, call, [19] + rng.sample(others, rng.choice((0, 1, 1))))
 
 
 # Requests at the edge of what is accepted
@@ -793,6 +845,7 @@ SIZES: dict[str, Callable[[random.Random, str], Request]] = {
     "thin": request_on(thin_network),
     "damaged": damaged_request,
     "untrue": untrue_request,
+    "several": several_request,
     "edge": edge_request,
     "mixed": mixed_request,
 }
@@ -807,7 +860,7 @@ def requests(seed: int, count: int, calls: list[str], size: str) -> list[Request
 
 
 def copied(shared: Request) -> Request:
-    lists = ("sheets", "questions", "codes", "combinations", "marks", "counts", "rows")
+    lists = ("sheets", "questions", "codes", "combinations", "marks", "counts", "rows", "chosen_questions", "chosen_codes")
     return replace(shared, **{name: list(getattr(shared, name)) for name in lists})
 
 
@@ -852,7 +905,7 @@ def list_of_calls(rng: random.Random, network: Network) -> tuple[Request, list[R
     calls = []
     for _ in range(rng.randint(1, 8)):
         make = refused_call if chance(rng, refused_percent) else accepted_call
-        calls.append(make(rng, shared, rng.choice(("filter", "withdraw", "withdraw", "withdraw", "choose"))))
+        calls.append(make(rng, shared, rng.choice(("filter", "withdraw", "withdraw", "choose", "choose_several"))))
     return shared, calls
 
 

@@ -50,7 +50,7 @@ def plain(request: Request, reply: Reply) -> list[int]:
     """Numbers, each list behind its length: the call, its arguments, what it may touch, its lists, then its reply."""
     records = [number for sheet in request.sheets for number in sheet]
     before = [records, request.questions, request.codes, request.combinations, request.marks, request.supports]
-    before += [request.counts, request.rows]
+    before += [request.counts, request.rows, request.chosen_questions, request.chosen_codes]
     numbers = [draw.CALLS.index(request.call), request.m, request.question, request.code, *touched(request, reply)]
     for entries in [*before, *map(list, reply)]:
         numbers += counted(entries)

@@ -96,7 +96,7 @@ def of_untrue_counts(request: Request, reply: Reply) -> Iterator[str]:
         yield f"counts not looked at, {request.call} {kind}"
     elif number == 18:
         yield from (f"18, {request.call}", *(f"18, {way}" for way in ways))
-        later = [n for n in book.FAULTS_USED[request.call] if n in (13, 14) and book.FAULT_TESTS[n](request)]
+        later = [n for n in book.FAULTS_USED[request.call] if n in (13, 14, 19) and book.FAULT_TESTS[n](request)]
         yield from (f"18 before {n}" for n in later)
     elif request.call not in book.ASKING:
         yield f"{number} before 18"
@@ -110,6 +110,62 @@ def of_changed_counts(request: Request, counts: list[int]) -> Iterator[str]:
         yield "a count changes and another stays"
     if any(request.counts[sheet] > 255 for sheet in changed):
         yield "a count above 255 changes"
+
+
+# Pairs
+
+
+def of_pairs(request: Request, reply: Reply) -> Iterator[str]:
+    """Of a choice of several: how its pairs stand, and what they do together."""
+    pairs = list(zip(request.chosen_questions, request.chosen_codes))
+    if reply[0][0] == book.REFUSED:
+        yield from of_unequal_lists(request, reply)
+        return
+    yield f"{min(len(pairs), 3)} pairs, answered {reply[0][0]}" if len(pairs) < 65 else "pairs for more than every question"
+    if len(set(pairs)) < len(pairs):
+        yield "a pair twice"
+    if ANY in request.chosen_codes and len(set(request.chosen_codes)) > 1:
+        yield "any chosen beside another code"
+    if set(request.chosen_questions) - set(request.questions) and set(request.chosen_questions) & set(request.questions):
+        yield "a question that nobody asks, beside others"
+    whole = book.read_book(request)
+    living, left = (book.living_rows(whole, marks) for marks in (request.marks, reply[1]))
+    yield from of_contrary_codes(pairs, whole, living, left)
+    struck = [living & book.struck_by_choice(whole, *pair) for pair in set(pairs)]
+    together = living & book.struck_rows(whole, request)
+    if len(struck) > 1 and all(some < together for some in struck) and left:
+        yield "each pair strikes less than all together"
+    if len(pairs) > 1 and living & struck_by_last(whole, pairs) - set().union(*(book.struck_by_choice(whole, *p) for p in pairs[:-1])):
+        yield "the last pair alone strikes a row"
+
+
+def struck_by_last(whole: Book, pairs: list[tuple[int, int]]) -> set[int]:
+    return book.struck_by_choice(whole, *pairs[-1])
+
+
+def of_contrary_codes(pairs: list[tuple[int, int]], whole: Book, living: set[int], left: set[int]) -> Iterator[str]:
+    for question in {question for question, _ in pairs}:
+        codes = {code for asked, code in pairs if asked == question} - {ANY}
+        if len(codes) < 2 or not any(question in whole.rows[g] for g in living):
+            continue
+        yield "contrary codes" if len(codes) == 2 else "three contrary codes"
+        if any(whole.rows[g].get(question) == ANY for g in left):
+            yield "contrary codes, and any is left"
+        if any(whole.rows[g].get(question) in codes for g in living):
+            yield "contrary codes that rows have"
+
+
+def of_unequal_lists(request: Request, reply: Reply) -> Iterator[str]:
+    """Of lists of unequal length: which is longer, and which faults stand before them and behind."""
+    if not book.unequal_lists(request):
+        return
+    number = reply[0][1]
+    if number == 19:
+        longer = "questions" if len(request.chosen_questions) > len(request.chosen_codes) else "codes"
+        yield f"19, more {longer}" if request.chosen_questions and request.chosen_codes else f"19, {longer} alone"
+        yield from ("19 before 14" for _ in range(book.bad_choice(request)))
+    else:
+        yield f"{number} before 19"
 
 
 # Any
@@ -137,11 +193,17 @@ def codes_beside_any(request: Request) -> str:
     return "low" if max(codes, default=0) < 16 else "topmost" if min(codes) > ANY - 16 else "scattered"
 
 
+def misread(request: Request, reading: Callable[[int], int]) -> Request:
+    """The request with its codes read otherwise."""
+    codes, chosen = ([reading(code) for code in codes] for codes in (request.codes, request.chosen_codes))
+    return replace(request, codes=codes, code=reading(request.code), chosen_codes=chosen)
+
+
 def any_decides(request: Request, reply: Reply) -> bool:
     """Whether an ordinary code in the place of any gets another answer or other marks."""
-    other = min(set(range(len(request.codes) + 2)) - {*request.codes, request.code})
-    codes = [other if code == ANY else code for code in request.codes]
-    return book.reply(replace(request, codes=codes, code=other if request.code == ANY else request.code))[:2] != reply[:2]
+    held = {*request.codes, *request.chosen_codes, request.code}
+    other = min(set(range(len(held) + 1)) - held)
+    return book.reply(misread(request, lambda code: other if code == ANY else code))[:2] != reply[:2]
 
 
 def any_meets(one: Row, other: Row) -> Iterator[str]:
@@ -231,15 +293,10 @@ MISREADINGS = {
 }
 
 
-def misread(request: Request, reading: Callable[[int], int]) -> Request:
-    codes = [code if code == ANY else reading(code) for code in (*request.codes, request.code)]
-    return replace(request, codes=codes[:-1], code=codes[-1])
-
-
 def of_wide_codes(request: Request, reply: Reply) -> Iterator[str]:
     """Of an accepted request: which misreadings of its codes get another answer or other marks, and what is chosen."""
     for name, reading in MISREADINGS.items():
-        if book.reply(misread(request, reading))[:2] != reply[:2]:
+        if book.reply(misread(request, lambda code: code if code == ANY else reading(code)))[:2] != reply[:2]:
             yield f"other {name}, {request.call}"
     if {OLD_ANY, ANY} <= set(request.codes):
         yield "65,535 beside any"
@@ -249,6 +306,8 @@ def of_wide_codes(request: Request, reply: Reply) -> Iterator[str]:
 
 def reached(request: Request, reply: Reply) -> Iterator[str]:
     yield from of_untrue_counts(request, reply)
+    if request.call == "choose_several":
+        yield from of_pairs(request, reply)
     if request.call not in book.ASKING and reply[0][0] != book.REFUSED:
         yield from of_changed_counts(request, reply[3])
     if request.call == "compare" and reply[0][0] != book.REFUSED:
@@ -279,20 +338,27 @@ def labels(all_bands: list[tuple[int, int]], of: str) -> set[str]:
 ANY_PLACES = {"any in the seeking row", "any in its support", "any on both sides", "a support far on by any"}
 ANY_PLACES |= {"any in several columns", "a row of any alone", "equal rows with any"}
 ANY_PLACES |= {"any, asked by several sheets", "any, asked by one sheet"}
-ANY_CALLS = {f"any decides, {call}, m = {m}" for call in ("filter", "withdraw", "choose") for m in (2, 3, 4)}
+ANY_CALLS = {f"any decides, {call}, m = {m}" for call in ("filter", "withdraw", "choose", "choose_several") for m in (2, 3, 4)}
 ANY_CALLS |= {"any decides, test 1", "any decides, compare 0", "any decides, compare 1", "a clash beside any"}
 ANY_CALLS |= {"any chosen", "a code chosen beside any", "a chain through any, m = 3", "a chain through any, m = 4"}
 ANY_CODES = {"any decides beside low codes", "any decides beside topmost codes", "any decides beside scattered codes"}
 ANY_CODES |= {"any beside the topmost code", "any decides in several words"} | labels(ANY_SHARES, "per cent any")
 ANY_LISTS = {"any chosen", "a code chosen beside any"} | {label for label in ANY_CALLS if label.startswith("any decides, choose")}
 
-CODED = {f"other {name}, {call}" for name in MISREADINGS for call in ("filter", "withdraw", "choose", "test", "compare")}
+CODED = {f"other {name}, {call}" for name in MISREADINGS for call in ("filter", "withdraw", "choose", "choose_several", "test", "compare")}
 CODED |= {"65,535 beside any", "65,535 chosen", "more chosen"}
+
+SEVERAL = {f"{count} pairs, answered {kind}" for count in range(4) for kind in (0, 1)}
+SEVERAL |= {"pairs for more than every question", "a pair twice", "any chosen beside another code"}
+SEVERAL |= {"a question that nobody asks, beside others", "each pair strikes less than all together", "the last pair alone strikes a row"}
+SEVERAL |= {"contrary codes", "three contrary codes", "contrary codes, and any is left", "contrary codes that rows have"}
+SEVERAL |= {"19, more questions", "19, more codes", "19, questions alone", "19, codes alone", "19 before 14"}
+SEVERAL |= {f"{number} before 19" for number in (*range(2, 13), 18)}
 
 PLACES = ("first", "middle", "last")
 UNTRUE = {f"18, one too {how}, {where} sheet" for how in ("many", "few") for where in PLACES}
 UNTRUE |= {"18, too many counts", "18, too few counts", "18, right in the low byte", "18, untrue, with the right sum"}
-UNTRUE |= {"18, filter", "18, withdraw", "18, choose", "18 before 13", "18 before 14"}
+UNTRUE |= {"18, filter", "18, withdraw", "18, choose", "18, choose_several", "18 before 13", "18 before 14", "18 before 19"}
 UNTRUE |= {f"{number} before 18" for number in range(2, 13)}
 UNASKED = {f"counts not looked at, {call} {kind}" for call in book.ASKING for kind in (0, 1)}
 CHANGED = {f"a count changes, {where} sheet" for where in PLACES} | {"a count changes and another stays"}
@@ -301,11 +367,12 @@ CHANGED = {f"a count changes, {where} sheet" for where in PLACES} | {"a count ch
 WANTED: dict[str, set[str]] = {
     "untrue": UNTRUE,
     "crowded": CHANGED | labels(SHEETS, "sheets") | labels(COMBINATIONS, "different combinations"),
-    "full": {f"1,024 pairs, {call}" for call in ("filter", "withdraw", "choose", "test 0", "test 1")},
+    "full": {f"1,024 pairs, {call}" for call in ("filter", "withdraw", "choose", "choose_several", "test 0", "test 1")},
     "clashing": {"agree", "clash under 0", "clash under 63"}
     | UNASKED
     | {f"several clashes, {one} and {other}" for one in ORDERS for other in ORDERS},
     "alike": {"codes alike in several words", "codes alike in a sheet of several words", "a count above 255 changes"},
     "any": ANY_PLACES | ANY_CALLS | ANY_CODES,
+    "several": SEVERAL,
     "coded": CODED,
 }
