@@ -1,6 +1,7 @@
 // A network's lists as they are lent: where each relation begins in them, and where its scope and its tuples lie.
 ghost use mathlib.Core.Path.{_≡_};
 ghost use Prim.Native.Nat.{_<_};
+ghost use lib.ListN.{set};
 ghost use Rattle.model.specs.Limits.{maxRelations};
 ghost use Rattle.model.specs.Network.{total, relationOf};
 ghost use Rattle.model.specs.Agreement.{isAny, fit};
@@ -10,6 +11,7 @@ ghost use Rattle.layout.specs.Starts.{table, entryBound, variableStart, 
 ghost use Rattle.layout.specs.Places.{placeAt};
 ghost use Rattle.layout.specs.Columns.{columnOf};
 use model::ANY_VALUE;
+use model::MAX_MEMBERS;
 use model::MAX_RELATIONS;
 use model::Value;
 
@@ -28,6 +30,9 @@ pub const STARTS: usize = 3 * TABLE + 1;
 
 pub type Starts = [u16; STARTS];
 
+// One number for each member of a combination.
+pub type Members = [u16; MAX_MEMBERS];
+
 // Where a relation's scope lies in the variable list, and one of its tuples in the value list.
 pub struct Place {
     pub scope: usize,
@@ -41,6 +46,21 @@ pub fn wide(x: u16) -> usize
     ensures { λ n. ⌜ (n ≡ x) × (n < entryBound) ⌝ }
 {
     x as usize
+}
+
+// The numbers with x at place k. No element is written by itself: what is read whole just after would wait for it.
+pub fn put(numbers: Members, k: usize, x: u16) -> Members
+    ensures { λ t. ⌜ t ≡ set numbers k x ⌝ }
+{
+    let mut t = numbers;
+    let mut j = 0;
+    while j < MAX_MEMBERS {
+        if j == k {
+            t[j] = x;
+        }
+        j += 1;
+    }
+    t
 }
 
 // Whether the value stands for every value.

@@ -4,7 +4,7 @@ ghost use mathlib.Core.Path.{_≡_};
 ghost use mathlib.Core.Bool.{true};
 ghost use Prim.Native.Nat.{_+_, _≤_, _<_};
 ghost use Rattle.model.specs.Limits.{maxRelations, maxMembers};
-ghost use lib.ListN.{length, set};
+ghost use lib.ListN.{length};
 ghost use Rattle.doubles.specs.Alike.{MembersIn};
 ghost use Rattle.doubles.specs.Doubles.{places};
 ghost use Rattle.layout.specs.Loan.{entry, exit};
@@ -18,6 +18,7 @@ use doubles::Table;
 use doubles::alike::variables_from;
 use doubles::first_alike;
 use layout::Starts;
+use layout::put;
 use layout::tuple_start;
 use live::WORDS;
 use live::Words;
@@ -56,21 +57,6 @@ const LONG: u16 = 256;
 
 // One tuple of each member, by its index.
 pub type Indices = [u16; MAX_MEMBERS];
-
-// The tuples with x at place k. No element is written by itself: what is read whole just after would wait for it.
-pub fn put(tuples: Indices, k: usize, x: u16) -> Indices
-    ensures { λ t. ⌜ t ≡ set tuples k x ⌝ }
-{
-    let mut t = tuples;
-    let mut j = 0;
-    while j < MAX_MEMBERS {
-        if j == k {
-            t[j] = x;
-        }
-        j += 1;
-    }
-    t
-}
 
 // What a search came to: a support, or none; and from HARD on it was hard.
 pub const FOUND: u16 = 1;

@@ -46,6 +46,7 @@ use Rattle.support.proofs.walk.Reads as walk
 use Rattle.support.proofs.walk.Kinds as walk-kinds
 use Rattle.support.proofs.+attempt+comb+search+walk.Lts-walk as walk-lts
 use Rattle.doubles.proofs.alike.variables_from.Reads as variables-from-reads
+use Rattle.layout.proofs.put.Reads as put-reads
 use Rattle.layout.proofs.tuple_start.Reads as tuple-start-reads
 use Rattle.live.proofs.next.Reads as next-reads
 use Rattle.narrowing.proofs.narrow_members.Reads as narrow-members-reads
@@ -55,7 +56,6 @@ use Rattle.support.proofs.attempt_last.Reads as attempt-last-reads
 use Rattle.support.proofs.fits.Reads as fits-reads
 use Rattle.support.proofs.past_own.Reads as past-own-reads
 use Rattle.support.proofs.place_behind.Reads as place-behind-reads
-use Rattle.support.proofs.put.Reads as put-reads
 use Rattle.support.proofs.span_of.Reads as span-of-reads
 use Rattle.support.proofs.may_lead.Reads as may-lead-reads
 use Rattle.support.proofs.one_more.Reads as one-more-reads
