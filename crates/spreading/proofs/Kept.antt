@@ -58,19 +58,19 @@ module _ (N : Network) (c : Combination) where
 
   -- ---- One member narrowed
 
-  module _ (M : Members N c) (j : ℕ) (hj : j < length c) (before after : List ℕ) where
+  module _ (M : Members N c) where
     rises : pairwise ltb c ≡ true
     rises = and-right (all (λ (r : ℕ). ltb r (length (N .relations))) c) (pairwise ltb c) (M .proper)
 
     -- one place to a relation
-    differ : (p q : ℕ) → p < length c → q < length c → (p ≡ q → ⊥) → getD c p 0 ≡ getD c q 0 → ⊥
+    pub differ : (p q : ℕ) → p < length c → q < length c → (p ≡ q → ⊥) → getD c p 0 ≡ getD c q 0 → ⊥
     differ p q hp hq d e = go (decLt p q)
       where
         go : Dec (p < q) → ⊥
         go (yes l) = let b = ltb-true (getD c p 0) (getD c q 0) (pairwise-getD ltb c p q 0 rises l hq) in omega arith
         go (no l) = let b = ltb-true (getD c q 0) (getD c p 0) (pairwise-getD ltb c q p 0 rises (omega arith) hp) in omega arith
 
-    module _ (outside : (g : ℕ) → (g < firstId N (getD c j 0)) ⊎ (firstId N (getD c j 0) + size N (getD c j 0) ≤ g) → isLive after g ≡ isLive before g) where
+    module _ (j : ℕ) (hj : j < length c) (before after : List ℕ) (outside : (g : ℕ) → (g < firstId N (getD c j 0)) ⊎ (firstId N (getD c j 0) + size N (getD c j 0) ≤ g) → isLive after g ≡ isLive before g) where
       -- where member j's tuple stays, so does any other's
       stays : (t : List ℕ) → List·Memᴰ t (candidates N c) → AllLive before t → isLive after (getD t j 0) ≡ true → (g : ℕ) → List·Memᴰ g t → Dec (getD c j 0 ≡ relationOf N g) → isLive after g ≡ true
       stays t m live own g k (yes e) =

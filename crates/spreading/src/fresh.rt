@@ -1,25 +1,74 @@
 // Members of a combination narrowed through fresh tuples: every support has one, so a tuple stays only if it is fresh or may agree with an
 // fresh one of another member.
 ghost use mathlib.Core.Path.{_≡_};
+ghost use mathlib.Core.Bool.{true};
 ghost use Prim.Native.Nat.{_<_};
 ghost use lib.ListN.{length};
+ghost use Rattle.model.specs.Limits.{maxTuples};
 ghost use Rattle.layout.specs.Loan.{entry, exit};
 ghost use Rattle.layout.specs.Setting.{lists, networkIn};
-ghost use Rattle.narrowing.specs.Narrows.{Long, Searchable};
+ghost use Rattle.narrowing.specs.Narrows.{Long, Seeks, Searchable};
+ghost use Rattle.narrowing.specs.Gathers.{Joins, Gathers};
 ghost use Rattle.spreading.specs.Spread.{Two, Counted, Spreadable, SpreadsMembers};
 ghost use Rattle.spreading.specs.Fresh.{GathersFrom, GathersOthers, Meets};
 use super::steps::live_count;
 use layout::Starts;
 use layout::tuple_start;
+use live::WORDS;
 use live::Words;
 use live::next;
 use model::MAX_TUPLES;
 use model::Value;
-use narrowing::gather::gather;
 use narrowing::keep;
+use narrowing::narrow_members;
 use value_index::Index;
 
-// The live tuples of relation s that may agree with a fresh one of relation r are live in `sum` too.
+// Whatever is live in the words is live in `sum` too.
+fn join(words: &Words, sum: &mut Words)
+    requires { ⌜ Long (now words) × Long (now sum) ⌝ }
+    ensures { λ _. ⌜ Joins (λ _. true) 0 maxTuples (entry words) (entry sum) (exit sum) ⌝ }
+{
+    let mut i = 0;
+    while i < WORDS {
+        sum[i] = sum[i] | words[i];
+        i += 1;
+    }
+}
+
+// The live tuples of relation s that may agree with tuple x of relation r, another one, are live in `sum` too. Tuples of other relations may be.
+fn gather_near(
+    variables: &[u16],
+    values: &[Value],
+    starts: &Starts,
+    index: &Index,
+    words: &Words,
+    sum: &mut Words,
+    r: u16,
+    x: u16,
+    s: u16,
+)
+    requires { ⌜ Long (now words) × Long (now sum) ⌝ }
+    requires { ⌜ Seeks (lists now variables values starts) (now index) r x × (Two r s × (s ≡ r → ⊥)) ⌝ }
+    ensures { λ _. ⌜ Long (exit sum) × Gathers (networkIn (lists entry variables values starts)) r x s (entry words) (entry sum) (exit sum) ⌝ }
+{
+    let only = [s];
+    let mut near = *words;
+    narrow_members(
+        variables,
+        values,
+        starts,
+        index,
+        &mut near,
+        &only,
+        1,
+        0,
+        r,
+        x,
+    );
+    join(&near, sum);
+}
+
+// The live tuples of relation s that may agree with a fresh one of relation r, another one, are live in `sum` too.
 fn gather_from(
     variables: &[u16],
     values: &[Value],
@@ -32,14 +81,14 @@ fn gather_from(
     s: u16,
 )
     requires { ⌜ Long (now fresh) × (Long (now words) × Long (now sum)) ⌝ }
-    requires { ⌜ Searchable (lists now variables values starts) (now index) × Two r s ⌝ }
+    requires { ⌜ Searchable (lists now variables values starts) (now index) × (Two r s × (s ≡ r → ⊥)) ⌝ }
     ensures { λ _. ⌜ GathersFrom (networkIn (lists entry variables values starts)) r s (entry fresh) (entry words) (entry sum) (exit sum) ⌝ }
 {
     let first = tuple_start(starts, r);
     let end = tuple_start(starts, r + 1);
     let mut g = next(fresh, first, end);
     while g < end {
-        gather(
+        gather_near(
             variables,
             values,
             starts,

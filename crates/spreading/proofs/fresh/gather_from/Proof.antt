@@ -1,5 +1,5 @@
 -- `gather_from` gathers what agrees with the fresh tuples of relation r, one after the other. The loop's invariant: what agrees with those passed is
--- gathered. From what `gather` ensures, and the laws of live words.
+-- gathered. From what `gather_near` ensures, and the laws of live words.
 use mathlib.Core.Path.{_≡_, refl, sym, _∙_, subst}
 use mathlib.Core.Bool.{true}
 use Prim.Native.Nat.{ℕ, _+_, _-_, _*_, _≤_, _<_}
@@ -34,13 +34,13 @@ module _ (c : tie.After-tuple-start2 Inv-loop μ-loop) where
   network = networkIn (record { variables = start .args .variables .now; values = start .args .values .now; starts = start .args .starts .now })
 
   first-is : c .before .tuple-start .result ≡ firstId network (start .args .r)
-  first-is = c .before .tuple-start .ensures ∙ tuple-start (start .pre .1 .0 .laid .framed) (start .args .r) (omega (arith, start .pre .1 .1 .0))
+  first-is = c .before .tuple-start .ensures ∙ tuple-start (start .pre .1 .0 .laid .framed) (start .args .r) (omega (arith, start .pre .1 .1 .0 .0))
 
   end-is : c .tuple-start2 .result ≡ firstId network (start .args .r) + size network (start .args .r)
-  end-is = c .tuple-start2 .ensures ∙ tuple-end (start .pre .1 .0 .laid .framed) (start .args .r) (start .pre .1 .1 .0)
+  end-is = c .tuple-start2 .ensures ∙ tuple-end (start .pre .1 .0 .laid .framed) (start .args .r) (start .pre .1 .1 .0 .0)
 
   few : c .tuple-start2 .result ≤ 4096
-  few = omega (arith, c .tuple-start2 .ensures, ids-few (start .pre .1 .0 .laid .framed) (start .args .r) (start .pre .1 .1 .0))
+  few = omega (arith, c .tuple-start2 .ensures, ids-few (start .pre .1 .0 .laid .framed) (start .args .r) (start .pre .1 .1 .0 .0))
 
   -- a walk from id g on
   walks : (g : ℕ) → g ≤ c .tuple-start2 .result → (g ≤ c .tuple-start2 .result) × (c .tuple-start2 .result ≤ 64 * length (start .args .fresh .now)) × (c .tuple-start2 .result ≤ 4096)
@@ -70,14 +70,14 @@ loop-holds c =
       ),
     )
 
-gather-requires : tie.Need-gather-requires Inv-loop μ-loop
-gather-requires c κs =
+gather-near-requires : tie.Need-gather-near-requires Inv-loop μ-loop
+gather-near-requires c κs =
     let turn = c .before in
     let l = turn .before .loop in
     let read = reading (turn .before) in
     let s = start read in (
       (s .pre .0 .1 .0, l .inv .0),
-      (record { laid = s .pre .1 .0 .laid; indexed = s .pre .1 .0 .indexed; own = omega (arith, first-is read, end-is read, turn .loop-test .taken, l .inv .1 .0 .0) }, s .pre .1 .1 .1),
+      (record { laid = s .pre .1 .0 .laid; indexed = s .pre .1 .0 .indexed; own = omega (arith, first-is read, end-is read, turn .loop-test .taken, l .inv .1 .0 .0) }, s .pre .1 .1),
     )
 
 loop-again : tie.Need-loop-again Inv-loop μ-loop
@@ -93,16 +93,16 @@ loop-again c =
     let n = c .next2 .ensures in
     let y = l .g - read .before .tuple-start .result in
     let is-g : firstId (network read) (a .r) + y ≡ l .g = omega (arith, first-is read, l .inv .1 .0 .0) in (
-      done .gather .ensures .0,
+      done .gather-near .ensures .0,
       (
         (omega (arith, n, f .from-i, l .inv .1 .0 .0), omega (arith, n, f .to-end)),
         (
           λ h. subst (λ (k : ℕ). isLive (a .fresh .now) k ≡ true) (sym n) (f .passes (omega (arith, n, h))),
           (
-            λ z h i. done .gather .ensures .1 .keeps z h (l .inv .1 .1 .1 .0 z h i),
-            gathered-more (network read) (a .r) (a .s) (a .fresh .now) (a .words .now) (l .sum) (done .gather .last .1 .1 .1 .1 .1 .0) y (c .next2 .result)
+            λ z h i. done .gather-near .ensures .1 .keeps z h (l .inv .1 .1 .1 .0 z h i),
+            gathered-more (network read) (a .r) (a .s) (a .fresh .now) (a .words .now) (l .sum) (done .gather-near .last .1 .1 .1 .1 .1 .0) y (c .next2 .result)
                 (λ k h i e. not-both e (f .none-before k (omega (arith, h, is-g)) (omega (arith, i, n))))
-                (done .gather .ensures .1)
+                (done .gather-near .ensures .1)
                 (subst (Gathered (network read) (a .r) (a .s) (a .fresh .now) (a .words .now) (l .sum)) (sym is-g) (l .inv .1 .1 .1 .1)),
           ),
         ),
@@ -129,7 +129,7 @@ gather-from-spec =
     (λ c κs. let read = c .before in walks read (read .before .tuple-start .result) (omega (arith, first-is read, end-is read)))
     loop-holds
     (λ c. let l = c .before .before in omega (arith, first-is (reading l), l .loop .inv .1 .0 .0))
-    gather-requires
+    gather-near-requires
     (λ c. let turn = c .before .before .before in omega (arith, turn .loop-test .taken, few (reading (turn .before))))
     (λ c κs. let turn = c .before .before .before in walks (reading (turn .before)) (turn .before .loop .g + 1) (omega (arith, turn .loop-test .taken)))
     (λ c.

@@ -9,7 +9,7 @@ use lib.ListN.{length, getD}
 use borrow.Author.Needs.{needs}
 use Rattle.model.specs.Network.{Network}
 use Rattle.layout.specs.Setting.{networkIn}
-use Rattle.spreading.proofs.Kept.{member-below}
+use Rattle.spreading.proofs.Kept.{member-below, differ}
 use Rattle.spreading.proofs.Meeting.{Through, through-none, through-past, through-more, through-all}
 use Rattle.spreading.proofs.fresh.gather_others.Statement.{statement}
 use Rattle.spreading.proofs.fresh.gather_others.Tie as tie
@@ -29,10 +29,22 @@ network s = networkIn (record { variables = s .args .variables .now; values = s 
 
 gather-from-requires : tie.Need-gather-from-requires Inv-loop μ-loop
 gather-from-requires c κs =
-    let turn = c .before .before .before .before .before in
+    let other = c .before .before .before in
+    let turn = other .before .before in
     let s = start (turn .before) in
+    let a = s .args in
     let P = s .pre .1 .0 .0 in
-    ((s .pre .0 .0, (s .pre .0 .1 .0, turn .before .loop .inv .0 .long)), (P .0, (member-below (P .0 .laid) (P .1) (turn .before .loop .i) (turn .loop-test .taken), member-below (P .0 .laid) (P .1) (s .args .j) (s .pre .1 .1))))
+    let i = turn .before .loop .i in
+    let below : (k : ℕ) → k < length (a .members .now) → getD (a .members .now) k 0 < 64 = member-below (P .0 .laid) (P .1) in (
+      (s .pre .0 .0, (s .pre .0 .1 .0, turn .before .loop .inv .0 .long)),
+      (
+        P .0,
+        (
+          (below i (turn .loop-test .taken), below (a .j) (s .pre .1 .1)),
+          differ (network s) (a .members .now) (P .1) (a .j) i (s .pre .1 .1) (turn .loop-test .taken) (λ e. other .if2 .taken (sym e)),
+        ),
+      ),
+    )
 
 -- one member more
 more : (c : tie.Joined1 Inv-loop μ-loop) →
