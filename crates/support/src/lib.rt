@@ -877,7 +877,7 @@ fn search_all(
     )
 }
 
-// The same, where every support has a fresh tuple: if some are known not to be, members are narrowed through those that are.
+// The same, where every support has a fresh tuple: members are narrowed through those that are.
 fn search_fresh(
     variables: &[u16],
     values: &[Value],
@@ -894,19 +894,6 @@ fn search_fresh(
     requires { ⌜ Long (now fresh) × MeetsIn (searching now variables values starts words members place own low) (now fresh) ⌝ }
     ensures { λ f. ⌜ FindsFirst (searching entry variables values starts words members place own low) f ⌝ }
 {
-    if is_live(fresh, tuple_start(starts, members[place])) {
-        return search_all(
-            variables,
-            values,
-            starts,
-            index,
-            words,
-            members,
-            place,
-            own,
-            low,
-        );
-    }
     let mut fewer = *words;
     if !narrow_to_fresh(
         variables,
@@ -1018,18 +1005,36 @@ pub fn first_support(
     ) {
         return none;
     }
-    let found = search_fresh(
-        variables,
-        values,
-        starts,
-        index,
-        &candidates,
-        members,
-        place,
-        own,
-        low,
-        fresh,
-    );
+    let found = if is_live(fresh, tuple_start(starts, r)) {
+        search(
+            variables,
+            values,
+            starts,
+            index,
+            &candidates,
+            members,
+            place,
+            own,
+            low,
+            k,
+            true,
+            tuples,
+            false,
+        )
+    } else {
+        search_fresh(
+            variables,
+            values,
+            starts,
+            index,
+            &candidates,
+            members,
+            place,
+            own,
+            low,
+            fresh,
+        )
+    };
     if 2 * LONG <= found.kind {
         let tuples = found.tuples;
         note(

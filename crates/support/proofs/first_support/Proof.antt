@@ -3,6 +3,7 @@
 use mathlib.Core.Path.{_≡_, refl, sym, _∙_, ap, subst}
 use mathlib.Core.Bool.{true}
 use mathlib.Core.List.{List}
+use mathlib.Core.Logic.{⊎-elim}
 use Prim.Native.Nat.{ℕ, _+_, _<_}
 use native.Mathlib.Omega.{arith}
 use lib.Dec.{ltb}
@@ -200,9 +201,32 @@ further n =
     let e = ahead n in
     omega (arith, behind-within (a .args .place) (p .past-own .result .k) (length (a .args .members .now)) (turn-inside (e .before)) (a .pre .0 .1 .sound .place), e .before .place-behind .ensures, e .if3 .left)
 
+-- the search's first stage
+open-stage : (n : tie.After-spread-members) →
+    let p = placed (before n) in
+    NextStage (narrowed n) true 0 (begun p .args .low) (p .past-own .result)
+open-stage n = stage-over (placed (before n)) (fewest n) (begins n)
+
+search-requires : tie.Need-search-requires
+search-requires c κs =
+    let n = c .before .before .before .before .before .before .before in
+    let S = open-stage n in (
+      (
+        n .spread-members .ensures .0,
+        record {
+          seeking = record { sound = begins n .sound; indexed = start (before n) .pre .0 .1 .indexed };
+          prefix = S .prefix;
+          lives = begins n .lives;
+          inside = turn-inside (ahead n .before);
+          other = S .other;
+        },
+      ),
+      further n,
+    )
+
 search-fresh-requires : tie.Need-search-fresh-requires
 search-fresh-requires c κs =
-    let n = c .before .before .before in
+    let n = c .before .before .before .before .before .before .before .before in
     let p = placed (before n) in
     let a = begun p in (
       (
@@ -223,9 +247,9 @@ search-fresh-requires c κs =
 
 -- ---- What it came to
 
-module _ (c : tie.After-search-fresh) where
+module _ (c : tie.Joined6) where
   abbrev spread : tie.After-spread-members
-  spread = c .before .before .before .before
+  spread = c .before .before .before .before .before .before
 
   abbrev whole : Search
   whole = given spread
@@ -234,10 +258,14 @@ module _ (c : tie.After-search-fresh) where
   asked = start (before spread)
 
   abbrev result : Found
-  result = c .search-fresh .result
+  result = c .if6 .found
 
   finds : FindsFirst whole result
-  finds = c .search-fresh .ensures ∙ begins spread .same
+  finds =
+      ⊎-elim
+      (λ w. subst (FindsFirst whole) (sym (w .3)) (w .2 .ensures ∙ open-stage spread .same ∙ all-there spread))
+      (λ w. subst (FindsFirst whole) (sym (w .4)) (w .3 .ensures ∙ begins spread .same))
+      (c .if6 .came)
 
   rises : pairwise ltb (asked .args .members .now) ≡ true
   rises = and-right (all (λ (r : ℕ). ltb r (length (netOf whole .relations))) (asked .args .members .now)) (pairwise ltb (asked .args .members .now)) (asked .pre .0 .1 .sound .members)
@@ -297,6 +325,12 @@ first-support-spec =
     returns-4
     spread-members-requires
     returns-5
+    (λ c κs. let a = start (before (c .before .before .before)) in omega (arith, member-below (searchOf a) (a .pre .0 .1 .sound) (a .args .place) (a .pre .0 .1 .sound .place)))
+    (λ c κs.
+    let a = start (before (c .before .before .before .before)) in
+    let R = a .pre .0 .1 .sound in
+    omega (arith, c .tuple-start2 .ensures, member-start (searchOf a) R (a .args .place) (R .place), seeker-below (searchOf a) R, few-tuples (searchOf a) R, a .pre .1 .0))
+    search-requires
     search-fresh-requires
     (λ c. search needs)
     (λ c. let f = c .before .before .before .before .before in omega (arith, at-inside f, asked f .pre .0 .1 .sound .few))

@@ -1,4 +1,4 @@
--- `search_fresh` narrows members through fresh tuples, if some are not, and begins the search.
+-- `search_fresh` narrows members through fresh tuples, and begins the search.
 -- From what narrowing through fresh tuples keeps, and the laws of narrowed words.
 use mathlib.Core.Path.{_≡_, refl, sym, _∙_, ap}
 use mathlib.Core.List.{List}
@@ -35,7 +35,7 @@ module _ (a : tie.Start) where
 
 module _ (c : tie.After-narrow-to-fresh) where
   abbrev start : tie.Start
-  start = c .before .before .before .before .before .before .before .before .before .before .before
+  start = c .before .before .before .before .before .before
 
   abbrev fewest : List ℕ
   fewest = c .narrow-to-fresh .last .1 .1 .1 .1 .0
@@ -46,7 +46,7 @@ module _ (c : tie.After-narrow-to-fresh) where
 
 narrow-to-fresh-requires : tie.Need-narrow-to-fresh-requires
 narrow-to-fresh-requires c κs =
-    let a = c .before .before .before .before .before .before .before .before .before .before in
+    let a = c .before .before .before .before .before in
     let R = rooted a .seeking .sound in
     ((a .pre .0 .0, a .pre .1 .0), (((record { laid = R .laid; indexed = rooted a .seeking .indexed }, record { proper = R .members; few = R .few }), R .place), a .pre .1 .1))
 
@@ -54,18 +54,10 @@ pub search-fresh-spec : {M : Type 1} → statement M
 search-fresh-spec =
     tie.close
     (tie.spec
-    (λ c. search needs)
-    (λ c. rooted (c .before .before .before .before .before) .seeking .sound .place)
-    (λ c κs. let a = c .before .before .before .before .before in omega (arith, member-below (searchOf a) (rooted a .seeking .sound) (a .args .place) (rooted a .seeking .sound .place)))
-    (λ c κs.
-    let a = c .before .before .before .before .before .before in
-    let R = rooted a .seeking .sound in
-    omega (arith, c .tuple-start .ensures, member-start (searchOf a) R (a .args .place) (R .place), seeker-below (searchOf a) R, few-tuples (searchOf a) R, a .pre .1 .0))
-    (λ c κs. search needs) (λ c. search needs)
     narrow-to-fresh-requires
     (λ c.
     let n = c .before in
     let Q = searchOf (start n) in
-    sym (sym (root-all Q (fewest n) (begins n) (start n .args .low)) ∙ sought-none Q (fewest n) 0 (start n .args .low) (n .narrow-to-fresh .ensures .1 .1 (not-true _ (c .if2 .taken)))))
+    sym (sym (root-all Q (fewest n) (begins n) (start n .args .low)) ∙ sought-none Q (fewest n) 0 (start n .args .low) (n .narrow-to-fresh .ensures .1 .1 (not-true _ (c .if1 .taken)))))
     (λ c κs. let n = c .before .before in (n .narrow-to-fresh .ensures .0, record { seeking = record { sound = begins n .sound; indexed = rooted (start n) .seeking .indexed }; lives = begins n .lives; further = rooted (start n) .further }))
-    (λ c. let n = c .before .before .before in c .search-all2 .ensures ∙ begins n .same))
+    (λ c. let n = c .before .before .before in c .search-all .ensures ∙ begins n .same))
