@@ -9,8 +9,8 @@ ghost use Rattle.model.specs.Agreement.{cells, under};
 ghost use Rattle.model.specs.LiveWords.{isSet};
 ghost use Rattle.layout.specs.Loan.{entry};
 ghost use Rattle.layout.specs.Starts.{recordsIn};
-ghost use Rattle.layout.specs.Setting.{lists, networkIn, setting, SoundLists};
-ghost use Rattle.doubles.specs.Alike.{TupleAt, Alike, MembersIn, CoversFrom, PairAt, Common};
+ghost use Rattle.layout.specs.Setting.{lists, networkIn, SoundLists};
+ghost use Rattle.doubles.specs.Alike.{TupleAt, Alike, MembersIn, CoversFrom};
 use combination::mask_of;
 use layout::Starts;
 use layout::place_of;
@@ -32,7 +32,7 @@ pub fn has_variable(set: u64, v: u16) -> bool
 }
 
 // The set of relation r's variables.
-fn variables_of(variables: &[u16], values: &[Value], starts: &Starts, r: u16) -> u64
+pub fn variables_of(variables: &[u16], values: &[Value], starts: &Starts, r: u16) -> u64
     requires { ⌜ SoundLists (lists now variables values starts) × (r < length (recordsIn (now starts))) ⌝ }
     ensures { λ w. ⌜ ((v : ℕ) → isSet w v ≡ elem v (scopeOf (networkIn (lists entry variables values starts)) r)) ⌝ }
 {
@@ -62,31 +62,6 @@ pub fn variables_from(
         j += 1;
     }
     common
-}
-
-// The set of all variables that the members of pair p's combination have, but for its own member.
-pub fn variables_of_others(
-    variables: &[u16],
-    values: &[Value],
-    starts: &Starts,
-    members: &[u16],
-    m: u16,
-    p: u16,
-) -> u64
-    requires { ⌜ PairAt (setting now variables values starts members m) p ⌝ }
-    ensures { λ w. ⌜ Common (setting entry variables values starts members m) p w ⌝ }
-{
-    let each = wide(m);
-    let base = wide(p) / each * each;
-    let end = base + each;
-    variables_from(
-        variables,
-        values,
-        starts,
-        &members[base..end],
-        wide(p) % each,
-        0,
-    )
 }
 
 // ---- Whether two tuples have the same values

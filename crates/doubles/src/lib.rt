@@ -29,12 +29,12 @@ fn mixed(hash: u64, value: Value) -> u64
     (product / 4294967296 + product % 4294967296) % 4294967296
 }
 
-// A place in the table, by the values in every column whose variable is in the set.
-fn hash_in(scope: &[u16], tuple: &[Value], common: u64) -> usize
-    requires { ⌜ length (now scope) ≡ length (now tuple) ⌝ }
+// A place in the table, by the values in every column whose variable is in the set, from a first hash on.
+fn hash_in(scope: &[u16], tuple: &[Value], common: u64, seed: u64) -> usize
+    requires { ⌜ (length (now scope) ≡ length (now tuple)) × (seed < hashBound) ⌝ }
     ensures { λ k. ⌜ k < places ⌝ }
 {
-    let mut hash = 0;
+    let mut hash = seed;
     let mut c = 0;
     while c < scope.len() {
         if has_variable(common, scope[c]) {
@@ -53,8 +53,9 @@ fn tuple_hash(
     r: u16,
     x: u16,
     common: u64,
+    seed: u64,
 ) -> usize
-    requires { ⌜ TupleAt (lists now variables values starts) r x ⌝ }
+    requires { ⌜ TupleAt (lists now variables values starts) r x × (seed < hashBound) ⌝ }
     ensures { λ k. ⌜ k < places ⌝ }
 {
     let p = place_of(starts, r, x);
@@ -66,11 +67,37 @@ fn tuple_hash(
         &variables[scope..scope_end],
         &values[tuple..tuple_end],
         common,
+        seed,
     )
 }
 
-// The tuple before x that is entered at the hash of x's values, if it has x's values under the variables of the set; x otherwise, which is
-// entered if no tuple before it is.
+// The tuple before x that is entered at a place, if it has x's values under the variables of the set; x otherwise, which is entered if no
+// tuple before it is.
+fn alike_at(
+    variables: &[u16],
+    values: &[Value],
+    starts: &Starts,
+    table: &mut Table,
+    r: u16,
+    x: u16,
+    common: u64,
+    place: usize,
+) -> u16
+    requires { ⌜ TupleAt (lists now variables values starts) r x × (length (now table) ≡ places) × (place < places) ⌝ }
+    ensures { λ y. ⌜ FirstAlike (lists entry variables values starts) common r x (entry table) y (exit table) ⌝ }
+{
+    let y = table[place];
+    if x <= y {
+        table[place] = x;
+        return x;
+    }
+    if !same_values(variables, values, starts, r, x, y, common) {
+        return x;
+    }
+    y
+}
+
+// The same at the place by the hash of x's values.
 pub fn first_alike(
     variables: &[u16],
     values: &[Value],
@@ -83,14 +110,80 @@ pub fn first_alike(
     requires { ⌜ TupleAt (lists now variables values starts) r x × (length (now table) ≡ places) ⌝ }
     ensures { λ y. ⌜ FirstAlike (lists entry variables values starts) common r x (entry table) y (exit table) ⌝ }
 {
-    let class = tuple_hash(variables, values, starts, r, x, common);
-    let y = table[class];
-    if x <= y {
-        table[class] = x;
+    let place = tuple_hash(variables, values, starts, r, x, common, 0);
+    alike_at(variables, values, starts, table, r, x, common, place)
+}
+
+// The same at a place, and if a tuple with other values is there, at the next one.
+fn alike_by(
+    variables: &[u16],
+    values: &[Value],
+    starts: &Starts,
+    table: &mut Table,
+    r: u16,
+    x: u16,
+    common: u64,
+    place: usize,
+) -> u16
+    requires { ⌜ TupleAt (lists now variables values starts) r x × (length (now table) ≡ places) × (place < places) ⌝ }
+    ensures { λ y. ⌜ FirstAlike (lists entry variables values starts) common r x (entry table) y (exit table) ⌝ }
+{
+    let y = alike_at(variables, values, starts, table, r, x, common, place);
+    if y < x {
+        return y;
+    }
+    if table[place] == x {
         return x;
     }
-    if !same_values(variables, values, starts, r, x, y, common) {
-        return x;
+    alike_at(
+        variables,
+        values,
+        starts,
+        table,
+        r,
+        x,
+        common,
+        (place + 1) % PLACES,
+    )
+}
+
+// The same by a hash that begins with the seed.
+pub fn alike_from(
+    variables: &[u16],
+    values: &[Value],
+    starts: &Starts,
+    table: &mut Table,
+    r: u16,
+    x: u16,
+    common: u64,
+    seed: u64,
+) -> u16
+    requires { ⌜ TupleAt (lists now variables values starts) r x × (length (now table) ≡ places) × (seed < hashBound) ⌝ }
+    ensures { λ y. ⌜ FirstAlike (lists entry variables values starts) common r x (entry table) y (exit table) ⌝ }
+{
+    let place = tuple_hash(variables, values, starts, r, x, common, seed);
+    alike_by(variables, values, starts, table, r, x, common, place)
+}
+
+// The same from nought on. Where the first entry has x's values, that is all.
+pub fn alike_soon(
+    variables: &[u16],
+    values: &[Value],
+    starts: &Starts,
+    table: &mut Table,
+    r: u16,
+    x: u16,
+    common: u64,
+) -> u16
+    requires { ⌜ TupleAt (lists now variables values starts) r x × (length (now table) ≡ places) ⌝ }
+    ensures { λ y. ⌜ FirstAlike (lists entry variables values starts) common r x (entry table) y (exit table) ⌝ }
+{
+    let place = tuple_hash(variables, values, starts, r, x, common, 0);
+    let y = table[place];
+    if y < x {
+        if same_values(variables, values, starts, r, x, y, common) {
+            return y;
+        }
     }
-    y
+    alike_by(variables, values, starts, table, r, x, common, place)
 }

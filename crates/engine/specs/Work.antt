@@ -19,7 +19,8 @@ use Rattle.narrowing.specs.Narrows.{Long}
 use Rattle.spreading.specs.Fresh.{Meets}
 use Rattle.sweeping.specs.Shrunk.{Shrunk}
 use Rattle.worklist.specs.Supports.{SupportsFit, PairsBegin, Supported, Done}
-use Rattle.doubles.specs.Alike.{Common}
+use Rattle.twins.specs.declared.sides.Sides.{Sides}
+use Rattle.twins.specs.Sides.{Sided}
 use Rattle.twins.specs.Twins.{Noted}
 use Rattle.layout.specs.Loan.{Loan, entry, exit}
 use Rattle.layout.specs.Setting.{Setting, network, listed, liveIn, Sound}
@@ -85,12 +86,12 @@ pub record SeekAt (G : Setting) (index words numbers : List ℕ) (p x at : ℕ) 
   pub indexed : Indexed (network G) index
   pub place : at ≡ placeOf G p x
 
--- What its renewal asks: the tuples before it are done and noted, and every variable that the other members have is in the set.
-pub record RenewAt (G : Setting) (index words numbers sought : List ℕ) (p x at set : ℕ) : Type 0 where
+-- What its renewal asks: the tuples before it are done and noted, and the other members have these sides.
+pub record RenewAt (G : Setting) (index words numbers sought : List ℕ) (p x at : ℕ) (sides : Sides) : Type 0 where
   pub seek : SeekAt G index words numbers p x at
   pub done : Done G words numbers p x
   pub noted : Noted G words p x sought
-  pub common : Common G p set
+  pub sided : Sided G p sides
 
 -- what is known of fresh tuples in a visit of pair p: every support in its combination has one beside the member's own
 abbrev pub Beside : Setting → ℕ → List ℕ → List ℕ → Type 0

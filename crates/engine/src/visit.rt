@@ -8,7 +8,6 @@ ghost use Rattle.doubles.specs.Doubles.{Entered};
 ghost use Rattle.engine.specs.Work.{SeekAt, RenewAt, Beside, Renewed, VisitAt, Visited};
 use doubles::PLACES;
 use doubles::Table;
-use doubles::alike::variables_of_others;
 use layout::Starts;
 use layout::put;
 use layout::tuple_start;
@@ -24,6 +23,8 @@ use spreading::steps::steps_of_pair;
 use support::FOUND;
 use support::first_support;
 use twins::Twin;
+use twins::sides::Sides;
+use twins::sides::sides_of;
 use twins::take_twin;
 use value_index::Index;
 use worklist::list::PairStarts;
@@ -107,12 +108,12 @@ fn replace(
     p: u16,
     x: u16,
     at: usize,
-    common: u64,
+    sides: Sides,
     steps: u64,
     fresh: &mut Words,
 ) -> bool
     requires { ⌜ Long (now words) × Beside (setting now variables values starts members m) p (now words) (now fresh) ⌝ }
-    requires { ⌜ RenewAt (setting now variables values starts members m) (now index) (now words) (now numbers) (now sought) p x at common ⌝ }
+    requires { ⌜ RenewAt (setting now variables values starts members m) (now index) (now words) (now numbers) (now sought) p x at sides ⌝ }
     ensures { λ r. ⌜ Renewed (setting entry variables values starts members m) p x (entry words) (entry numbers) r (exit words) (exit numbers) ⌝ }
     ensures { λ _. ⌜ Entered x (entry sought) (exit sought) ⌝ }
     ensures { λ _. ⌜ Beside (setting entry variables values starts members m) p (entry words) (exit fresh) ⌝ }
@@ -129,7 +130,7 @@ fn replace(
         p,
         x,
         at,
-        common,
+        sides,
     );
     match twin {
         Twin::Taken => true,
@@ -170,12 +171,12 @@ pub fn renew(
     p: u16,
     x: u16,
     at: usize,
-    common: u64,
+    sides: Sides,
     steps: u64,
     fresh: &mut Words,
 ) -> bool
     requires { ⌜ Long (now words) × Beside (setting now variables values starts members m) p (now words) (now fresh) ⌝ }
-    requires { ⌜ RenewAt (setting now variables values starts members m) (now index) (now words) (now numbers) (now sought) p x at common ⌝ }
+    requires { ⌜ RenewAt (setting now variables values starts members m) (now index) (now words) (now numbers) (now sought) p x at sides ⌝ }
     ensures { λ r. ⌜ Renewed (setting entry variables values starts members m) p x (entry words) (entry numbers) r (exit words) (exit numbers) ⌝ }
     ensures { λ _. ⌜ Entered x (entry sought) (exit sought) ⌝ }
     ensures { λ _. ⌜ Beside (setting entry variables values starts members m) p (entry words) (exit fresh) ⌝ }
@@ -200,7 +201,7 @@ pub fn renew(
         p,
         x,
         at,
-        common,
+        sides,
         steps,
         fresh,
     )
@@ -223,7 +224,7 @@ pub fn visit(
     requires { ⌜ WordArray (now words) × VisitAt (setting now variables values starts members m) (now index) (now «pair_starts») (now words) (now numbers) p ⌝ }
     ensures { λ r. ⌜ Visited (setting entry variables values starts members m) p (queue .words) (entry words) (entry numbers) (r .words) (exit words) (exit numbers) ⌝ }
 {
-    let common = variables_of_others(variables, values, starts, members, m, p);
+    let sides = sides_of(variables, values, starts, members, m, p);
     let steps = steps_at(index, members, m, p);
     let r = members[wide(p)];
     let first = tuple_start(starts, r);
@@ -250,7 +251,7 @@ pub fn visit(
             p,
             x,
             at,
-            common,
+            sides,
             steps,
             &mut fresh,
         ) {

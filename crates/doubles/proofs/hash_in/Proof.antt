@@ -10,10 +10,10 @@ use Rattle.doubles.proofs.hash_in.Statement.{statement}
 use Rattle.doubles.proofs.hash_in.Tie as tie
 
 abbrev Inv-loop : tie.InvT-loop
-Inv-loop scope tuple common hash₀ c₀ hash c = hash < hashBound
+Inv-loop scope tuple common seed hash₀ c₀ hash c = hash < hashBound
 
 abbrev μ-loop : tie.MeasureT-loop
-μ-loop scope tuple common hash₀ c₀ hash c = length scope - c
+μ-loop scope tuple common seed hash₀ c₀ hash c = length scope - c
 
 loop-again : tie.Need-loop-again Inv-loop μ-loop
 loop-again c =

@@ -1,28 +1,30 @@
--- `take_twin` meets its contract: the entry of x's class that is a twin and fell leaves x no support; one that lives, with whose support x
--- agrees, gives x its first support. From the laws of such a tuple, and the contracts of the functions called.
-use mathlib.Core.Path.{_≡_, refl, sym, _∙_, ap, ap₂, subst}
+-- `take_twin` meets its contract: what is found under the variables of either side is such a tuple, and was sought.
+-- From the laws of twins, and the contracts of the functions called.
+use mathlib.Core.Path.{_≡_, refl, sym, _∙_, ap, subst}
 use mathlib.Core.Bool.{true}
-use mathlib.Core.List.{List, _++_}
-use Prim.Native.Nat.{ℕ, _+_, _-_, _*_, _%_, _<_}
-use native.Mathlib.Nat.{mod-lt}
+use mathlib.Core.Logic.{⊎-elim}
+use mathlib.Core.List.{List}
+use Prim.Native.Nat.{ℕ, _+_, _<_}
+use native.Mathlib.Decide.{ℕ-discrete}
 use native.Mathlib.Omega.{arith}
-use lib.ListN.{getD, take, drop, set, replicate}
+use lib.ListN.{getD}
 use borrow.Author.Needs.{needs}
 use borrow.Author.Tests.{not-true, not-false}
-use Rattle.model.specs.Limits.{maxMembers}
+use Rattle.model.specs.TupleSet.{has}
 use Rattle.model.specs.Network.{size, total}
 use Rattle.model.specs.Combination.{pairMember}
 use Rattle.model.specs.LiveWords.{isLive}
 use Rattle.layout.specs.Starts.{tupleStart}
-use Rattle.layout.specs.Setting.{Setting, network, Sound}
-use Rattle.layout.specs.Pairs.{placeOf}
-use Rattle.layout.proofs.SoundStarts.{tuples-few}
-use Rattle.layout.proofs.Pairs.{member-below}
-use Rattle.worklist.specs.Supports.{replaced}
-use Rattle.twins.specs.declared.Twin.the-variants as twin
+use Rattle.layout.specs.Setting.{Setting, network, Sound, liveIn}
+use Rattle.layout.specs.Pairs.{tupleId}
+use Rattle.layout.proofs.SoundStarts.{tuple-start, tuples-few}
+use Rattle.layout.proofs.Pairs.{member-below, tuple-below}
 use Rattle.doubles.specs.Alike.{TupleAt, Alike}
-use Rattle.twins.specs.Twins.{Beside, AgreesWith, TwinAt, Outcome}
-use Rattle.twins.proofs.Taking.{numbers-within, earlier-in, place-back, back-within, loaded, id-inside, fallen-twin, loaded-within, taken-twin}
+use Rattle.doubles.specs.Doubles.{Entered, FirstAlike}
+use Rattle.doubles.proofs.Entries.{entered-both, alike-after}
+use Rattle.twins.specs.declared.sides.Sides.{Sides}
+use Rattle.twins.specs.Twins.{TwinAt, Earlier, Twins}
+use Rattle.twins.proofs.Taking.{common-near, lives-is, was-sought, fallen-twin}
 use Rattle.twins.proofs.take_twin.Statement.{statement}
 use Rattle.twins.proofs.take_twin.Tie as tie
 
@@ -37,13 +39,11 @@ module _ (a : tie.Start) where
         m = a .args .m;
       }
 
-  abbrev ready : TwinAt G (a .args .words .now) (a .args .numbers .now) (a .args .sought .now) (a .args .p) (a .args .x) (a .args .at) (a .args .common)
-  ready = a .pre
+  abbrev ready : TwinAt G (a .args .words .now) (a .args .numbers .now) (a .args .p) (a .args .x) (a .args .at)
+  ready = a .pre .0
 
   abbrev sound : Sound G
   sound = ready .at .sound
-
--- ---- The earlier tuple
 
 abbrev entry : tie.After-shared-slice-known4 → tie.Start
 entry c = c .before .before .before .before .before .before
@@ -58,130 +58,150 @@ tuple-at c x h =
     let s = entry c in
     record { laid = sound s .laid; own = subst (λ (r : ℕ). x < size (network (G s)) r) (sym (member-is c)) h }
 
-abbrev looked : tie.Else1 → tie.After-shared-slice-known4
-looked c = c .before .before .before
+-- ---- The earlier tuples
 
-abbrev start : tie.Else1 → tie.Start
-start c = entry (looked c)
+-- what is found in the table is such a tuple
+earlier : (c : tie.After-shared-slice-known4) (set y : ℕ) (after : List ℕ) → (let s = entry c in FirstAlike (G s .lists) set (getD (s .args .members .now) (c .before .wide .result) 0) (s .args .x) (s .args .sought .now) y after → Earlier (G s) (s .args .words .now) (s .args .p) (s .args .x) set y)
+earlier c set y after found =
+    let s = entry c in
+    record {
+      alike = λ l. subst (λ (r : ℕ). Alike (G s .lists) set r (s .args .x) y) (member-is c) (found .alike l);
+      sought = λ l. let at = found .entry l in was-sought (ready s) y l (s .pre .1 .0) (at .0) (at .1) (at .2);
+    }
 
-abbrev y : tie.Else1 → ℕ
-y c = c .before .first-alike .result
+-- what is found of the far side lives
+record Found (G : Setting) (words : List ℕ) (p x : ℕ) (sides : Sides) (y first : ℕ) (before after : List ℕ) (z : ℕ) : Type 0 where
+  twins : Twins G words p x sides y z
+  entered : Entered x before after
+  lives : (sides .places ≡ 0 → ⊥) → z < x → isLive words (first + z) ≡ true
 
-before : (c : tie.Else1) → y c < start c .args .x
-before c = omega (arith, c .if1 .left)
+abbrev near : tie.Joined1 → tie.After-alike-soon
+near c = c .before .before
 
-alike : (c : tie.Else1) → (let s = start c in Alike (G s .lists) (s .args .common) (pairMember (s .args .members .now) (s .args .p)) (s .args .x) (y c))
-alike c =
+abbrev read : tie.After-alike-soon → tie.After-tuple-start
+read c = c .before .before
+
+abbrev start : tie.Joined1 → tie.Start
+start c = entry (read (near c) .before)
+
+abbrev y : tie.Joined1 → ℕ
+y c = near c .alike-soon .result
+
+abbrev z : tie.Joined1 → ℕ
+z c = c .if1 .z
+
+-- the table once x is sought by the near side
+abbrev between : tie.After-alike-soon → List ℕ
+between c = c .alike-soon .last .1 .1 .1 .0
+
+by-near : (c : tie.After-alike-soon) → (let k = read c .before in let s = entry k in Earlier (G s) (s .args .words .now) (s .args .p) (s .args .x) (s .args .sides .near) (c .alike-soon .result))
+by-near c = let k = read c .before in earlier k (entry k .args .sides .near) (c .alike-soon .result) (between c) (c .alike-soon .ensures)
+
+found : (c : tie.Joined1) → (let s = start c in Found (G s) (s .args .words .now) (s .args .p) (s .args .x) (s .args .sides) (y c) (read (near c) .tuple-start .result) (s .args .sought .now) (c .if1 .sought) (z c))
+found c =
+    let n = near c in
+    let k = read n .before in
     let s = start c in
-    subst (λ (r : ℕ). Alike (G s .lists) (s .args .common) r (s .args .x) (y c)) (member-is (looked c)) (c .before .first-alike .ensures .alike (before c))
+    let F = Found (G s) (s .args .words .now) (s .args .p) (s .args .x) (s .args .sides) (y c) (read n .tuple-start .result) (s .args .sought .now) in
+    let joins : (after : List ℕ) (z′ : ℕ) → c .if1 .sought ≡ after → z c ≡ z′ → F after z′ → F (c .if1 .sought) (z c) =
+    λ after z′ e f t. subst (λ (l : List ℕ). F l (z c)) (sym e) (subst (F after) (sym f) t) in
+    ⊎-elim
+    (λ w.
+    let T = w .2 .ensures in
+    let after = w .2 .last .1 .1 .1 .1 .0 in
+    joins after (w .2 .result) (w .3) (w .4)
+    (record {
+      twins = record {
+        near = by-near n;
+        far = λ _. earlier k (s .args .sides .far) (w .2 .result) after (alike-after (s .args .x) (s .args .sought .now) (between n) after (n .alike-soon .ensures .entered) (T .found));
+        one = λ q. absurd (w .0 .taken q);
+      };
+      entered = entered-both (s .args .x) (s .args .sought .now) (between n) after (n .alike-soon .ensures .entered) (T .found .entered);
+      lives = λ _. T .lives;
+    }))
+    (λ w.
+    joins (between n) (y c) (w .1) (w .2)
+    (record { twins = record { near = by-near n; far = λ d. absurd (d (w .0 .left)); one = λ _. refl }; entered = n .alike-soon .ensures .entered; lives = λ d. absurd (d (w .0 .left)) }))
+    (c .if1 .came)
 
--- its id
-id-is : (c : tie.After-tuple-start) → (let e = c .before .before in let s = start e in c .tuple-start .result + y e ≡ tupleStart (s .args .starts .now) (pairMember (s .args .members .now) (s .args .p)) + y e)
-id-is c =
-    let e = c .before .before in
-    let s = start e in
-    ap (λ (g : ℕ). g + y e) (c .tuple-start .ensures ∙ ap (tupleStart (s .args .starts .now)) (member-is (looked e)))
+-- ---- Whether they live
 
-id-below : (c : tie.After-tuple-start) → (let e = c .before .before in let s = start e in c .tuple-start .result + y e < total (network (G s)))
-id-below c =
-    let e = c .before .before in
-    omega (arith, id-is c, id-inside (ready (start e)) (y e) (before e))
+abbrev looked : tie.Else3 → tie.Joined1
+looked c = c .before .before
 
--- whether it lives
-lives-is : (c : tie.After-is-live) → (let e = c .before .before .before in let s = start e in isLive (s .args .words .now) (tupleStart (s .args .starts .now) (pairMember (s .args .members .now) (s .args .p)) + y e) ≡ c .is-live .result)
-lives-is c = sym (c .is-live .ensures ∙ ap (isLive (start (c .before .before .before) .args .words .now)) (id-is (c .before)))
+y-before : (c : tie.Else3) → y (looked c) < start (looked c) .args .x
+y-before c = omega (arith, c .before .if2 .left)
 
-alive : (c : tie.Else2) → (let e = c .before .before .before .before in let s = start e in isLive (s .args .words .now) (tupleStart (s .args .starts .now) (pairMember (s .args .members .now) (s .args .p)) + y e) ≡ true)
-alive c = lives-is (c .before) ∙ not-false (c .before .is-live .result) (c .if2 .left)
+z-before : (c : tie.Else3) → z (looked c) < start (looked c) .args .x
+z-before c = omega (arith, c .if3 .left)
 
--- ---- Its numbers
+-- the id of a tuple k of the member
+id-is : (c : tie.After-tuple-start) (k : ℕ) → (let s = entry (c .before) in c .tuple-start .result + k ≡ tupleStart (s .args .starts .now) (pairMember (s .args .members .now) (s .args .p)) + k)
+id-is c k =
+    let s = entry (c .before) in
+    ap (λ (g : ℕ). g + k) (c .tuple-start .ensures ∙ ap (tupleStart (s .args .starts .now)) (member-is (c .before)))
 
-abbrev earlier : tie.After-wide3 → tie.Else1
-earlier c = c .before .before .before .before .before .before .before
+own-below : (c : tie.After-tuple-start) → (let s = entry (c .before) in c .tuple-start .result + s .args .x < total (network (G s)))
+own-below c =
+    let s = entry (c .before) in
+    let b = member-below (sound s .laid .framed) (sound s .paired) (s .args .p) (ready s .at .pair) in
+    omega (arith, id-is c (s .args .x), tuple-start (sound s .laid .framed) (pairMember (s .args .members .now) (s .args .p)) (omega (arith, b)), tuple-below (sound s) (s .args .p) (s .args .x) (ready s .at .pair) (ready s .index))
 
-each-is : (c : tie.After-wide2) → c .wide2 .result ≡ start (c .before .before .before .before .before) .args .m
-each-is c = c .wide2 .ensures .0
+abbrev tested : tie.After-is-live → tie.Else3
+tested c = c .before .before
 
--- how far they lie before x's
-back-is : (c : tie.After-wide3) → (let e = earlier c in let s = start e in c .wide3 .result * c .before .before .wide2 .result ≡ (s .args .x - y e) * s .args .m)
-back-is c = ap₂ (λ (k n : ℕ). k * n) (c .wide3 .ensures .0) (each-is (c .before .before))
+y-lives : (c : tie.After-is-live) → (let f = looked (tested c) in let s = start f in has (liveIn (G s) (s .args .words .now)) (tupleId (G s) (s .args .p) (y f)) ≡ c .is-live .result)
+y-lives c =
+    let e = tested c in
+    let f = looked e in
+    let s = start f in
+    lives-is (ready s) (y f) (y-before e) ∙ sym (c .is-live .ensures ∙ ap (isLive (s .args .words .now)) (id-is (read (near f)) (y f)))
 
-place-is : (c : tie.After-wide3) → (let e = earlier c in let s = start e in s .args .at - c .wide3 .result * c .before .before .wide2 .result ≡ placeOf (G s) (s .args .p) (y e))
-place-is c =
-    let e = earlier c in
-    let s = start e in
-    ap (λ (k : ℕ). s .args .at - k) (back-is c) ∙ place-back (ready s) (y e) (before e)
-
-loaded-is : (c : tie.After-load) → (let e = earlier (c .before) in let s = start e in c .load .result ≡ loaded (ready s) (y e) (before e))
-loaded-is c =
-    let w = c .before in
-    let e = earlier w in
-    let s = start e in
-    c .load .ensures
-    ∙ ap₂ (λ (n at : ℕ). take n (drop at (s .args .numbers .now)) ++ replicate (maxMembers - n) 0) (each-is (w .before .before)) (place-is w)
+z-lives : (c : tie.After-is-live) → c .is-live .result ≡ true → (let f = looked (tested c) in let s = start f in has (liveIn (G s) (s .args .words .now)) (tupleId (G s) (s .args .p) (z f)) ≡ true)
+z-lives c live = go (ℕ-discrete (start (looked (tested c)) .args .sides .places) 0)
+  where
+    go : (let f = looked (tested c) in let s = start f in Dec (s .args .sides .places ≡ 0) → has (liveIn (G s) (s .args .words .now)) (tupleId (G s) (s .args .p) (z f)) ≡ true)
+    go (yes q) =
+        let f = looked (tested c) in
+        let s = start f in
+        ap (λ (k : ℕ). has (liveIn (G s) (s .args .words .now)) (tupleId (G s) (s .args .p) k)) (found f .twins .one q) ∙ y-lives c ∙ live
+    go (no d) =
+        let e = tested c in
+        let f = looked e in
+        let s = start f in
+        lives-is (ready s) (z f) (z-before e) ∙ ap (isLive (s .args .words .now)) (sym (id-is (read (near f)) (z f))) ∙ found f .lives d (z-before e)
 
 -- ---- The needs
 
-load-requires : tie.Need-load-requires
-load-requires c κs =
-    let e = earlier c in
-    let s = start e in (
-      omega (arith, each-is (c .before .before), place-is c, numbers-within (ready s) (y e) (earlier-in (ready s) (y e) (before e))),
-      omega (arith, each-is (c .before .before), sound s .paired .list .few),
+far-twin-requires : tie.Need-far-twin-requires
+far-twin-requires c κs =
+    let n = c .before .before .before in
+    let k = read n .before in
+    let s = entry k in (
+      (tuple-at k (s .args .x) (ready s .index), n .alike-soon .ensures .entered .0 ∙ s .pre .1 .0 .long),
+      (omega (arith, own-below (read n), tuples-few (sound s .laid .framed)), omega (arith, own-below (read n), ready s .enough)),
     )
 
-agrees-with-requires : tie.Need-agrees-with-requires
-agrees-with-requires c κs =
-    let e = earlier (c .before) in
-    let s = start e in
-    subst (Beside (G s) (s .args .p) (s .args .x)) (sym (loaded-is c))
-    (record { at = ready s .at; index = ready s .index; within = loaded-within (ready s) (y e) (before e) (alive (c .before .before .before .before)) })
-
-abbrev stored : tie.After-store-arg → tie.After-load
-stored c = c .before .before .before .before
-
-place-below : (c : tie.After-wide4) → c .wide4 .result % c .before .before .before .before .before .before .wide2 .result < maxMembers
-place-below c =
-    let w = c .before .before .before .before .before .before in
-    let s = start (w .before .before .before .before .before) in
-    omega (arith, mod-lt (c .wide4 .result) (let l : 0 < w .wide2 .result = omega (arith, each-is w, sound s .paired .list .positive) in l), each-is w, sound s .paired .list .few)
-
-store-requires : tie.Need-store-requires
-store-requires c κs =
-    let w = stored c .before in
-    let s = start (earlier w) in (
-      omega (arith, each-is (w .before .before), ready s .begins, numbers-within (ready s) (s .args .x) (ready s .index)),
-      omega (arith, each-is (w .before .before), sound s .paired .list .few),
+returns-3 : tie.Need-returns-3
+returns-3 c =
+    let l = c .before .before .before in
+    let e = tested l in
+    let f = looked e in
+    let s = start f in
+    let T = found f .twins .near in (
+      (refl, fallen-twin (ready s) (y f) (y-before e) (T .sought (y-before e)) (s .args .sides .near) (common-near (ready s) (s .args .sides) (s .pre .1 .1) (c .if5 .taken)) (y-lives l ∙ not-true (l .is-live .result) (c .before .before .if4 .taken)) (T .alike (y-before e))),
+      found f .entered,
     )
 
-returns-2 : tie.Need-returns-2
-returns-2 c =
-    let e = c .before .before .before .before in
-    let s = start e in
-    let twin = e .before .first-alike .ensures in
-    let at = twin .entry (before e) in (
-      (refl, fallen-twin (ready s) (y e) (before e) (at .0) (at .1) (at .2) (lives-is (c .before) ∙ not-true (c .before .is-live .result) (c .if2 .taken)) (alike e)),
-      twin .entered,
-    )
-
-returns-4 : tie.Need-returns-4
-returns-4 c =
-    let t = c .before .before in
-    let l = stored (t .before) in
-    let w = l .before in
-    let e = earlier w in
-    let s = start e in
-    let a = s .args in
-    let agreed = t .before .before .before .before in (
-      subst (Outcome (G s) (a .p) (a .x) (a .words .now) (a .numbers .now) twin.Taken)
-          (sym
-          (t .store .ensures
-          ∙ ap₂ (λ (k i : ℕ). replaced (a .numbers .now) (take k (set (l .load .result) (i % k) (a .x))) (a .at) k) (each-is (w .before .before)) (t .before .before .wide4 .ensures .0)
-          ∙ ap (λ (is : List ℕ). replaced (a .numbers .now) (take (a .m) (set is (a .p % a .m) (a .x))) (a .at) (a .m)) (loaded-is l)))
-          (taken-twin (ready s) (y e) (before e) (alive (w .before .before .before)) (alike e)
-          (subst (AgreesWith (G s) (a .p) (a .x)) (loaded-is l) (agreed .agrees-with .ensures (not-false (agreed .agrees-with .result) (t .before .before .before .if3 .left))))),
-      e .before .first-alike .ensures .entered,
-    )
+take-requires : tie.Need-take-requires
+take-requires c κs =
+    let n = c .before in
+    let l = n .before in
+    let e = tested l in
+    let f = looked e in
+    let s = start f in
+    let live = not-false (l .is-live .result) (n .if4 .left) in
+    ((ready s, s .pre .1 .1), (found f .twins, record { y-before = y-before e; z-before = z-before e; y-lives = y-lives l ∙ live; z-lives = z-lives l live }))
 
 pub take-twin-spec : {M : Type 1} → statement M
 take-twin-spec =
@@ -190,25 +210,15 @@ take-twin-spec =
     (λ c κs. search needs)
     (λ c. omega (arith, c .wide .ensures .1))
     (λ c. omega (arith, c .before .wide .ensures .0, ready (entry c) .at .pair))
-    (λ c κs. let k = c .before in let s = entry k in (tuple-at k (s .args .x) (ready s .index), ready s .noted .long))
-    (λ c. (refl, c .before .first-alike .ensures .entered))
-    (λ c κs. let e = c .before in omega (arith, member-is (looked e), member-below (sound (start e) .laid .framed) (sound (start e) .paired) (start e .args .p) (ready (start e) .at .pair)))
-    (λ c. omega (arith, id-below c, tuples-few (sound (start (c .before .before)) .laid .framed)))
-    (λ c κs. omega (arith, id-below c, ready (start (c .before .before)) .enough))
-    returns-2
-    (λ c κs. search needs)
-    (λ c. let e = c .before .before .before .before .before .before in omega (arith, before e))
-    (λ c κs. search needs)
-    (λ c. let s = start (earlier c) in omega (arith, back-is c, back-within (ready s) (y (earlier c)) (before (earlier c)), ready s .begins, numbers-within (ready s) (s .args .x) (ready s .index)))
-    (λ c. let s = start (earlier c) in omega (arith, back-is c, back-within (ready s) (y (earlier c)) (before (earlier c))))
-    load-requires
-    agrees-with-requires
+    (λ c κs. let s = entry c in omega (arith, member-is c, member-below (sound s .laid .framed) (sound s .paired) (s .args .p) (ready s .at .pair)))
+    (λ c κs. let k = c .before .before in let s = entry k in (tuple-at k (s .args .x) (ready s .index), s .pre .1 .0 .long))
+    far-twin-requires
+    (λ c. (refl, found (c .before) .entered))
+    (λ c. (refl, found (c .before .before) .entered))
+    (λ c. let e = c .before in let f = looked e in omega (arith, own-below (read (near f)), y-before e, tuples-few (sound (start f) .laid .framed)))
+    (λ c κs. let e = c .before in let f = looked e in omega (arith, own-below (read (near f)), y-before e, ready (start f) .enough))
+    returns-3
+    (λ c. (refl, found (looked (tested (c .before .before .before))) .entered))
+    take-requires
     (λ c. search needs)
-    (λ c. (refl, earlier (c .before .before .before) .before .first-alike .ensures .entered))
-    (λ c κs. search needs)
-    (λ c. let w = c .before .before .before .before .before .before in omega (arith, each-is w, sound (start (w .before .before .before .before .before)) .paired .list .positive))
-    (λ c. omega (arith, place-below c))
-    (λ c. place-below c)
-    store-requires
-    (λ c. search needs)
-    returns-4)
+    (λ c. let k = c .before .before in (k .take .ensures, found (looked (tested (k .before .before .before))) .entered)))

@@ -47,18 +47,18 @@ entry c = c .before .before .before .before .before .before .before
 take-twin-requires : tie.Need-take-twin-requires
 take-twin-requires c κs =
     let a = entry c in
-    let s = seeker a in
-    record {
-      at = record { sound = s .sound; pair = s .pair };
-      index = s .index;
-      lives = s .lives;
-      enough = s .working .space .enough;
-      room = s .working .space .room;
-      done = a .pre .1 .done;
-      noted = a .pre .1 .noted;
-      begins = a .pre .1 .seek .place;
-      common = a .pre .1 .common;
-    }
+    let s = seeker a in (
+      record {
+        at = record { sound = s .sound; pair = s .pair };
+        index = s .index;
+        lives = s .lives;
+        enough = s .working .space .enough;
+        room = s .working .space .room;
+        done = a .pre .1 .done;
+        begins = a .pre .1 .seek .place;
+      },
+      (a .pre .1 .noted, a .pre .1 .sided),
+    )
 
 abbrev start : tie.After-slice-known2 → tie.Start
 start c = entry (c .before .before .before)

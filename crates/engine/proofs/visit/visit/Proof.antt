@@ -37,13 +37,13 @@ settingOf variables values starts members m =
     record { lists = record { variables = variables; values = values; starts = starts }; members = members; m = m }
 
 abbrev Inv-loop : tie.InvT-loop
-Inv-loop variables values starts index members m pair-starts words₀ numbers₀ p common steps r first end start sought₀ fresh₀ waiting₀ shrunk₀ g₀ words numbers sought fresh waiting shrunk g =
+Inv-loop variables values starts index members m pair-starts words₀ numbers₀ p sides steps r first end start sought₀ fresh₀ waiting₀ shrunk₀ g₀ words numbers sought fresh waiting shrunk g =
     WalkAt (settingOf variables values starts members m) p first end (waiting₀ .words) words₀ numbers₀ (waiting .words) words numbers shrunk g
     × Noted (settingOf variables values starts members m) words p (g - first) sought
     × Beside (settingOf variables values starts members m) p words fresh
 
 abbrev μ-loop : tie.MeasureT-loop
-μ-loop variables values starts index members m pair-starts words₀ numbers₀ p common steps r first end start sought₀ fresh₀ waiting₀ shrunk₀ g₀ words numbers sought fresh waiting shrunk g = end - g
+μ-loop variables values starts index members m pair-starts words₀ numbers₀ p sides steps r first end start sought₀ fresh₀ waiting₀ shrunk₀ g₀ words numbers sought fresh waiting shrunk g = end - g
 
 -- ---- What it is called on
 
@@ -245,7 +245,7 @@ renew-requires c κs =
         };
         done = l .inv .0 .going .done;
         noted = l .inv .1;
-        common = b .before .before .before .before .before .before .before .before .variables-of-others .ensures;
+        sided = b .before .before .before .before .before .before .before .before .sides-of .ensures;
       },
     )
 
