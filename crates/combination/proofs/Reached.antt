@@ -99,7 +99,7 @@ module _ (ms : List ℕ) (c : Combination) where
   common-intro : (r s x : ℕ) → isSet (getD ms r 0) x ≡ true → isSet (getD ms s 0) x ≡ true → common ms r s ≡ true
   common-intro r s x e f = meets-intro ms (getD ms r 0) s x f e
 
-  common-sym : (r s : ℕ) → common ms r s ≡ true → common ms s r ≡ true
+  pub common-sym : (r s : ℕ) → common ms r s ≡ true → common ms s r ≡ true
   common-sym r s e = let k = meets-at ms (getD ms r 0) s e in common-intro s r (k .0) (k .1) (k .2)
 
   module _ (all-known : all (known ms) c ≡ true) {r : ℕ} (m : List·Memᴰ r c) (v : ℕ) (p : Passed ms c (getD ms r 0) v) where
@@ -148,17 +148,18 @@ module _ (ms : List ℕ) (c : Combination) where
 -- ---- Of the masks of a network
 
 module _ (N : Network) (ms : List ℕ) (masks : Masks N ms) where
-  shared : (r s : ℕ) → common ms r s ≡ share N r s
-  shared r s =
+  -- relations have a variable in common exactly if they share one
+  pub masks-share : (r s : ℕ) → common ms r s ≡ share N r s
+  masks-share r s =
       iff-eq (common ms r s) (share N r s)
       (λ e. let k = meets-at ms (getD ms r 0) s e in share-intro N r s (k .0) (sym (masks r (k .0)) ∙ k .2) (sym (masks s (k .0)) ∙ k .1))
       (λ e. let k = share-at N r s e in meets-intro ms (getD ms r 0) s (k .0) (masks s (k .0) ∙ k .2) (masks r (k .0) ∙ k .1))
 
   pub masks-connected : (cs : List Combination) → all (connectedIn ms) cs ≡ all (connected N) cs
   masks-connected cs =
-      ap (λ (f : ℕ → ℕ → Bool). all (connectedBy f) cs) (λ i r s. shared r s i)
+      ap (λ (f : ℕ → ℕ → Bool). all (connectedBy f) cs) (λ i r s. masks-share r s i)
       ∙ ap (λ (f : Combination → Bool). all f cs) (λ i c. sym (connected-by N c) i)
 
   -- a relation that exists is known
   pub masks-known : Faultless N → (r : ℕ) → r < length (N .relations) → known ms r ≡ true
-  masks-known ok r h = and-intro (lt-ltb r maxRelations (omega (arith, ok .relations))) (shared r r ∙ share-self N ok r h)
+  masks-known ok r h = and-intro (lt-ltb r maxRelations (omega (arith, ok .relations))) (masks-share r r ∙ share-self N ok r h)

@@ -30,7 +30,7 @@ use model::Value;
 use model::refusal;
 
 // Of each relation a set of variables.
-type Masks = [u64; MAX_RELATIONS];
+pub type Masks = [u64; MAX_RELATIONS];
 
 // The set of a scope's variables: variable x is bit x.
 pub fn mask_of(scope: &[u16]) -> u64
@@ -47,7 +47,7 @@ pub fn mask_of(scope: &[u16]) -> u64
 }
 
 // Of each relation the set of its scope's variables.
-fn masks(variables: &[u16], values: &[Value], starts: &Starts) -> Masks
+pub fn masks(variables: &[u16], values: &[Value], starts: &Starts) -> Masks
     requires { ⌜ SoundLists (lists now variables values starts) ⌝ }
     ensures { λ ms. ⌜ Masks (networkIn (lists entry variables values starts)) ms ⌝ }
 {

@@ -14,7 +14,8 @@ use Rattle.model.specs.Network.{Network, noRelation, variablesIn, tuplesIn}
 use Rattle.model.specs.Request.{Change, Instance, Request}
 use Rattle.model.specs.Fault.{networkFaults}
 use Rattle.model.specs.Reply.{reply, testReply, compareReply}
-use Rattle.model.proofs.Edges.{Alike, same, instance-alike, reply-alike, testReply-alike, compareReply-alike, many-alike}
+use Rattle.model.specs.Enumeration.{enumerationReply}
+use Rattle.model.proofs.Edges.{Alike, same, instance-alike, reply-alike, testReply-alike, compareReply-alike, enumerationReply-alike, many-alike}
 use Rattle.layout.specs.Shape.{padded, shapeOf, recordAt, relationsOf, networkOf}
 use Rattle.layout.proofs.Relations.{relation-count, relation-at}
 
@@ -70,6 +71,9 @@ module _ (Rs : List Relation) where
 
     pub compareReply-shapeOf : (g h : ℕ) → compareReply (networkOf (shapeOf Rs) variables values) g h ≡ compareReply (over variables values) g h
     compareReply-shapeOf g h = compareReply-alike shapeOf-alike g h
+
+    pub enumerationReply-shapeOf : (m : ℕ) (list : List ℕ) → enumerationReply (networkOf (shapeOf Rs) variables values) m list ≡ enumerationReply (over variables values) m list
+    enumerationReply-shapeOf m list = enumerationReply-alike shapeOf-alike m list
 
     module _ (m : ℕ) (members words : List ℕ) where
       abbrev within : Network → Instance

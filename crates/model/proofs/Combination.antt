@@ -266,6 +266,20 @@ module _ (share : ℕ → ℕ → Bool) where
     start : Reaches c r r
     step : {s t : ℕ} → Reaches c r s → List·Memᴰ t c → share s t ≡ true → Reaches c r t
 
+  pub reaches-on : {c : Combination} {r s t : ℕ} → Reaches c r s → Reaches c s t → Reaches c r t
+  reaches-on v start = v
+  reaches-on v (step w n e) = step (reaches-on v w) n e
+
+  -- .. in a combination with more members too
+  pub reaches-more : {c d : Combination} {r t : ℕ} → ((s : ℕ) → List·Memᴰ s c → List·Memᴰ s d) → Reaches c r t → Reaches d r t
+  reaches-more f start = start
+  reaches-more f (step {s} {t} w n e) = step (reaches-more f w) (f t n) e
+
+  -- what is reached from a member is one
+  pub reaches-member : {c : Combination} {r t : ℕ} → List·Memᴰ r c → Reaches c r t → List·Memᴰ t c
+  reaches-member m start = m
+  reaches-member m (step w n e) = n
+
   -- what is reached from one group is in it, or the groups are joined
   crossing : {c xs ys : List ℕ} {r t : ℕ} → Divides c xs ys → List·Memᴰ r xs → Reaches c r t → List·Memᴰ t xs ⊎ (joinedBy (xs, ys) ≡ true)
   crossing d m start = inl m
@@ -281,6 +295,11 @@ module _ (share : ℕ → ℕ → Bool) where
   undivided-intro (x ∷ xs) (y ∷ ys) f = f x y here here
 
   module _ (symmetric : (s t : ℕ) → share s t ≡ true → share t s ≡ true) where
+    -- .. and reaches it
+    pub reaches-back : {c : Combination} {r t : ℕ} → List·Memᴰ r c → Reaches c r t → Reaches c t r
+    reaches-back m start = start
+    reaches-back m (step {s} {t} w n e) = reaches-on (step start (reaches-member m w) (symmetric s t e)) (reaches-back m w)
+
     joined-turned : (xs ys : List ℕ) → joinedBy (ys, xs) ≡ true → joinedBy (xs, ys) ≡ true
     joined-turned xs ys e = let j = joined-at ys xs e in joined-intro xs ys (j .3) (j .2) (symmetric (j .0) (j .1) (j .4))
 

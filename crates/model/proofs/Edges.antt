@@ -28,6 +28,8 @@ use Rattle.model.specs.LiveWords.{living, written}
 use Rattle.model.specs.Request.{Change, Instance, combinationsOf, Request}
 use Rattle.model.specs.Fault.{Fault, firstFault, within, properWidth, properScope, properLengths, properList, properMembers, networkFaults, combinationFaults, instanceFaults, wordsFault, supportsFault, changeFaults, idsFault, untrue, listFaults, faultsOn, faults, testFaults, compareFaults, accepts}
 use Rattle.model.specs.Reply.{answerNumbers, verdictNumbers, verdictFor, comparisonNumbers, comparisonFor, answerFor, remainder, leaving, accepted, refused, replyTo, reply, testReply, compareReply, request}
+use Rattle.model.specs.declared.Enumeration.the-variants.{Refused}
+use Rattle.model.specs.Enumeration.{connectedCombinations, enumerationFaults, enumerated, enumerationFor, enumerationReply}
 use Rattle.model.specs.Edges.{maxVariables, maxValues, maxMemberList, cutNetwork, cutInstance, restored}
 use Rattle.model.proofs.Bools.{and-left, and-right, false-intro}
 use Rattle.model.proofs.Lists.{here, select-mem}
@@ -76,6 +78,17 @@ module _ {I J : Instance} where
 pub compareReply-alike : {N M : Network} → Alike networkFaults N M → (g h : ℕ) → compareReply N g h ≡ compareReply M g h
 compareReply-alike (same e) g h = ap (λ (K : Network). compareReply K g h) e
 compareReply-alike {N} {M} (faulty f e d) g h = compareReply-faulty N f e g h ∙ sym (compareReply-faulty M f d g h)
+
+enumerationReply-faulty : (N : Network) (f : ℕ) → firstFault (networkFaults N) ≡ some f → (m : ℕ) (list : List ℕ) → enumerationReply N m list ≡ enumerated (Refused f) list
+unfolding enumerationReply enumerationFaults
+enumerationReply-faulty N f e m list =
+    let cs = connectedCombinations N m in
+    ap (λ (o : Option ℕ). enumerationFor o cs m list)
+    (firstFault-append-some (networkFaults N) ((7, not (within minMembers maxMembers m)) ∷ (15, ltb maxCombinations (length cs)) ∷ (16, ltb (length list) (length cs * m)) ∷ []) f e)
+
+pub enumerationReply-alike : {N M : Network} → Alike networkFaults N M → (m : ℕ) (list : List ℕ) → enumerationReply N m list ≡ enumerationReply M m list
+enumerationReply-alike (same e) m list = ap (λ (K : Network). enumerationReply K m list) e
+enumerationReply-alike {N} {M} (faulty f e d) m list = enumerationReply-faulty N f e m list ∙ sym (enumerationReply-faulty M f d m list)
 
 abbrev instance : Network → ℕ → List ℕ → Instance
 instance N m members = record { network = N; m = m; members = members }
@@ -233,6 +246,9 @@ module _ (I : Instance) where
   pub testReply-cut : (ws : List ℕ) → testReply I ws ≡ testReply (cutInstance I) ws
   testReply-cut ws = testReply-alike cut-first ws ∙ testReply-alike cut-then ws
 
+pub enumerationReply-cut : (N : Network) (m : ℕ) (list : List ℕ) → enumerationReply N m list ≡ enumerationReply (cutNetwork N) m list
+enumerationReply-cut N = enumerationReply-alike (cutNetwork-alike N)
+
 pub compareReply-cut : (N : Network) (g h : ℕ) → compareReply N g h ≡ compareReply (cutNetwork N) g h
 compareReply-cut N g h = compareReply-alike (cutNetwork-alike N) g h
 
@@ -281,7 +297,7 @@ module _ (q : Request) where
 -- ---- What a reply holds fits its width
 
 module _ (b : ℕ) (some-number : 0 < b) where
-  below-append : (xs ys : List ℕ) → ((i : ℕ) → getD xs i 0 < b) → ((i : ℕ) → getD ys i 0 < b) → (i : ℕ) → getD (xs ++ ys) i 0 < b
+  pub below-append : (xs ys : List ℕ) → ((i : ℕ) → getD xs i 0 < b) → ((i : ℕ) → getD ys i 0 < b) → (i : ℕ) → getD (xs ++ ys) i 0 < b
   below-append [] ys f g i = g i
   below-append (x ∷ xs) ys f g zero = f 0
   below-append (x ∷ xs) ys f g (suc i) = below-append xs ys (λ j. f (suc j)) g i
@@ -290,7 +306,7 @@ module _ (b : ℕ) (some-number : 0 < b) where
   below-each f [] h i = some-number
   below-each f (x ∷ xs) h i = below-append (f x) (each f xs) (h x) (below-each f xs h) i
 
-  below-past : (xs : List ℕ) (i : ℕ) → ((j : ℕ) → j < length xs → getD xs j 0 < b) → Dec (i < length xs) → getD xs i 0 < b
+  pub below-past : (xs : List ℕ) (i : ℕ) → ((j : ℕ) → j < length xs → getD xs j 0 < b) → Dec (i < length xs) → getD xs i 0 < b
   below-past xs i f (yes h) = f i h
   below-past xs i f (no d) = let e : getD xs i 0 ≡ 0 = List·getD-eq-default xs 0 (omega arith) in omega (arith, e)
 

@@ -15,7 +15,8 @@ use Rattle.model.specs.Agreement.{share}
 use Rattle.model.specs.Combination.{Combination}
 use Rattle.model.specs.Request.{combinationsOf, Request}
 use Rattle.model.specs.Fault.{accepts}
-use Rattle.model.specs.Tighter.{liesInside, IsConnected, Beside, LieInConnected, HaveBeside}
+use Rattle.model.specs.Enumeration.{IsConnected}
+use Rattle.model.specs.Tighter.{liesInside, Beside, LieInConnected, HaveBeside}
 use Rattle.model.proofs.Bools.{and-right, and-intro, and-left}
 use Rattle.model.proofs.Lists.{here, all-at, all-intro, mem-elem}
 use Rattle.model.proofs.Fault.{Faultless, faultless, accepts-network, accepts-proper, accepts-connected}

@@ -23,6 +23,7 @@ pub mod Edges
 pub mod Calls
 pub mod Several
 pub mod Mission
+pub mod Enumerated
 pub mod Tighter
 pub mod Extension
 pub mod Repeats

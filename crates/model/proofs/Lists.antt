@@ -75,6 +75,15 @@ module _ {ℓ} {A : Type ℓ} where
   any-intro p {x} (y ∷ xs) m e =
       ⊎-elim (λ h. or-left (any p xs) (sym (ap p h) ∙ e)) (λ h. or-right (p y) (any-intro p xs h e)) (List·Memᴰ·cases-cons m)
 
+  -- where the test does not hold of all, it fails of one
+  pub all-not : (p : A → Bool) (xs : List A) → all p xs ≡ false → (x : A) × List·Memᴰ x xs × (p x ≡ false)
+  all-not p [] e = absurd (true≢false e)
+  all-not p (x ∷ xs) e = either (p x) refl e (all-not p xs)
+    where
+      either : (b : Bool) → p x ≡ b → (b && all p xs) ≡ false → (all p xs ≡ false → (y : A) × List·Memᴰ y xs × (p y ≡ false)) → (y : A) × List·Memᴰ y (x ∷ xs) × (p y ≡ false)
+      either true q e rest = let k = rest e in (k .0, List·Memᴰ·tail (k .1), k .2)
+      either false q e rest = (x, here, q)
+
   pub pairwise-intro : (r : A → A → Bool) (xs : List A) → ((x y : A) → List·Memᴰ x xs → List·Memᴰ y xs → r x y ≡ true) → pairwise r xs ≡ true
   pairwise-intro r [] f = refl
   pairwise-intro r (x ∷ xs) f = and-intro (all-intro (r x) xs (λ y m. f x y here (List·Memᴰ·tail m))) (pairwise-intro r xs (λ y z m n. f y z (List·Memᴰ·tail m) (List·Memᴰ·tail n)))
@@ -201,6 +210,15 @@ module _ {A : Type 0} where
 pub select-cong {ℓ} : {A : Type ℓ} (p q : A → Bool) (xs : List A) → ((x : A) → List·Memᴰ x xs → p x ≡ q x) → select p xs ≡ select q xs
 select-cong p q [] f = refl
 select-cong p q (x ∷ xs) f = ap (λ b. keepIf b x (select p xs)) (f x here) ∙ ap (keepIf (q x) x) (select-cong p q xs (λ y m. f y (List·Memᴰ·tail m)))
+
+keep-map {ℓ κ} : {A : Type ℓ} {B : Type κ} (f : A → B) (b : Bool) (x : A) (xs : List A) → keepIf b (f x) (map f xs) ≡ map f (keepIf b x xs)
+keep-map f true x xs = refl
+keep-map f false x xs = refl
+
+-- of images, those of the elements whose images pass
+pub select-map {ℓ κ} : {A : Type ℓ} {B : Type κ} (p : B → Bool) (f : A → B) (xs : List A) → select p (map f xs) ≡ map f (select (λ (x : A). p (f x)) xs)
+select-map p f [] = refl
+select-map {A = A} p f (x ∷ xs) = ap (keepIf (p (f x)) (f x)) (select-map p f xs) ∙ keep-map f (p (f x)) x (select (λ (y : A). p (f y)) xs)
 
 module _ {ℓ} {A : Type ℓ} where
   pub head-append : (xs ys : List A) → head? (xs ++ ys) ≡ orElse (head? xs) (head? ys)
@@ -463,6 +481,25 @@ first-unique p i end x y f g = apart (decLt x y) (decLt y x)
     apart (no h) (yes l) = absurd (not-both (g .passes (omega (arith, f .to-end))) (f .none-before y (g .from-i) l))
     apart (no h) (no l) = omega arith
 
+-- the numbers that pass begin with it
+pub select-first : (p : ℕ → Bool) (i end x : ℕ) → First p i end x → x < end → select p (from i (end - i)) ≡ x ∷ select p (from (x + 1) (end - (x + 1)))
+select-first p i end x f h =
+    let e : end - i ≡ (x - i) + (end - x) = omega (arith, f .from-i, f .to-end) in
+    let e' : i + (x - i) ≡ x = omega (arith, f .from-i) in
+    let rest = from (i + (x - i)) (end - x) in
+    ap (λ (n : ℕ). select p (from i n)) e
+    ∙ ap (select p) (from-append i (x - i) (end - x))
+    ∙ select-append p (from i (x - i)) rest
+    ∙ ap (λ (ys : List ℕ). ys ++ select p rest) (select-none p (from i (x - i)) (λ k m q. not-both q (f .none-before k (from-mem i (x - i) k m .0) (omega (arith, from-mem i (x - i) k m, f .from-i)))))
+    ∙ ap (λ (k : ℕ). select p (from k (end - x))) e'
+    ∙ ap (select p) (from-cons x end h)
+    ∙ ap (λ (b : Bool). keepIf b x (select p (from (x + 1) (end - (x + 1))))) (f .passes h)
+
+-- .. or there are none
+pub select-past : (p : ℕ → Bool) (i end x : ℕ) → First p i end x → end ≤ x → select p (from i (end - i)) ≡ []
+select-past p i end x f h =
+    select-none p (from i (end - i)) (λ k m q. not-both q (f .none-before k (from-mem i (end - i) k m .0) (omega (arith, from-mem i (end - i) k m, f .from-i, f .to-end))))
+
 -- some number of a range passes exactly if the first that passes lies in it
 pub any-first : (p q : ℕ → Bool) (i n end x : ℕ) → end ≡ i + n → ((k : ℕ) → i ≤ k → k < end → q k ≡ p k) → First p i end x → any q (from i n) ≡ ltb x end
 any-first p q i n end x e same f =
@@ -510,7 +547,7 @@ module _ {ℓ κ} {A : Type ℓ} {B : Type κ} (f : A → B) where
 earlier-same : (x : ℕ) (t u : List ℕ) → earlier t u ≡ true → earlier (x ∷ t) (x ∷ u) ≡ true
 earlier-same x t u e = or-right (ltb x x) (and-intro (eq-eqb x x refl) e)
 
-earlier-less : (x y : ℕ) (t u : List ℕ) → x < y → earlier (x ∷ t) (y ∷ u) ≡ true
+pub earlier-less : (x y : ℕ) (t u : List ℕ) → x < y → earlier (x ∷ t) (y ∷ u) ≡ true
 earlier-less x y t u h = or-left (eqb x y && earlier t u) (lt-ltb x y h)
 
 earlier-cons : (x y : ℕ) (xs ys : List ℕ) → x ≡ y → earlier (x ∷ xs) (y ∷ ys) ≡ earlier xs ys
@@ -589,7 +626,7 @@ earlier-append (x ∷ xs) t (y ∷ ys) e =
     (λ h. or-right (ltb x y) (and-intro (and-left (eqb x y) (earlier xs ys) h) (earlier-append xs t ys (and-right (eqb x y) (earlier xs ys) h))))
     (or-cases (ltb x y) (eqb x y && earlier xs ys) e)
 
-prefix-earlier : (x : ℕ) (ts : List (List ℕ)) → pairwise earlier ts ≡ true → pairwise earlier (map (λ (t : List ℕ). x ∷ t) ts) ≡ true
+pub prefix-earlier : (x : ℕ) (ts : List (List ℕ)) → pairwise earlier ts ≡ true → pairwise earlier (map (λ (t : List ℕ). x ∷ t) ts) ≡ true
 prefix-earlier x [] e = refl
 prefix-earlier x (t ∷ ts) e =
     and-intro

@@ -26,6 +26,7 @@ use Rattle.model.specs.Request.{Change, filter, withdraw, choose, choose
 use Rattle.model.specs.Fault.{Fault, firstFault, networkFaults, idsFault, listFaults, faultsOn, faults, testFaults, compareFaults, accepts}
 use Rattle.model.specs.Reply.{Reply, lowestEmpty, answerFor, answerNumbers, remainder, countsFor, leaving, accepted, replyTo, reply, verdictNumbers, comparisonNumbers, verdictFor, comparisonFor, testReply, compareReply}
 use Rattle.model.specs.Calls.{Marks, Proper, Made, State, start, afterAll, AllKeep, anyAccepted, removedBy, starting, remaining}
+use Rattle.model.specs.Enumeration.{enumerationFaults}
 use Rattle.model.specs.Promises.{Tells, Marked, Supports, Counted, NoFault, FirstFault, Answered, givenTuples, leftTuples, Spares, AtOnce, Filtered, StrikeRule, Apart, Local, Claim, TestAnswered, ClashUnder, FirstClash, NoClash, CompareAnswered}
 use Rattle.model.proofs.Bools.{and-left, false-intro}
 use Rattle.model.proofs.Lists.{here, least-mem, least-none, least-below, least-is, none-least}
@@ -71,8 +72,12 @@ pub compare-checks : (N : Network) (g h : ℕ) → map (λ (f : Fault). f .0) (c
 unfolding compareFaults
 compare-checks N g h = refl
 
+pub enumeration-checks : (N : Network) (m n : ℕ) → map (λ (f : Fault). f .0) (enumerationFaults N m n) ≡ from 2 6 ++ (15 ∷ 16 ∷ [])
+unfolding enumerationFaults
+enumeration-checks N m n = refl
+
 -- a table's first fault is the one that is found
-first-fault : {n : ℕ} {fs : List Fault} → FirstFault n fs → firstFault fs ≡ some n
+pub first-fault : {n : ℕ} {fs : List Fault} → FirstFault n fs → firstFault fs ≡ some n
 first-fault {n} f = ap firstFault (f .2) ∙ firstFault-some (f .0) (f .1) n (f .3)
 
 -- what is written of a set of tuples is marked by it

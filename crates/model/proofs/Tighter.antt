@@ -24,7 +24,8 @@ use Rattle.model.specs.Request.{combinationsOf, Request, removes}
 use Rattle.model.specs.Fault.{accepts}
 use Rattle.model.specs.Reply.{Reply, remainder, countsFor, accepted, reply}
 use Rattle.model.specs.Promises.{entryTuples, givenTuples, leftTuples}
-use Rattle.model.specs.Tighter.{liesInside, allInside, SameStart, Tighter, HoldsConnected, LieInConnected}
+use Rattle.model.specs.Enumeration.{HoldsConnected}
+use Rattle.model.specs.Tighter.{liesInside, allInside, SameStart, Tighter, LieInConnected}
 use Rattle.model.proofs.Bools.{and-right, and-intro, not-both}
 use Rattle.model.proofs.Lists.{here, all-at, all-intro, any-at, pairwise-at, elem-mem, Picks, done, pick, any-intro, mem-elem, from-mem, mem-from}
 use Rattle.model.proofs.TupleSet.{count-inside}

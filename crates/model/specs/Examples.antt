@@ -1,10 +1,10 @@
--- Document 01's examples P1 to P9 and those of the cards 4 and 7, as one statement over their table.
+-- Document 01's examples P1 to P9 and those of the cards 4 and 7, as one statement over their table; and examples of other calls.
 use mathlib.Core.Path.{_≡_, refl}
 use mathlib.Core.Bool.{Bool, true, false}
 use mathlib.Core.Option.{Option, none, some}
 use mathlib.Core.List.{List, [], _∷_, _++_, map}
 use Prim.Native.Nat.{ℕ}
-use lib.ListN.{length, replicate, take, drop, set}
+use lib.ListN.{length, getD, replicate, take, drop, set}
 use Rattle.model.specs.declared.Relation.{Relation}
 use Rattle.model.specs.Limits.{anyValue}
 use Rattle.model.specs.Lists.{from, all, each}
@@ -23,6 +23,9 @@ use Rattle.model.specs.Request.{Instance, combinationsOf, Request, Chang
 use Rattle.model.specs.Fault
 use Rattle.model.specs.Reply
 use Rattle.model.specs.Reply.{Numbers, reply, compareReply}
+use Rattle.model.specs.declared.Enumeration.the-variants.{Listed, Refused}
+use Rattle.model.specs.Enumeration
+use Rattle.model.specs.Enumeration.{enumerated, enumerationReply}
 use Rattle.model.specs.Moves
 use Rattle.model.specs.Moves.{Move, widen, narrow, moveTo, moveReply}
 use Rattle.model.specs.Tighter
@@ -32,7 +35,7 @@ use Rattle.model.specs.Text.{textOf}
 use Rattle.model.specs.Reading
 use Rattle.model.specs.Reading.{read}
 use Rattle.model.specs.Listing
-use Rattle.model.specs.Listing.{listing}
+use Rattle.model.specs.Listing.{listing, combinationListing}
 
 unfoldable pub relation : ℕ → ℕ → Relation
 relation w n = record { width = w; tuples = n }
@@ -284,6 +287,35 @@ wide-values-differ : map (λ (p : ℕ × ℕ). compareReply wide (p .0) (p .1)) 
 unfolding wide relation Network.relationOf Network.indexOf Network.scopeOf Network.valuesAt Network.tupleOf Agreement.isAny Agreement.fit Agreement.clash Agreement.clashes Agreement.cellsOf Agreement.firstClash Fault.compareFaults Reply.compareReply
 wide-values-differ = refl
 
+-- ---- Connected combinations listed (card 1)
+
+-- n relations, relation r with the variables f r, and no tuples
+unfoldable pub bareNetwork : ℕ → (ℕ → List ℕ) → Network
+bareNetwork n f =
+    record { relations = map (λ (r : ℕ). relation (length (f r)) 0) (from 0 n); variables = each f (from 0 n); values = [] }
+
+-- relations 0 and 1 share nothing, and both share with relation 2, relation 3 with relation 1 alone
+unfoldable pub hub : Network
+hub = bareNetwork 4 (λ (r : ℕ). getD ((0 ∷ []) ∷ (1 ∷ 3 ∷ []) ∷ (0 ∷ 1 ∷ []) ∷ (3 ∷ []) ∷ []) r [])
+
+-- so many relations that share one variable
+unfoldable pub alike : ℕ → Network
+alike n = bareNetwork n (λ (r : ℕ). 0 ∷ [])
+
+lent : List ℕ
+lent = replicate 7 9
+
+-- book A's three pairs; of the hub two triples, of which one has members beside each other that share nothing; none of more members than
+-- there are relations
+listed-all : map (λ (q : Network × ℕ). enumerationReply (q .0) (q .1) lent) ((networkA, 2) ∷ (hub, 3) ∷ (networkA, 4) ∷ []) ≡ enumerated (Listed 3) (0 ∷ 1 ∷ 0 ∷ 2 ∷ 1 ∷ 2 ∷ 9 ∷ []) ∷ enumerated (Listed 2) (0 ∷ 1 ∷ 2 ∷ 1 ∷ 2 ∷ 3 ∷ 9 ∷ []) ∷ enumerated (Listed 0) lent ∷ []
+unfolding lent networkA hub bareNetwork relation Network.scopeOf Agreement.share Combination.connected Enumeration.connectedCombinations Enumeration.enumerationFaults Enumeration.enumerationReply
+listed-all = refl
+
+-- refused: no relation; one member, and five; over 256, whatever list is lent; a list of five numbers for six
+listing-refused : map (λ (q : Network × (ℕ × List ℕ)). enumerationReply (q .0) (q .1 .0) (q .1 .1)) ((alike 0, (1, lent)) ∷ (networkA, (1, lent)) ∷ (networkA, (5, [])) ∷ (alike 24, (2, [])) ∷ (networkA, (2, take 5 lent)) ∷ []) ≡ enumerated (Refused 2) lent ∷ enumerated (Refused 7) lent ∷ enumerated (Refused 7) [] ∷ enumerated (Refused 15) [] ∷ enumerated (Refused 16) (take 5 lent) ∷ []
+unfolding lent networkA alike bareNetwork relation Network.scopeOf Agreement.share Combination.connected Enumeration.connectedCombinations Enumeration.enumerationFaults Enumeration.enumerationReply
+listing-refused = refl
+
 -- ---- Moves between the old form and the new one (card 9)
 
 -- one relation of one variable x, with these values
@@ -349,6 +381,15 @@ listedA =
 input-A : listing (textOf linesA) ≡ textOf listedA
 unfolding linesA listedA Text.decimal Text.textOf Reading.readField Reading.readInstance Reading.read Listing.allLive Listing.fresh Listing.tupleLines Listing.replyLines Listing.listing relation asked numbers TupleSet.closure Network.relationOf Network.indexOf Network.scopeOf Network.valuesAt Network.tupleOf Agreement.isAny Agreement.fit Agreement.clash Agreement.clashes Agreement.cellsOf Agreement.firstClash Agreement.agree Agreement.share Combination.combinations Combination.connected Support.candidates Support.isSupport Support.supports Support.firstSupport Consistency.supported Consistency.filtered Consistency.supportList Consistency.needed LiveWords.bit LiveWords.isSet LiveWords.isLive LiveWords.living LiveWords.word LiveWords.written Request.removes LiveCounts.liveCounts Fault.untrue Fault.listFaults Fault.faultsOn Fault.faults Reply.lowestEmpty Reply.answerFor Reply.remainder Reply.countsFor Reply.leaving Reply.accepted Reply.reply
 input-A = refl
+
+-- its combinations for each m: the three pairs, the triple; m is not 5
+combinations-A : map (λ (m : ℕ). combinationListing m (textOf linesA)) (2 ∷ 3 ∷ 5 ∷ [])
+    ≡ textOf ((0 ∷ 0 ∷ 3 ∷ 0 ∷ []) ∷ (0 ∷ 1 ∷ []) ∷ (0 ∷ 2 ∷ []) ∷ (1 ∷ 2 ∷ []) ∷ [])
+    ∷ textOf ((0 ∷ 0 ∷ 1 ∷ 0 ∷ []) ∷ (0 ∷ 1 ∷ 2 ∷ []) ∷ [])
+    ∷ textOf ((2 ∷ 7 ∷ 0 ∷ 0 ∷ []) ∷ [])
+    ∷ []
+unfolding linesA Text.decimal Text.textOf Reading.readField Reading.readInstance Reading.read Listing.enumerationLines Listing.combinationListing Network.scopeOf Agreement.share Combination.combinations Combination.connected Enumeration.connectedCombinations Enumeration.enumerationFaults Enumeration.enumerationReply
+combinations-A = refl
 
 -- the text of n relations of w variables and h tuples, whose values are all v, and of k combinations of m
 book : ℕ → ℕ → ℕ → ℕ → ℕ → ℕ → List ℕ

@@ -13,6 +13,7 @@ pub mod LiveWords
 pub mod Request
 pub mod Fault
 pub mod Reply
+pub mod Enumeration
 pub mod Calls
 pub mod Edges
 pub mod Text

@@ -7,21 +7,23 @@ use mathlib.Core.Logic.{_⊎_}
 use mathlib.Core.List.{List, _∷_, _++_, map, List·Memᴰ}
 use Prim.Native.Nat.{ℕ, _+_, _*_, _≤_, _<_}
 use lib.Dec.{ltb}
-use lib.ListN.{length, getD, drop, replicate}
+use lib.ListN.{length, getD, take, drop, replicate}
 use Rattle.model.specs.Limits.{maxRelations, noVariable, noSupport, wordBits}
 use Rattle.model.specs.Lists.{sum, empty, earlier, Permutation}
 use Rattle.model.specs.TupleSet.{TupleSet, has, count, without, Largest, Consistent}
 use Rattle.model.specs.Network.{Network, total, idsOf, relationOf, indexOf}
 use Rattle.model.specs.Agreement.{Cell, isAny, fit, cells, cellsOf}
-use Rattle.model.specs.Combination.{Combination, Chain}
+use Rattle.model.specs.Combination.{Combination, combinations, Chain}
 use Rattle.model.specs.Support.{candidates, isSupport, firstSupport}
 use Rattle.model.specs.LiveCounts.{liveCount, liveCounts}
 use Rattle.model.specs.Consistency.{supported, supportList, needed}
 use Rattle.model.specs.Solution.{Assignment, isSolution}
 use Rattle.model.specs.LiveWords.{isLive, living}
 use Rattle.model.specs.Request.{choose, chooseSeveral, Instance, combinationsOf, Request, removes}
-use Rattle.model.specs.Fault.{Fault, faults, testFaults, compareFaults}
+use Rattle.model.specs.Fault.{Fault, instanceFaults, faults, testFaults, compareFaults}
 use Rattle.model.specs.Reply.{Numbers, Reply, isEmptied, refused}
+use Rattle.model.specs.declared.Enumeration.the-variants.{Listed, Refused}
+use Rattle.model.specs.Enumeration.{connectedCombinations, AllConnected, enumerationFaults, enumerationNumbers, EnumerationReply, enumerated}
 use Rattle.model.specs.Calls.{Marks, Call, lentMarks, marksIn, Made, isAccepted, State, start, afterAll, AllKeep, anyAccepted, removedBy, starting, remaining, Singly, supportsAfter}
 
 -- ---- What an accepted call says and leaves of the tuples L
@@ -205,3 +207,17 @@ pub record CompareAnswered (N : Network) (g h : ℕ) (n : ℕ × ℕ) : Type 0 w
   pub names-only : n .0 ≡ 0 → NoFault (compareFaults N g h) × FirstClash N g h (n .1)
   pub agrees-only : n .0 ≡ 1 → NoFault (compareFaults N g h) × NoClash N g h
   pub low : n .1 ≤ noVariable
+
+-- ---- The listing of connected combinations (card 1)
+
+-- The reply p to a call that was lent the list. Where there is no fault, it tells how many there are and the list begins with them, each
+-- with m members; a network with what stands there has no fault 2 to 10. Otherwise it is refused for the first fault. What stands behind
+-- them, and after a refusal all of the list, is as lent.
+pub record EnumerationAnswered (N : Network) (m : ℕ) (list : List ℕ) (p : EnumerationReply) : Type 0 where
+  pub all : AllConnected N m (connectedCombinations N m)
+  pub listed : NoFault (enumerationFaults N m (length list)) → (p .answer ≡ enumerationNumbers (Listed (length (connectedCombinations N m)))) × (combinations m (take ((p .answer) .left * m) (p .members)) ≡ connectedCombinations N m)
+  pub refused : (f : ℕ) → FirstFault f (enumerationFaults N m (length list)) → p ≡ enumerated (Refused f) list
+  pub only : (p .answer) .kind ≡ 0 → NoFault (enumerationFaults N m (length list))
+  pub behind : drop ((p .answer) .left * m) (p .members) ≡ drop ((p .answer) .left * m) list
+  pub long : length (p .members) ≡ length list
+  pub taken : (p .answer) .kind ≡ 0 → NoFault (instanceFaults (record { network = N; m = m; members = take ((p .answer) .left * m) (p .members) }))

@@ -10,12 +10,12 @@ use Rattle.model.specs.Lists.{all, any, elem}
 use Rattle.model.specs.TupleSet.{Inside}
 use Rattle.model.specs.Network.{Network}
 use Rattle.model.specs.Agreement.{share}
-use Rattle.model.specs.Combination.{Combination, connected}
+use Rattle.model.specs.Combination.{Combination}
 use Rattle.model.specs.Consistency.{needed}
 use Rattle.model.specs.LiveWords.{isLive}
 use Rattle.model.specs.Request.{Change, filter, combinationsOf, Request}
-use Rattle.model.specs.Fault.{properMembers}
 use Rattle.model.specs.Reply.{Numbers, Reply}
+use Rattle.model.specs.Enumeration.{IsConnected}
 use Rattle.model.specs.Promises.{leftTuples}
 
 -- ---- Combinations inside others
@@ -28,17 +28,7 @@ liesInside c d = all (λ (r : ℕ). elem r d) c
 unfoldable pub allInside : List Combination → List Combination → Bool
 allInside cs ds = all (λ (c : Combination). any (liesInside c) ds) cs
 
--- A proper connected combination of m members.
-pub record IsConnected (N : Network) (m : ℕ) (c : Combination) : Type 0 where
-  pub many : length c ≡ m
-  pub proper : properMembers N c ≡ true
-  pub joined : connected N c ≡ true
-
--- the list holds every one of them
-abbrev pub HoldsConnected : Network → ℕ → List Combination → Type 0
-HoldsConnected N m cs = (c : Combination) → IsConnected N m c → List·Memᴰ c cs
-
--- each of the list lies inside one of them
+-- each of the list lies inside a proper connected combination of m members
 abbrev pub LieInConnected : Network → ℕ → List Combination → Type 0
 LieInConnected N m cs = (c : Combination) → List·Memᴰ c cs → (d : Combination) × IsConnected N m d × (liesInside c d ≡ true)
 

@@ -74,6 +74,12 @@ pub enum Comparison {
     Refused(u8),
 }
 
+// What the listing of connected combinations answers (card 1): how many are listed.
+pub enum Enumeration {
+    Listed(u16),
+    Refused(u8),
+}
+
 // What a move answers (card 9).
 pub enum Moved {
     Done,

@@ -21,6 +21,12 @@ pub const SCOPE: u8 = 6;
 // m is not 2, 3 or 4.
 pub const MEMBER_COUNT: u8 = 7;
 
+// Over 256 connected combinations exist (card 1, straight after 7).
+pub const TOO_MANY: u8 = 15;
+
+// The list lent is too short for them (card 1).
+pub const ROOM: u8 = 16;
+
 // The member list is not a multiple of m long, or holds over 256 combinations.
 pub const COMBINATIONS: u8 = 8;
 
