@@ -3,9 +3,11 @@ use changes::choose;
 use changes::choose_several;
 use changes::filter;
 use changes::withdraw;
+use enumeration::combinations;
 use layout::Shape;
 use model::Answer;
 use model::Comparison;
+use model::Enumeration;
 use model::NO_VARIABLE;
 use model::Value;
 use model::Verdict;
@@ -186,5 +188,20 @@ pub extern "C" fn plain_compare(
         Comparison::Differ(x) => x as u32 * 256,
         Comparison::Agree => NO_VARIABLE as u32 * 256 + 1,
         Comparison::Refused(f) => f as u32 * 256 + 2,
+    }
+}
+
+// 65,536 times the number of combinations listed; or 256 times the refusal number, and 2.
+#[no_mangle]
+pub extern "C" fn plain_combinations(
+    records: &[u16],
+    variables: &[u16],
+    values: &[Value],
+    m: u16,
+    list: &mut [u16],
+) -> u32 {
+    match combinations(shape_of(records), variables, values, m, list) {
+        Enumeration::Listed(n) => n as u32 * 65536,
+        Enumeration::Refused(f) => f as u32 * 256 + 2,
     }
 }

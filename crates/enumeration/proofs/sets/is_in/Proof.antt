@@ -1,0 +1,13 @@
+-- `is_in` reads the relation's bit. From the definitions alone.
+use mathlib.Core.Path.{refl}
+use Rattle.model.specs.LiveWords.{bit, isSet}
+use borrow.Author.Needs.{needs}
+use Rattle.enumeration.proofs.sets.is_in.Statement.{statement}
+use Rattle.enumeration.proofs.sets.is_in.Tie as tie
+
+returns : tie.Need-returns
+unfolding isSet bit
+returns c = refl
+
+pub is-in-spec : {M : Type 1} → statement M
+is-in-spec = tie.close (tie.spec (λ c. search needs) returns)
