@@ -25,7 +25,8 @@
  * What a call writes. An accepted change call (filter, withdraw, choose, choose several) leaves in the marks the rows that are left, in the sheets
  * the count of each sheet's rows left, and in the supports each living row's first support, 65,535 m times for a dead row. Marks of
  * row numbers that the book does not have, supports beyond the needed ones, widths and numbers of rows keep their contents. A refused
- * call changes no byte. Test and compare write nothing.
+ * call changes no byte. The listing of combinations writes what it lists to the front of the combinations lent, and keeps the bytes
+ * behind. Test and compare write nothing.
  *
  * Counts. A change call is refused where a sheet's count is not that of its marks, so the marks and the sheets that one call leaves go
  * to the next one together. Where all rows are living a sheet's count is its number of rows. Test and compare do not look at counts.
@@ -48,11 +49,13 @@
  *   13  a book number is not below the number of rows
  *   19  the questions and the codes chosen are not as many
  *   14  a question chosen is above 63
+ *   15  over 256 connected combinations exist
+ *   16  the list lent is too short for them
  *   23  a code that is to move back is from 65,535 to 4,294,967,294
  *   24  the list that codes are to move to is too short
  *
- * Filter uses 1 to 12 and 18; withdraw adds 13, choose 14, choose several 19 and 14; test uses 1 to 11; compare 1 to 6 and 13; widen 1 to
- * 6 and 24; narrow 1 to 6, 23 and 24.
+ * Filter uses 1 to 12 and 18; withdraw adds 13, choose 14, choose several 19 and 14; test uses 1 to 11; compare 1 to 6 and 13;
+ * combinations 1 to 7, 15 and 16; widen 1 to 6 and 24; narrow 1 to 6, 23 and 24.
  */
 #ifndef WAKHVOSI_H
 #define WAKHVOSI_H
@@ -131,7 +134,7 @@ static inline size_t wakhvosi_supports_bytes(const uint8_t *sheets, size_t sheet
 
 /* ---- Answers */
 
-/* The kind of a change call's answer, of test's and of compare's. */
+/* The kind of an answer. */
 enum {
     WAKHVOSI_SETTLED = 0, /* every sheet has a row left */
     WAKHVOSI_EMPTIED = 1, /* a sheet has none: no complete order exists */
@@ -139,6 +142,7 @@ enum {
     WAKHVOSI_YES = 1,     /* .. they are */
     WAKHVOSI_DIFFER = 0,  /* compare: under some question that both sheets ask, the rows' codes do not fit */
     WAKHVOSI_AGREE = 1,   /* .. under none */
+    WAKHVOSI_LISTED = 0,  /* combinations: they were listed */
     WAKHVOSI_MOVED = 0,   /* widen and narrow: the codes were moved */
     WAKHVOSI_REFUSED = 2  /* of every call: the request has a fault; nothing was written */
 };
@@ -160,6 +164,9 @@ static inline unsigned wakhvosi_refusal(uint64_t answer) {
 static inline unsigned wakhvosi_left(uint64_t answer) { return (unsigned)(answer >> 16 & 65535); }
 static inline unsigned wakhvosi_withdrawn(uint64_t answer) { return (unsigned)(answer >> 32 & 65535); }
 static inline unsigned wakhvosi_deleted(uint64_t answer) { return (unsigned)(answer >> 48); }
+
+/* Of combinations. Bits 16 to 31: how many are listed; 0 if refused. Every bit above them is 0, and the subject if they were listed. */
+static inline unsigned wakhvosi_listed(uint64_t answer) { return (unsigned)(answer >> 16 & 65535); }
 
 /* ---- Change calls */
 
@@ -221,6 +228,20 @@ uint64_t wakhvosi_compare(const uint8_t *sheets, size_t sheets_bytes,
                           const uint8_t *questions, size_t questions_bytes,
                           const uint8_t *codes, size_t codes_bytes,
                           uint16_t a, uint16_t b);
+
+/* ---- Combinations */
+
+/* No accepted book and m have more bytes of combinations than these. */
+enum { WAKHVOSI_MAX_COMBINATIONS_BYTES = 2 * WAKHVOSI_MAX_MEMBERS * WAKHVOSI_MAX_COMBINATIONS };
+
+/* Combinations: lists every connected combination of m sheets, each once, in order by first sheet, then by second, and so on. Sheets
+ * with a question in common are neighbours, and sheets are connected if one comes from any of them to any other by neighbours among
+ * them. Where the book has fewer sheets than m there is none, and none is listed. */
+uint64_t wakhvosi_combinations(const uint8_t *sheets, size_t sheets_bytes,
+                               const uint8_t *questions, size_t questions_bytes,
+                               const uint8_t *codes, size_t codes_bytes,
+                               uint16_t m,
+                               uint8_t *combinations, size_t combinations_bytes);
 
 /* ---- Moves between books of 2-byte codes, from before codes had four, and books of now. Questions and sheets stay as they are.
  *
@@ -306,6 +327,12 @@ uint64_t wakhvosi_compare_records(const wakhvosi_sheet *sheets, size_t sheets_en
                                   const uint16_t *questions, size_t questions_entries,
                                   const uint32_t *codes, size_t codes_entries,
                                   uint16_t a, uint16_t b);
+
+uint64_t wakhvosi_combinations_records(const wakhvosi_sheet *sheets, size_t sheets_entries,
+                                       const uint16_t *questions, size_t questions_entries,
+                                       const uint32_t *codes, size_t codes_entries,
+                                       uint16_t m,
+                                       uint16_t *combinations, size_t combinations_entries);
 
 #ifdef __cplusplus
 }

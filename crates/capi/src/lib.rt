@@ -2,13 +2,14 @@
 ghost use Rattle.model.specs.Request.{filter, withdraw, choose, chooseSeveral};
 ghost use Rattle.model.specs.Moves.{widen, narrow};
 ghost use Rattle.layout.specs.Loan.{entry, exit};
-ghost use Rattle.encoding.specs.Call.{byteBook, byteRequest, left, KeepsBytes, TestedBytes, ComparedBytes};
+ghost use Rattle.encoding.specs.Call.{byteBook, byteRequest, left, KeepsBytes, TestedBytes, ComparedBytes, listing, EnumeratesBytes};
 ghost use Rattle.byte_moves.specs.Moves.{KeepsMoveBytes};
 use byte_calls::NOT_WHOLE;
 use byte_calls::change::Call;
 use byte_calls::change::change_call;
 use byte_calls::reading::compare_bytes;
 use byte_calls::reading::test_bytes;
+use byte_combinations::combinations_bytes;
 use byte_moves::narrow_bytes;
 use byte_moves::widen_bytes;
 use encoding::lengths::cells_whole;
@@ -177,6 +178,28 @@ pub extern "C" fn wakhvosi_compare(
         return NOT_WHOLE;
     }
     compare_bytes(sheets, questions, codes, a, b)
+}
+
+// Lists every connected combination of m members, in order, in front of the bytes lent.
+#[no_mangle]
+pub extern "C" fn wakhvosi_combinations(
+    sheets: &[u8],
+    questions: &[u8],
+    codes: &[u8],
+    m: u16,
+    combinations: &mut [u8],
+) -> u64
+    ensures { λ n. ⌜ EnumeratesBytes (byteBook entry sheets questions codes m combinations) (listing n (exit combinations)) ⌝ }
+{
+    if !instance_whole(
+        sheets.len(),
+        questions.len(),
+        codes.len(),
+        combinations.len(),
+    ) {
+        return NOT_WHOLE;
+    }
+    combinations_bytes(sheets, questions, codes, m, combinations)
 }
 
 // Moves values of two bytes to values of four, to the front of the target.

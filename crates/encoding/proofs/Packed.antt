@@ -9,7 +9,7 @@ use Prim.Native.Nat.{ℕ, zero, suc, _+_, _*_, _/_, _%_, _≤_, _<_}
 use native.Mathlib.Nat.{add-comm, mul-comm}
 use native.Mathlib.Decide.{decLt}
 use native.Mathlib.Omega.{arith}
-use borrow.Author.Tests.{leb-true, eqb-true}
+use borrow.Author.Tests.{leb-true, ltb-true, eqb-true}
 use lib.Arith.{digits-mod}
 use lib.Dec.{leb, eqb}
 use lib.ListN.{length, getD}
@@ -28,13 +28,16 @@ use Rattle.model.specs.LiveWords.{living}
 use Rattle.model.specs.Request.{Request}
 use Rattle.model.specs.Fault.{published, firstFault, untrue, faults, accepts}
 use Rattle.model.specs.Reply.{Numbers, Reply, answerNumbers, verdictNumbers, comparisonNumbers, lowestEmpty, answerFor, remainder, countsFor, leaving, accepted, replyTo, reply}
+use Rattle.model.specs.declared.Enumeration.{Enumeration}
+use Rattle.model.specs.Enumeration.{connectedCombinations, enumerationFaults, enumerationNumbers, EnumerationReply, enumerated, enumerationFor, enumerationReply}
+use Rattle.model.proofs.Enumerated.{listed-few, enumeration-number}
 use Rattle.model.proofs.Bools.{and-right, or-cases}
 use Rattle.model.proofs.TupleSet.{count-length}
 use Rattle.model.proofs.LiveWords.{living-length}
 use Rattle.model.proofs.Fault.{faultless, accepts-network, refusal-within}
 use Rattle.model.proofs.Reply.{answer-emptied, answer-settled, answerFor-kind, leaving-sum}
 use Rattle.model.proofs.Mission.{filtering}
-use Rattle.encoding.specs.Packed.{packedCounts, packed, unpacked, packedPair, pairIn}
+use Rattle.encoding.specs.Packed.{packedCounts, packed, unpacked, enumeratedIn, packedPair, pairIn}
 
 -- The numbers fit their bits.
 pub record Fits (a : Numbers) : Type 0 where
@@ -139,3 +142,25 @@ module _ (q : Request) where
   -- the live counts of an accepted call fit their 16 bits: each is at most the tuples left
   pub reply-counts-below : accepts q ≡ true → (i : ℕ) → getD (reply q .counts) i 0 < 65536
   reply-counts-below e i = omega (arith, at-most-sum (reply q .counts) i, filtering q e .counted .together, reply-fits .left)
+
+-- ---- The numbers of the listing of combinations
+
+module _ (N : Network) (m : ℕ) (list : List ℕ) where
+  enumeration-fits-for : (o : Option ℕ) → firstFault (enumerationFaults N m (length list)) ≡ o → Fits (enumerationFor o (connectedCombinations N m) m list .answer)
+  enumeration-fits-for none e =
+      record { kind = omega arith; subject = omega arith; left = omega (arith, listed-few N m list e); withdrawn = omega arith; deleted = omega arith }
+  enumeration-fits-for (some f) e =
+      record { kind = omega arith; subject = omega (arith, ltb-true f 17 (enumeration-number N m list f e)); left = omega arith; withdrawn = omega arith; deleted = omega arith }
+
+  pub enumeration-unpacked : unpacked (packed (enumerationReply N m list .answer)) ≡ enumerationReply N m list .answer
+  unfolding enumerationReply
+  enumeration-unpacked = unpacked-packed _ (enumeration-fits-for (firstFault (enumerationFaults N m (length list))) refl)
+
+  -- the packed answer of what keeps the contract
+  pub enumerated-in : (a : Enumeration) (n : ℕ) (members : List ℕ) → enumerated a members ≡ enumerationReply N m list → n ≡ packed (enumerationNumbers a) → enumeratedIn n members ≡ enumerationReply N m list
+  enumerated-in a n members kept e =
+      (λ i.
+      record {
+        answer = (ap unpacked (e ∙ ap (λ (p : EnumerationReply). packed (p .answer)) kept) ∙ enumeration-unpacked) i;
+        members = kept i .members;
+      })

@@ -1,18 +1,19 @@
 -- What the calls from C give and leave, told by the bytes that they are lent.
 use mathlib.Core.Path.{_≡_}
 use mathlib.Core.Bool.{Bool, true, _&&_, cond}
-use mathlib.Core.List.{List}
-use Prim.Native.Nat.{ℕ}
-use lib.ListN.{length}
+use mathlib.Core.List.{List, _++_}
+use Prim.Native.Nat.{ℕ, _*_}
+use lib.ListN.{length, take, drop}
 use Rattle.model.specs.Network.{Network}
 use Rattle.model.specs.Request.{Change, filter, withdraw, choose, chooseSeveral, Instance, Request}
 use Rattle.model.specs.Fault.{accepts}
 use Rattle.model.specs.Reply.{reply, testReply, compareReply}
+use Rattle.model.specs.Enumeration.{EnumerationReply, enumerationReply}
 use Rattle.layout.specs.Loan.{Loan, exit}
-use Rattle.wire.specs.Entries.{entries16, entries32, entries64}
+use Rattle.wire.specs.Entries.{entries16, entries32, entries64, bytes}
 use Rattle.encoding.specs.Records.{records, countsIn}
 use Rattle.encoding.specs.Whole.{whole, wholeCells, wholeNetwork, wholeInstance, wholeChange}
-use Rattle.encoding.specs.Packed.{packedPair, Outcome, outcome, replyBytes}
+use Rattle.encoding.specs.Packed.{packed, packedPair, Outcome, outcome, replyBytes}
 
 -- ---- Books
 
@@ -133,3 +134,34 @@ TestedBytes B marks n = n ≡ byteTest B marks
 
 abbrev pub ComparedBytes : List ℕ → List ℕ → List ℕ → ℕ → ℕ → ℕ → Type 0
 ComparedBytes sheets questions codes a b n = n ≡ byteCompare sheets questions codes a b
+
+-- ---- The listing of combinations (card 1), for which the book's combinations are the list lent
+
+-- The packed answer, and the bytes of the list at the call's end.
+pub record Listing : Type 0 where
+  pub answer : ℕ
+  pub combinations : List ℕ
+
+abbrev pub listing : ℕ → List ℕ → Listing
+listing answer combinations = record { answer = answer; combinations = combinations }
+
+-- every list is whole
+abbrev pub wholeBookAndList : ByteBook → Bool
+wholeBookAndList B = wholeInstance (length (B .sheets)) (length (B .questions)) (length (B .codes)) (length (B .combinations))
+
+-- a reply: the numbers listed in front of the bytes lent
+abbrev pub listingBytes : EnumerationReply → ℕ → List ℕ → Listing
+listingBytes p m lent =
+    let numbers = p .answer .left * m in
+    listing (packed (p .answer)) (bytes 2 (take numbers (p .members)) ++ drop (2 * numbers) lent)
+
+-- What it gives and leaves.
+unfoldable pub byteEnumeration : ByteBook → Listing
+byteEnumeration B =
+    cond (wholeBookAndList B)
+    (listingBytes (enumerationReply (byteNetwork (B .sheets) (B .questions) (B .codes)) (B .m) (entries16 (B .combinations))) (B .m) (B .combinations))
+    (listing notWhole (B .combinations))
+
+-- .. and that it keeps its contract
+abbrev pub EnumeratesBytes : ByteBook → Listing → Type 0
+EnumeratesBytes B o = o ≡ byteEnumeration B

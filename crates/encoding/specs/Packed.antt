@@ -4,6 +4,7 @@ use mathlib.Core.List.{List}
 use Prim.Native.Nat.{ℕ, _+_, _*_, _/_, _%_}
 use lib.Dec.{eqb}
 use Rattle.model.specs.Reply.{Numbers, Reply}
+use Rattle.model.specs.Enumeration.{EnumerationReply}
 use Rattle.wire.specs.Entries.{bytes}
 use Rattle.encoding.specs.Records.{withCounts}
 
@@ -31,6 +32,10 @@ unpacked n =
 -- what a packed answer says, with the live words, the support list and the live counts at the end
 abbrev pub repliedIn : ℕ → List ℕ → List ℕ → List ℕ → Reply
 repliedIn n words supports counts = record { answer = unpacked n; words = words; supports = supports; counts = counts }
+
+-- .. and with the list that the connected combinations are written to
+abbrev pub enumeratedIn : ℕ → List ℕ → EnumerationReply
+enumeratedIn n members = record { answer = unpacked n; members = members }
 
 -- of test and compare: bits 0 to 7 the answer, 8 to 15 the refusal number, or the variable that compare names
 abbrev pub packedPair : ℕ × ℕ → ℕ

@@ -2,10 +2,12 @@
 ghost use mathlib.Core.Path.{_≡_};
 ghost use Prim.Native.Nat.{_^_, _<_};
 ghost use Rattle.model.specs.Reply.{withCounts, answerNumbers, verdictNumbers, comparisonNumbers};
+ghost use Rattle.model.specs.Enumeration.{enumerationNumbers};
 ghost use Rattle.encoding.specs.Packed.{packedCounts, packed, packedPair};
 use model::Answer;
 use model::Comparison;
 use model::Counts;
+use model::Enumeration;
 use model::NO_VARIABLE;
 use model::Verdict;
 
@@ -66,5 +68,31 @@ pub fn pack_comparison(a: Comparison) -> u64
         Comparison::Differ(x) => 256 * (x as u64),
         Comparison::Agree => 1 + 256 * (NO_VARIABLE as u64),
         Comparison::Refused(f) => 2 + 256 * (f as u64),
+    }
+}
+
+// The answer of the listing of combinations.
+pub fn pack_enumeration(a: Enumeration) -> u64
+    ensures { λ n. ⌜ n ≡ packed (enumerationNumbers a) ⌝ }
+{
+    match a {
+        Enumeration::Listed(n) => pack_numbers(
+            0,
+            0,
+            Counts {
+                left: n,
+                withdrawn: 0,
+                deleted: 0,
+            },
+        ),
+        Enumeration::Refused(f) => pack_numbers(
+            2,
+            f as u64,
+            Counts {
+                left: 0,
+                withdrawn: 0,
+                deleted: 0,
+            },
+        ),
     }
 }

@@ -6,8 +6,9 @@ ghost use lib.ListN.{getD};
 ghost use Rattle.model.specs.Limits.{maxRelations};
 ghost use Rattle.model.specs.Request.{filter, withdraw, choose, chooseSeveral};
 ghost use Rattle.model.specs.Reply.{Tested, Compared};
-ghost use Rattle.layout.specs.Loan.{entry};
-ghost use Rattle.encoding.specs.Packed.{pairIn};
+ghost use Rattle.model.specs.Enumeration.{Enumerates};
+ghost use Rattle.layout.specs.Loan.{entry, exit};
+ghost use Rattle.encoding.specs.Packed.{pairIn, enumeratedIn};
 ghost use Rattle.records.specs.Records.{entryNetwork, entryInstance, lesser, unread, withRecord, partsOf};
 ghost use Rattle.records.specs.Packed.{RepliesIn, WritesBack};
 use layout::Shape;
@@ -224,4 +225,19 @@ pub extern "C" fn wakhvosi_compare_records(
 {
     let parts = parts_of(relations);
     packed::compare(parts, variables, values, g, h)
+}
+
+// Lists every connected combination of m members in front of the list.
+#[no_mangle]
+pub extern "C" fn wakhvosi_combinations_records(
+    relations: &[Record],
+    variables: &[u16],
+    values: &[Value],
+    m: u16,
+    list: &mut [u16],
+) -> u64
+    ensures { λ n. ⌜ Enumerates (entryNetwork relations variables values) m (entry list) (enumeratedIn n (exit list)) ⌝ }
+{
+    let parts = parts_of(relations);
+    packed::combinations(parts, variables, values, m, list)
 }

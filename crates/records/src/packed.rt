@@ -3,15 +3,17 @@ ghost use mathlib.Core.Path.{_≡_};
 ghost use Prim.Native.Nat.{_<_};
 ghost use Rattle.model.specs.Request.{filter, withdraw, choose, chooseSeveral};
 ghost use Rattle.model.specs.Reply.{answerNumbers, Tested, Compared};
-ghost use Rattle.layout.specs.Loan.{entry};
+ghost use Rattle.model.specs.Enumeration.{Enumerates};
+ghost use Rattle.layout.specs.Loan.{entry, exit};
 ghost use Rattle.layout.specs.Shape.{networkOf, instanceOf};
-ghost use Rattle.encoding.specs.Packed.{pairIn};
+ghost use Rattle.encoding.specs.Packed.{pairIn, enumeratedIn};
 ghost use Rattle.records.specs.Packed.{RepliesDone, writtenFor, doneWith};
 use super::Done;
 use super::Parts;
 use super::at_most_64;
 use encoding::packing::pack;
 use encoding::packing::pack_comparison;
+use encoding::packing::pack_enumeration;
 use encoding::packing::pack_verdict;
 use model::Answer;
 use model::Value;
@@ -182,4 +184,17 @@ pub fn compare(parts: Parts, variables: &[u16], values: &[Value], g: u16, h: u16
     ensures { λ n. ⌜ Compared (networkOf (parts .shape) (entry variables) (entry values)) g h (pairIn n) ⌝ }
 {
     pack_comparison(network::comparison::compare(parts.shape, variables, values, g, h))
+}
+
+// Lists every connected combination of m members in front of the list.
+pub fn combinations(
+    parts: Parts,
+    variables: &[u16],
+    values: &[Value],
+    m: u16,
+    list: &mut [u16],
+) -> u64
+    ensures { λ n. ⌜ Enumerates (networkOf (parts .shape) (entry variables) (entry values)) m (entry list) (enumeratedIn n (exit list)) ⌝ }
+{
+    pack_enumeration(enumeration::combinations(parts.shape, variables, values, m, list))
 }

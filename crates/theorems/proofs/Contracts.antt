@@ -4,14 +4,16 @@
 use denote.Ref.{now}
 use Rattle.model.specs.Request.{filter, withdraw, choose, chooseSeveral}
 use Rattle.model.specs.Reply.{verdictNumbers, comparisonNumbers, request, replied, Keeps, Tested, Compared}
+use Rattle.model.specs.Enumeration.{enumerated, Enumerates}
 use Rattle.model.specs.Moves.{widen, narrow, KeepsMove}
 use Rattle.layout.specs.Shape.{networkOf, instanceOf}
 use Rattle.encoding.specs.Packed.{outcome}
-use Rattle.encoding.specs.Call.{byteBook, byteRequest, KeepsBytes, TestedBytes, ComparedBytes}
+use Rattle.encoding.specs.Call.{byteBook, byteRequest, KeepsBytes, TestedBytes, ComparedBytes, listing, EnumeratesBytes}
 use Rattle.byte_moves.specs.Moves.{KeepsMoveBytes}
 use Rattle.moves.proofs.widen.Reads as moves-widen
 use Rattle.moves.proofs.narrow.Reads as moves-narrow
 use Rattle.network.proofs.comparison.compare.Reads as compare
+use Rattle.enumeration.proofs.combinations.Reads as combinations
 use Rattle.consistency.proofs.test.Reads as test
 use Rattle.changes.proofs.filter.Reads as changes-filter
 use Rattle.changes.proofs.withdraw.Reads as changes-withdraw
@@ -23,6 +25,7 @@ use Rattle.capi.proofs.wakhvosi_choose.Reads as wakhvosi-choose
 use Rattle.capi.proofs.wakhvosi_choose_several.Reads as wakhvosi-choose-several
 use Rattle.capi.proofs.wakhvosi_test.Reads as wakhvosi-test
 use Rattle.capi.proofs.wakhvosi_compare.Reads as wakhvosi-compare
+use Rattle.capi.proofs.wakhvosi_combinations.Reads as wakhvosi-combinations
 use Rattle.capi.proofs.wakhvosi_widen.Reads as wakhvosi-widen
 use Rattle.capi.proofs.wakhvosi_narrow.Reads as wakhvosi-narrow
 
@@ -45,6 +48,9 @@ test-tested κs a r s kept = kept
 
 pub compare-compared : (κs : _) (a : _) (r : _) (s : _) → compare.Post κs a r s → Compared (networkOf (a .0) (now (a .1 .0)) (now (a .1 .1 .0))) (a .1 .1 .1 .0) (a .1 .1 .1 .1 .0) (comparisonNumbers r)
 compare-compared κs a r s kept = kept
+
+pub combinations-enumerates : (κs : _) (a : _) (r : _) (s : _) → combinations.Post κs a r s → Enumerates (networkOf (a .0) (now (a .1 .0)) (now (a .1 .1 .0))) (a .1 .1 .1 .0) (now (a .1 .1 .1 .1 .0)) (enumerated r (now (s .1 .1 .1 .1 .0)))
+combinations-enumerates κs a r s kept = kept
 
 pub widen-keeps : (κs : _) (a : _) (r : _) (s : _) → moves-widen.Post κs a r s → KeepsMove widen (networkOf (a .0) (now (a .1 .0)) (now (a .1 .1 .0))) (now (a .1 .1 .1 .0)) r (now (s .1 .1 .1 .0))
 widen-keeps κs a r s kept = kept
@@ -71,6 +77,9 @@ test-tested-bytes κs a r s kept = kept
 
 pub compare-compared-bytes : (κs : _) (a : _) (r : _) (s : _) → wakhvosi-compare.Post κs a r s → ComparedBytes (now (a .0)) (now (a .1 .0)) (now (a .1 .1 .0)) (a .1 .1 .1 .0) (a .1 .1 .1 .1 .0) r
 compare-compared-bytes κs a r s kept = kept
+
+pub combinations-enumerates-bytes : (κs : _) (a : _) (r : _) (s : _) → wakhvosi-combinations.Post κs a r s → EnumeratesBytes (byteBook now (a .0) (a .1 .0) (a .1 .1 .0) (a .1 .1 .1 .0) (a .1 .1 .1 .1 .0)) (listing r (now (s .1 .1 .1 .1 .0)))
+combinations-enumerates-bytes κs a r s kept = kept
 
 pub widen-keeps-bytes : (κs : _) (a : _) (r : _) (s : _) → wakhvosi-widen.Post κs a r s → KeepsMoveBytes widen (now (a .0)) (now (a .1 .0)) (now (a .1 .1 .0)) (now (a .1 .1 .1 .0)) r (now (s .1 .1 .1 .0))
 widen-keeps-bytes κs a r s kept = kept

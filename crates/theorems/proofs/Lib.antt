@@ -2,5 +2,6 @@
 pub mod Bytes
 pub mod AtOnce
 pub mod Contracts
+pub mod Listings
 pub mod Bits
 pub mod Tighter

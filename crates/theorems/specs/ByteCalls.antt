@@ -7,20 +7,21 @@ use mathlib.Core.Bool.{Bool, true, false, not, cond}
 use mathlib.Core.Option.{Option, none, some}
 use mathlib.Core.Logic.{_⊎_}
 use mathlib.Core.List.{List, [], _∷_, List·Memᴰ}
-use Prim.Native.Nat.{ℕ, _+_}
+use Prim.Native.Nat.{ℕ, _+_, _*_}
 use lib.Dec.{eqb}
-use lib.ListN.{length}
+use lib.ListN.{length, drop}
 use Rattle.model.specs.Lists.{any, empty, Permutation}
 use Rattle.model.specs.Agreement.{Cell, cells}
 use Rattle.model.specs.Request.{Change, choose, Instance}
 use Rattle.model.specs.Fault.{published}
 use Rattle.model.specs.Reply.{Reply}
+use Rattle.model.specs.Enumeration.{EnumerationReply}
 use Rattle.model.specs.Calls.{Marks, Call, Made, State}
-use Rattle.model.specs.Promises.{Answered, Filtered, StrikeRule, Local, TestAnswered, CompareAnswered}
+use Rattle.model.specs.Promises.{Answered, Filtered, StrikeRule, Local, TestAnswered, CompareAnswered, EnumerationAnswered}
 use Rattle.wire.specs.Entries.{Bytes, entries16, entries32, entries64, bytes}
 use Rattle.encoding.specs.Records.{countsIn, withCounts}
-use Rattle.encoding.specs.Packed.{unpacked, repliedIn, pairIn, Outcome, outcome}
-use Rattle.encoding.specs.Call.{ByteBook, byteNetwork, byteInstance, wholeTest, wholeBook, ByteRequest, byteRequest, isWhole, notWhole, decodedChange, decoded, acceptsBytes, KeepsBytes}
+use Rattle.encoding.specs.Packed.{unpacked, repliedIn, enumeratedIn, pairIn, Outcome, outcome}
+use Rattle.encoding.specs.Call.{ByteBook, byteNetwork, byteInstance, wholeTest, wholeBook, ByteRequest, byteRequest, isWhole, notWhole, decodedChange, decoded, acceptsBytes, KeepsBytes, Listing, listing, wholeBookAndList}
 
 -- ---- What the bytes hold
 
@@ -247,3 +248,18 @@ ByteTestAnswered B marks = ByteDecides (wholeTest B marks) (TestAnswered (byteIn
 abbrev pub ByteCompareAnswered : List ℕ → List ℕ → List ℕ → ℕ → ℕ → ℕ → Type 0
 ByteCompareAnswered sheets questions codes a b =
     ByteDecides (wholeBook sheets questions codes) (CompareAnswered (byteNetwork sheets questions codes) a b)
+
+-- ---- The listing of connected combinations (card 1), whose list lent is the book's combinations
+
+-- what the bytes hold
+abbrev pub decodedListing : Listing → EnumerationReply
+decodedListing o = enumeratedIn (o .answer) (entries16 (o .combinations))
+
+-- Where every list is whole, what the bytes hold is as promised of the lists that they hold, and else number 1 refuses; a refusal changes no
+-- byte; and the bytes are as many as lent, of which those behind what is listed are as lent.
+pub record ByteEnumerationAnswered (B : ByteBook) (o : Listing) : Type 0 where
+  pub whole : wholeBookAndList B ≡ true → EnumerationAnswered (byteNetwork (B .sheets) (B .questions) (B .codes)) (B .m) (entries16 (B .combinations)) (decodedListing o)
+  pub not-whole : wholeBookAndList B ≡ false → o ≡ listing notWhole (B .combinations)
+  pub refused : (unpacked (o .answer)) .kind ≡ 2 → o .combinations ≡ B .combinations
+  pub long : length (o .combinations) ≡ length (B .combinations)
+  pub behind : let listed = 2 * ((unpacked (o .answer)) .left * B .m) in drop listed (o .combinations) ≡ drop listed (B .combinations)

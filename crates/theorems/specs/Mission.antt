@@ -7,6 +7,9 @@
 --   consistency::test, network::comparison::compare   Tested, Compared             test-promise, compare-promise
 --   wakhvosi_test_records, wakhvosi_compare_records   Tested, Compared             test-promise, compare-promise
 --   wakhvosi_test, wakhvosi_compare (bytes)           TestedBytes, ComparedBytes   test-promise-bytes, compare-promise-bytes
+--   enumeration::combinations                         Enumerates                   enumeration-promise
+--   wakhvosi_combinations_records                     Enumerates, packed answer    enumeration-promise
+--   wakhvosi_combinations (bytes)                     EnumeratesBytes              enumeration-promise-bytes
 --   the moves between 16-bit and 32-bit values        KeepsMove, KeepsMoveBytes    Moves.antt beside this file
 --
 -- A contract is that definition by name and nothing more, with the call's request at entry, and what it answers and leaves
@@ -40,11 +43,15 @@ use Rattle.model.specs.Fault
 use Rattle.model.specs.Fault.{accepts}
 use Rattle.model.specs.Reply
 use Rattle.model.specs.Reply.{Reply, reply, request, answerNumbers, verdictNumbers, testReply, comparisonNumbers, compareReply, replied, Keeps, Tested, Compared}
+use Rattle.model.specs.declared.Enumeration.the-variants.{Listed, Refused}
+use Rattle.model.specs.Enumeration
+use Rattle.model.specs.Enumeration.{EnumerationReply, enumerated, enumerationReply, Enumerates}
 use Rattle.model.specs.Calls.{Marks, Proper, Made, start, AllKeep}
-use Rattle.model.specs.Promises.{Answered, Filtered, AtOnce, Claim, TestAnswered, CompareAnswered}
-use Rattle.model.specs.Examples.{relation, networkA, triangle, vague, crossed, pairs, asked, next, p1, p3, p7}
+use Rattle.model.specs.Promises.{Answered, Filtered, AtOnce, Claim, TestAnswered, CompareAnswered, EnumerationAnswered}
+use Rattle.model.specs.Examples.{relation, networkA, bareNetwork, hub, alike, triangle, vague, crossed, pairs, asked, next, p1, p3, p7}
 use Rattle.model.proofs.Several.{none-filters}
 use Rattle.model.proofs.Mission.{answered, filtering, claim, test-answered, compare-answered}
+use Rattle.model.proofs.Enumerated.{enumeration-answered}
 
 -- ---- Points 1 and 2, of one change call
 
@@ -84,6 +91,13 @@ test-promise I ws n kept = subst (TestAnswered I ws) (sym kept) (test-answered I
 -- both have do; it says agree exactly if there is no such variable
 pub compare-promise : (N : Network) (g h : ℕ) (n : ℕ × ℕ) → Compared N g h n → CompareAnswered N g h n
 compare-promise N g h n kept = subst (CompareAnswered N g h) (sym kept) (compare-answered N g h)
+
+-- ---- The listing of connected combinations (card 1)
+
+-- it lists exactly the connected combinations of m relations, each once and in order, and tells how many; a filter takes what it lists;
+-- it is refused exactly for the first fault, and then writes nothing
+pub enumeration-promise : (N : Network) (m : ℕ) (list : List ℕ) (p : EnumerationReply) → Enumerates N m list p → EnumerationAnswered N m list p
+enumeration-promise N m list p kept = subst (EnumerationAnswered N m list) (sym kept) (enumeration-answered N m list)
 
 -- ---- What the contracts rule out: of each call, two or three wrong programs that would break its contract on an example
 
@@ -182,3 +196,23 @@ compare-highest kept = eqb-false 1 0 refl (ap (λ (n : ℕ × ℕ). n .1) (kept 
 -- .. that names the first clash met
 compare-first-met : Compared crossed 0 3 (comparisonNumbers (Differ 9)) → ⊥
 compare-first-met kept = eqb-false 9 4 refl (ap (λ (n : ℕ × ℕ). n .1) (kept ∙ right .11))
+
+-- what the listing gives: of the hub two triples; of 24 relations that share a variable more pairs than may be listed
+listing-right : (enumerationReply hub 3 [] .answer .subject ≡ 16) × (enumerationReply hub 3 (0 ∷ 0 ∷ 0 ∷ 0 ∷ 0 ∷ 0 ∷ []) .answer .left ≡ 2) × (enumerationReply networkA 2 (0 ∷ 0 ∷ 0 ∷ 0 ∷ 0 ∷ 0 ∷ []) .answer .left ≡ 3) × (enumerationReply (alike 24) 2 [] .answer .subject ≡ 15)
+unfolding hub alike bareNetwork relation networkA Network.scopeOf Agreement.share Combination.connected Enumeration.connectedCombinations Enumeration.enumerationFaults Enumeration.enumerationReply
+listing-right = (refl, refl, refl, refl)
+
+-- a listing of those in which each member shares with the next one listed
+listing-neighbours-only : (members : List ℕ) → Enumerates hub 3 (0 ∷ 0 ∷ 0 ∷ 0 ∷ 0 ∷ 0 ∷ []) (enumerated (Listed 1) members) → ⊥
+listing-neighbours-only members kept =
+    eqb-false 1 2 refl (ap (λ (p : EnumerationReply). (p .answer) .left) kept ∙ listing-right .1)
+
+-- .. that begins at relation 1
+listing-from-one : (members : List ℕ) → Enumerates networkA 2 (0 ∷ 0 ∷ 0 ∷ 0 ∷ 0 ∷ 0 ∷ []) (enumerated (Listed 1) members) → ⊥
+listing-from-one members kept =
+    eqb-false 1 3 refl (ap (λ (p : EnumerationReply). (p .answer) .left) kept ∙ listing-right .2)
+
+-- .. that looks at the list lent before it knows how many there are
+listing-room-first : (members : List ℕ) → Enumerates (alike 24) 2 [] (enumerated (Refused 16) members) → ⊥
+listing-room-first members kept =
+    eqb-false 16 15 refl (ap (λ (p : EnumerationReply). (p .answer) .subject) kept ∙ listing-right .3)

@@ -20,7 +20,8 @@ use Rattle.model.specs.LiveWords.{isSet}
 use Rattle.model.specs.Request.{Change, filter, combinationsOf, Request}
 use Rattle.model.specs.Fault.{accepts}
 use Rattle.model.specs.Reply.{Reply, reply, Keeps}
-use Rattle.model.specs.Tighter.{allInside, HoldsConnected, LieInConnected, HaveBeside, SameStart, Tighter, Spent, again, Repeats}
+use Rattle.model.specs.Enumeration.{HoldsConnected}
+use Rattle.model.specs.Tighter.{allInside, LieInConnected, HaveBeside, SameStart, Tighter, Spent, again, Repeats}
 use Rattle.model.proofs.Tighter.{added-inside, connected-inside, tighter}
 use Rattle.model.proofs.Extension.{accepts-extended}
 use Rattle.model.proofs.Repeats.{repeats}
