@@ -1,5 +1,6 @@
 -- The laws that the proofs of the functions use.
 pub mod Appended
+pub mod CombinationText
 pub mod Lines
 pub mod Over
 pub mod Relations

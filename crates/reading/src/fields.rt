@@ -8,7 +8,7 @@ ghost use Rattle.layout.specs.Loan.{entry, exit};
 ghost use Rattle.reading.specs.Parts.{foundAt, behind, KeptFrom};
 
 // Document 01's bytes, its largest field, and card 9's largest code. The model names them in specs/Text.antt.
-const NEWLINE: u8 = 10;
+pub const NEWLINE: u8 = 10;
 
 const COMMA: u8 = 44;
 
@@ -28,7 +28,8 @@ pub struct Decimal {
 
 // The rest of a field of at most `top`: the digits before position `from` made the number `first`.
 fn digits(text: &[u8], from: usize, top: u32, first: u32, end: u8) -> Decimal
-    ensures { λ f. ⌜ foundAt (f .next) (f .value) (entry text) ≡ readDigits top end first (drop from (entry text)) ⌝ }
+    ensures read { λ f. ⌜ foundAt (f .next) (f .value) (entry text) ≡ readDigits top end first (drop from (entry text)) ⌝ }
+    ensures inside { λ f. ⌜ f .next ≤ length (entry text) ⌝ }
 {
     let mut v = first;
     let mut i = from;
@@ -58,8 +59,9 @@ fn digits(text: &[u8], from: usize, top: u32, first: u32, end: u8) -> Decimal
 }
 
 // The field of at most `top` at a position, if the byte `end` ends it.
-fn field(text: &[u8], at: usize, top: u32, end: u8) -> Decimal
-    ensures { λ f. ⌜ foundAt (f .next) (f .value) (entry text) ≡ readField top end (drop at (entry text)) ⌝ }
+pub fn field(text: &[u8], at: usize, top: u32, end: u8) -> Decimal
+    ensures read { λ f. ⌜ foundAt (f .next) (f .value) (entry text) ≡ readField top end (drop at (entry text)) ⌝ }
+    ensures inside { λ f. ⌜ f .next ≤ length (entry text) ⌝ }
 {
     if text.len() <= at {
         return Decimal { value: 0, next: 0 };

@@ -25,7 +25,7 @@ returns : tie.Need-returns Inv-loop μ-loop
 returns c =
     let a = c .before .before .before .before .args in
     let l = c .before .before .before .loop in
-    found-past (a .text .now) (l .i) (l .v) ∙ sym (digits-end (a .top) (a .text .now) (a .end) (l .i) (l .v) (c .before .before .loop-test .taken) (c .if1 .taken)) ∙ l .inv .1
+    (found-past (a .text .now) (l .i) (l .v) ∙ sym (digits-end (a .top) (a .text .now) (a .end) (l .i) (l .v) (c .before .before .loop-test .taken) (c .if1 .taken)) ∙ l .inv .1, omega (arith, c .before .before .loop-test .taken))
 
 loop-again : tie.Need-loop-again Inv-loop μ-loop
 loop-again c =
@@ -40,35 +40,35 @@ returns-2 : tie.Need-returns-2 Inv-loop μ-loop
 returns-2 c =
     let a = c .before .before .args in
     let l = c .before .loop in
-    sym (digits-past (a .top) (a .text .now) (a .end) (l .i) (l .v) (c .loop-test .left)) ∙ l .inv .1
+    (sym (digits-past (a .top) (a .text .now) (a .end) (l .i) (l .v) (c .loop-test .left)) ∙ l .inv .1, omega arith)
 
 returns-3 : tie.Need-returns-3 Inv-loop μ-loop
 returns-3 c =
     let turn = c .before .before .before in
     let a = turn .before .before .args in
     let l = turn .before .loop in
-    sym (digits-stop (a .top) (a .text .now) (a .end) (l .i) (l .v) (turn .loop-test .taken) (c .before .if1 .left) (digit-low _ (c .if2 .taken))) ∙ l .inv .1
+    (sym (digits-stop (a .top) (a .text .now) (a .end) (l .i) (l .v) (turn .loop-test .taken) (c .before .if1 .left) (digit-low _ (c .if2 .taken))) ∙ l .inv .1, omega arith)
 
 returns-4 : tie.Need-returns-4 Inv-loop μ-loop
 returns-4 c =
     let turn = c .before .before .before .before in
     let a = turn .before .before .args in
     let l = turn .before .loop in
-    sym (digits-stop (a .top) (a .text .now) (a .end) (l .i) (l .v) (turn .loop-test .taken) (c .before .before .if1 .left) (digit-high _ (c .if3 .taken))) ∙ l .inv .1
+    (sym (digits-stop (a .top) (a .text .now) (a .end) (l .i) (l .v) (turn .loop-test .taken) (c .before .before .if1 .left) (digit-high _ (c .if3 .taken))) ∙ l .inv .1, omega arith)
 
 returns-5 : tie.Need-returns-5 Inv-loop μ-loop
 returns-5 c =
     let turn = c .before .before .before .before .before in
     let a = turn .before .before .args in
     let l = turn .before .loop in
-    sym (digits-nought (a .top) (a .text .now) (a .end) (l .i) (l .v) (turn .loop-test .taken) (c .before .before .before .if1 .left) (digit-is _ (c .before .before .if2 .left) (c .before .if3 .left)) (c .if4 .taken)) ∙ l .inv .1
+    (sym (digits-nought (a .top) (a .text .now) (a .end) (l .i) (l .v) (turn .loop-test .taken) (c .before .before .before .if1 .left) (digit-is _ (c .before .before .if2 .left) (c .before .if3 .left)) (c .if4 .taken)) ∙ l .inv .1, omega arith)
 
 returns-6 : tie.Need-returns-6 Inv-loop μ-loop
 returns-6 c =
     let turn = c .before .before .before .before .before .before in
     let a = turn .before .before .args in
     let l = turn .before .loop in
-    sym (digits-large (a .top) (a .text .now) (a .end) (l .i) (l .v) (turn .loop-test .taken) (c .before .before .before .before .if1 .left) (digit-is _ (c .before .before .before .if2 .left) (c .before .before .if3 .left)) (positive (l .v) (c .before .if4 .left)) (omega (arith, c .if5 .taken))) ∙ l .inv .1
+    (sym (digits-large (a .top) (a .text .now) (a .end) (l .i) (l .v) (turn .loop-test .taken) (c .before .before .before .before .if1 .left) (digit-is _ (c .before .before .before .if2 .left) (c .before .before .if3 .left)) (positive (l .v) (c .before .if4 .left)) (omega (arith, c .if5 .taken))) ∙ l .inv .1, omega arith)
 
 pub digits-spec : {M : Type 1} → statement M
 digits-spec =

@@ -38,7 +38,7 @@ returns c =
     let a = turn .before .before .before .before .args in
     let l = turn .before .loop in
     let f = c .before .before .field in
-    let stops = sym (f .ensures) ∙ found-none (a .text .now) (f .result .next) (f .result .value) (c .if1 .taken) in (
+    let stops = sym (f .ensures .0) ∙ found-none (a .text .now) (f .result .next) (f .result .value) (c .if1 .taken) in (
       sym (line-stop (a .top) (a .start + a .n - (l .to + 1)) (a .start + a .n - l .to) (drop (l .from) (a .text .now)) (take (l .to) (l .into)) (omega arith) (omega arith) stops)
           ∙ l .inv .3,
       l .inv .4,
@@ -51,7 +51,7 @@ loop-again c =
     let l = turn .before .loop in
     let f = c .before .before .field in
     let j = a .start + a .n - (l .to + 1) in
-    let reads = sym (f .ensures) ∙ found-at (a .text .now) (f .result .next) (f .result .value) (c .if1 .left) in (
+    let reads = sym (f .ensures .0) ∙ found-at (a .text .now) (f .result .next) (f .result .value) (c .if1 .left) in (
       search needs,
       search needs,
       length-set (l .into) (l .to) (f .result .value) ∙ l .inv .2,
@@ -73,7 +73,7 @@ returns-2 c =
     let one : 1 ≡ a .start + a .n - l .to = omega arith in (
       ap (λ (k : ℕ). foundAt (f .result .next) (take k (set (l .into) last (f .result .value))) t) all
           ∙ ap (λ (us : List ℕ). foundAt (f .result .next) us t) (take-more (l .into) last (f .result .value) (omega arith))
-          ∙ line-last (a .top) t (drop (l .from) t) (take last (l .into)) (f .result .next) (f .result .value) (f .ensures)
+          ∙ line-last (a .top) t (drop (l .from) t) (take last (l .into)) (f .result .next) (f .result .value) (f .ensures .0)
           ∙ ap₂ (λ (i k : ℕ). behind (take i (l .into)) (readLine (a .top) k (drop (l .from) t))) here one
           ∙ l .inv .3,
       drop-set-lt (a .start + a .n) (l .into) last (f .result .value) (omega arith) ∙ l .inv .4,
