@@ -73,6 +73,8 @@ static const uint32_t chosen_codes[] = {1, 1};
 static void *call_several(void *arg) { return wakhvosi_choose_several(LENT, BYTES(chosen_questions, 2), BYTES(chosen_codes, 2)), arg; }
 static void *call_test(void *arg) { return wakhvosi_test(GIVEN, (uint16_t)n.m, BYTES(n.members, n.pairs), (uint8_t *)marks, sizeof marks), arg; }
 static void *call_compare(void *arg) { return wakhvosi_compare(GIVEN, 0, 1), arg; }
+static uint16_t listed[WAKHVOSI_MAX_COMBINATIONS_BYTES / 2];
+static void *call_combinations(void *arg) { return wakhvosi_combinations(GIVEN, (uint16_t)n.m, (uint8_t *)listed, sizeof listed), arg; }
 
 /* How many bytes a thread that makes the call has written of a painted stack. */
 static size_t stack_of(void *(*call)(void *)) {
@@ -92,7 +94,7 @@ static size_t stack_of(void *(*call)(void *)) {
 }
 
 static int stacks(void) {
-    static void *(*const calls[])(void *) = {call_filter, call_withdraw, call_choose, call_several, call_test, call_compare};
+    static void *(*const calls[])(void *) = {call_filter, call_withdraw, call_choose, call_several, call_test, call_compare, call_combinations};
     size_t most = 0, base = stack_of(nothing);
     for (size_t k = 0; k < growth_count; k++) {
         if (growth[k].tuples * growth[k].relations < 4000) continue;
@@ -114,6 +116,6 @@ int main(void) {
     for (size_t i = 0; i < suite_count; i++)
         if (suite[i].shape == NEIGHBOURS && suite[i].factor == 1) cost(suite + i);
     for (size_t i = 0; i < growth_count; i++) cost(growth + i);
-    puts("stack of filter, withdraw, choose, choose several, test, compare:");
+    puts("stack of filter, withdraw, choose, choose several, test, compare, combinations:");
     return stacks();
 }

@@ -453,13 +453,17 @@ def listing_lines(request: Request) -> list[list[int]]:
     return lines
 
 
+def text_of(lines: list[list[int]]) -> bytes:
+    return b"".join(b",".join(b"%d" % number for number in line) + b"\n" for line in lines)
+
+
 def listing(text: bytes) -> bytes:
     """The listing program's whole output for its whole input."""
     try:
         lines = listing_lines(read_text(text))
     except NotInForm:
         lines = [[REFUSED, 1, 0, 0]]
-    return b"".join(b",".join(b"%d" % number for number in line) + b"\n" for line in lines)
+    return text_of(lines)
 
 
 def write_text(request: Request) -> bytes:
@@ -470,7 +474,7 @@ def write_text(request: Request) -> bytes:
     for (width, rows), questions in zip(request.sheets, read_questions(request)):
         lines += [[width, rows], questions]
         lines += [list(itertools.islice(codes, width)) for _ in range(rows)]
-    return b"".join(b",".join(b"%d" % number for number in line) + b"\n" for line in lines + combinations)
+    return text_of(lines + combinations)
 
 
 def rewritten(text: bytes) -> Optional[bytes]:
