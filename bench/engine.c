@@ -1,13 +1,13 @@
 /* The filter in plain C, by the algorithm of the proved engine: an index of values by digits, sweeps, a queue of pairs of combination and
- * member; in a visit twins, the seeking tuple tried first, members spread to and narrowed, each search resumed at the fallen support; in
- * a hard search members spread to each other, a sieve of values, and tuples like one that failed passed over; in a visit, what a long
+ * member; in a visit twins, by sides where the other members fall apart, the seeking tuple tried first, members spread to and narrowed,
+ * each search resumed at the fallen support; in a hard search members spread to each other, a sieve of values, and tuples like one that failed passed over; in a visit, what a long
  * search has come to narrows those after it. Tuples are known by id, so that candidates of all relations are one array of words. */
 #include "leaves.h"
 #include <string.h>
 
 enum { TABLE = 9216, MAX_DIGITS = 4, MAX_ROWS = 1024, MAX_SWEEPS = 2, FEW = 8, MANY = 64, FAILURES = 16, LONG = 256, PLACES = 2048, SAMPLE = 32 };
 /* Hashes lie below; so many classes of them are enough; and factors that spread them. */
-static const uint64_t HASHES = 1ull << 32, ENOUGH = 65536, SPREAD = 2654435769, FURTHER = 2246822507;
+static const uint64_t HASHES = 1ull << 32, ENOUGH = 65536, SPREAD = 2654435769, FURTHER = 2246822507, FAR = 1 << 30;
 enum { MAX_SHARED = MAX_WIDTH, MAX_KEPT = MAX_SHARED * MAX_DIGITS };
 
 /* A relation: its tuples have the ids from first on and below end; these are in the words from word on and below last. */
@@ -49,7 +49,8 @@ typedef struct {
     const relation *members[MAX_MEMBERS];
     int m, place, own; /* the seeking tuple's member, and the tuple */
     bool bare;         /* a member has no live tuple */
-    uint64_t common;   /* the variables of the other members */
+    uint64_t near, far; /* the variables of the other members, in two sides that share none */
+    unsigned places;    /* which members are on the far side */
     uint16_t sought[PLACES]; /* by the hash of its values, the first tuple that was sought in the visit */
     uint64_t outside[MAX_MEMBERS][WORDS];
     columns shared[MAX_MEMBERS][MAX_MEMBERS];
@@ -296,19 +297,29 @@ static void find_steps(visit *v) {
     }
 }
 
+/* The other members in two sides: those that the first of them reaches by shared variables, and the rest. */
+static void find_sides(visit *v) {
+    v->near = v->far = v->places = 0;
+    for (int round = 1; round < v->m; round++)
+        for (int j = 0; j < v->m; j++)
+            if (j != v->place && (!v->near || v->members[j]->variables & v->near)) v->near |= v->members[j]->variables;
+    for (int j = 0; j < v->m; j++)
+        if (j != v->place && !(v->members[j]->variables & v->near)) v->far |= v->members[j]->variables, v->places |= 1u << j;
+}
+
 static void plan(visit *v, const filtering *f, size_t p) {
     const network *n = f->n;
-    v->f = f, v->m = (int)n->m, v->place = (int)(p % n->m), v->common = 0, v->bare = v->noted = false;
+    v->f = f, v->m = (int)n->m, v->place = (int)(p % n->m), v->bare = v->noted = false;
     for (int j = 0; j < v->m; j++) {
         const relation *r = v->members[j] = f->relations + n->members[p - p % n->m + (size_t)j];
         v->bare |= is_empty(f->live, r);
-        if (j != v->place) v->common |= r->variables;
         for (int w = r->word; w < r->last; w++) v->outside[j][w] = ~inside(r, w);
     }
     for (int i = 0; i < v->m; i++)
         for (int j = 0; j < v->m; j++)
             if (i != j) v->shared[i][j] = share(v->members[i], v->members[j]);
     memset(v->sought, 255, sizeof v->sought);
+    find_sides(v);
     find_steps(v);
 }
 
@@ -395,16 +406,23 @@ static bool is_alike(const relation *r, const uint32_t *a, const uint32_t *b, ui
     return true;
 }
 
-/* The tuple entered at the hash of x's values, if it has these under the variables; x otherwise, which is entered if none is. */
-static int first_alike(uint16_t *table, const relation *r, int x, uint64_t variables) {
+/* The tuple entered at a place, if it has x's values under the variables; x otherwise, which is entered if none is. */
+static inline int alike_at(uint16_t *entry, const relation *r, int x, uint64_t variables) {
+    if (*entry >= x) return *entry = (uint16_t)x;
+    return is_alike(r, tuple_of(r, x), tuple_of(r, *entry), variables) ? *entry : x;
+}
+
+/* The same by the hash of x's values from a first one on, and where a tuple with other values is, at the next place. */
+static inline int alike_from(uint16_t *table, const relation *r, int x, uint64_t variables, uint64_t hash) {
     const uint32_t *tuple = tuple_of(r, x);
-    uint64_t hash = 0;
     for (int c = 0; c < r->width; c++)
         if (variables >> r->scope[c] & 1) hash = (hash + tuple[c]) * 1640531527u, hash = (uint32_t)((hash >> 32) + (uint32_t)hash);
-    uint16_t *entry = table + (hash >> 21);
-    if (*entry >= x) *entry = (uint16_t)x;
-    return is_alike(r, tuple, tuple_of(r, *entry), variables) ? *entry : x;
+    int y = alike_at(table + (hash >> 21), r, x, variables);
+    if (y < x || table[hash >> 21] == x) return y;
+    return alike_at(table + ((hash >> 21) + 1) % PLACES, r, x, variables);
 }
+
+static int first_alike(uint16_t *table, const relation *r, int x, uint64_t variables) { return alike_from(table, r, x, variables, 0); }
 
 /* ---- A hard search. */
 
@@ -559,16 +577,19 @@ static bool agrees_with(const visit *v, const uint16_t *others) {
 
 typedef enum { NONE, TAKEN, FALLEN } twin;
 
-/* A twin's support, with the seeking tuple put in, becomes its own; or it falls as the twin fell. */
+/* A twin's support, with the seeking tuple put in, becomes its own; of two sides, each side's part is that of its own twin. Or it falls as
+ * the twin fell, where there is one side. */
 static twin take_twin(visit *v, uint16_t *held) {
     const relation *r = v->members[v->place];
-    int x = first_alike(v->sought, r, v->own, v->common);
-    const uint16_t *twins = held - (v->own - x) * v->m;
-    if (x == v->own) return NONE;
-    if (!is_live(v->f->live, r->first + x)) return FALLEN;
-    if (!agrees_with(v, twins)) return NONE;
-    memcpy(held, twins, (size_t)v->m * sizeof *held);
-    held[v->place] = (uint16_t)v->own;
+    uint16_t tuples[MAX_MEMBERS];
+    int x = first_alike(v->sought, r, v->own, v->near), y = v->places ? alike_from(v->sought, r, v->own, v->far, FAR) : x;
+    if (x == v->own || y == v->own) return NONE;
+    if (!is_live(v->f->live, r->first + x)) return v->places ? NONE : FALLEN;
+    if (!is_live(v->f->live, r->first + y)) return NONE;
+    for (int j = 0; j < v->m; j++) tuples[j] = *(held + j - (v->own - (v->places >> j & 1 ? y : x)) * v->m);
+    if (!agrees_with(v, tuples)) return NONE;
+    tuples[v->place] = (uint16_t)v->own;
+    memcpy(held, tuples, (size_t)v->m * sizeof *held);
     return TAKEN;
 }
 
