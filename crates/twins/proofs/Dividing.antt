@@ -2,7 +2,6 @@
 -- From the laws of bits.
 use mathlib.Core.Path.{_≡_, refl, sym, _∙_, ap, subst}
 use mathlib.Core.Bool.{Bool, true, false, _||_, or-false, true≢false}
-use mathlib.Core.List.{List}
 use Prim.Native.Nat.{ℕ, _+_, _*_, _%_, _^_, _≤_, _<_}
 use native.Mathlib.Decide.{ℕ-discrete}
 use native.Mathlib.Omega.{arith}
@@ -10,6 +9,9 @@ use borrow.Author.Tests.{eq-eqb, ne-eqb}
 use lib.Bits.{bitAnd, bitOr}
 use lib.Dec.{eqb}
 use lib.ListN.{getD}
+use Rattle.model.specs.Lists.{elem}
+use Rattle.model.specs.Network.{Network, scopeOf}
+use Rattle.model.specs.Combination.{Combination}
 use Rattle.model.specs.LiveWords.{isSet}
 use Rattle.model.proofs.Bools.{or-left, or-right, not-both}
 use Rattle.live.proofs.Bits.{isSet-or, isSet-pow, isSet-nought, one-shl, and-none}
@@ -53,43 +55,35 @@ module _ (sides : Sides) (j mask : ℕ) where
 
 -- ---- All members
 
--- Of n sets the first j are put, and no place from j on is far.
-pub record Divided (masks : List ℕ) (n place j : ℕ) (sides : Sides) : Type 0 where
-  pub few : j ≤ n
-  pub done : Divides masks j place sides
+-- Of all members the first j are put, and no place from j on is far.
+pub record Divided (N : Network) (c : Combination) (place j : ℕ) (sides : Sides) : Type 0 where
+  pub done : Divides N c j place sides
   pub rest : (i : ℕ) → j ≤ i → isSet (sides .places) i ≡ false
 
-module _ (masks : List ℕ) (n place : ℕ) where
-  pub divided-start : Divided masks n place 0 (record { near = 0; far = 0; places = 0 })
-  divided-start =
-      record {
-        few = omega arith;
-        done = record { nearby = λ i h. absurd (omega arith); beyond = λ i h. absurd (omega arith) };
-        rest = λ i h. isSet-nought i;
-      }
+module _ (N : Network) (c : Combination) (place : ℕ) where
+  pub divided-start : Divided N c place 0 (record { near = 0; far = 0; places = 0 })
+  divided-start = record { done = record { nearby = λ i h. absurd (omega arith); beyond = λ i h. absurd (omega arith) }; rest = λ i h. isSet-nought i }
 
-  module _ (j : ℕ) (sides : Sides) (before : Divided masks n place j sides) (below : j < n) where
-    pub divided-next : (after : Sides) → Put sides j (getD masks j 0) after → Divided masks n place (j + 1) after
-    divided-next after put =
+  module _ (j : ℕ) (sides : Sides) (before : Divided N c place j sides) where
+    pub divided-next : (mask : ℕ) → ((v : ℕ) → isSet mask v ≡ elem v (scopeOf N (getD c j 0))) → (after : Sides) → Put sides j mask after → Divided N c place (j + 1) after
+    divided-next mask is after put =
         record {
-          few = omega arith;
           done = record { nearby = λ i h d e v m. near i h d e v m (ℕ-discrete i j); beyond = λ i h d e v m. far i h d e v m (ℕ-discrete i j) };
           rest = λ i h. put .same i (λ q. omega arith) ∙ before .rest i (omega arith);
         }
       where
-        near : (i : ℕ) → i < j + 1 → (i ≡ place → ⊥) → isSet (after .places) i ≡ false → (v : ℕ) → isSet (getD masks i 0) v ≡ true → Dec (i ≡ j) → isSet (after .near) v ≡ true
-        near i h d e v m (yes q) = put .own-near (ap (isSet (after .places)) (sym q) ∙ e) v (ap (λ (k : ℕ). isSet (getD masks k 0) v) (sym q) ∙ m)
+        near : (i : ℕ) → i < j + 1 → (i ≡ place → ⊥) → isSet (after .places) i ≡ false → (v : ℕ) → elem v (scopeOf N (getD c i 0)) ≡ true → Dec (i ≡ j) → isSet (after .near) v ≡ true
+        near i h d e v m (yes q) = put .own-near (ap (isSet (after .places)) (sym q) ∙ e) v (is v ∙ ap (λ (k : ℕ). elem v (scopeOf N (getD c k 0))) (sym q) ∙ m)
         near i h d e v m (no q) = put .nearer v (before .done .nearby i (omega arith) d (sym (put .same i q) ∙ e) v m)
 
-        far : (i : ℕ) → i < j + 1 → (i ≡ place → ⊥) → isSet (after .places) i ≡ true → (v : ℕ) → isSet (getD masks i 0) v ≡ true → Dec (i ≡ j) → isSet (after .far) v ≡ true
-        far i h d e v m (yes q) = put .own-far (ap (isSet (after .places)) (sym q) ∙ e) v (ap (λ (k : ℕ). isSet (getD masks k 0) v) (sym q) ∙ m)
+        far : (i : ℕ) → i < j + 1 → (i ≡ place → ⊥) → isSet (after .places) i ≡ true → (v : ℕ) → elem v (scopeOf N (getD c i 0)) ≡ true → Dec (i ≡ j) → isSet (after .far) v ≡ true
+        far i h d e v m (yes q) = put .own-far (ap (isSet (after .places)) (sym q) ∙ e) v (is v ∙ ap (λ (k : ℕ). elem v (scopeOf N (getD c k 0))) (sym q) ∙ m)
         far i h d e v m (no q) = put .farther v (before .done .beyond i (omega arith) d (sym (put .same i q) ∙ e) v m)
 
     -- the one at `place` is passed over
-    pub divided-past : j ≡ place → Divided masks n place (j + 1) sides
+    pub divided-past : j ≡ place → Divided N c place (j + 1) sides
     divided-past q =
         record {
-          few = omega arith;
           done = record { nearby = λ i h d. before .done .nearby i (other i h d (ℕ-discrete i j)) d; beyond = λ i h d. before .done .beyond i (other i h d (ℕ-discrete i j)) d };
           rest = λ i h. before .rest i (omega arith);
         }
@@ -98,20 +92,20 @@ module _ (masks : List ℕ) (n place : ℕ) where
         other i h d (yes e) = absurd (d (e ∙ q))
         other i h d (no e) = omega arith
 
-  pub divided-end : (j : ℕ) (sides : Sides) → Divided masks n place j sides → n ≤ j → Divides masks n place sides
-  divided-end j sides all h =
+  pub divided-end : (n j : ℕ) (sides : Sides) → Divided N c place j sides → n ≤ j → Divides N c n place sides
+  divided-end n j sides all h =
       record { nearby = λ i l. all .done .nearby i (omega (arith, l, h)); beyond = λ i l. all .done .beyond i (omega (arith, l, h)) }
 
   -- ---- Apart
 
-  module _ (sides : Sides) (given : Divides masks n place sides) where
-    pub apart-none : bitAnd (sides .near) (sides .far) ≡ 0 → Divides masks n place sides × Apart sides
-    apart-none e = (given, λ v a b. and-none (sides .near) (sides .far) v a b e)
+  module _ (n : ℕ) (sides : Sides) (given : Divides N c n place sides) where
+    pub apart-none : bitAnd (sides .near) (sides .far) ≡ 0 → Apart sides
+    apart-none e v a b = and-none (sides .near) (sides .far) v a b e
 
-    pub apart-whole : (let whole : Sides = record { near = bitOr (sides .near) (sides .far); far = 0; places = 0 } in Divides masks n place whole × Apart whole)
+    pub apart-whole : (let whole : Sides = record { near = bitOr (sides .near) (sides .far); far = 0; places = 0 } in Divides N c n place whole × Apart whole)
     apart-whole =
         (record { nearby = λ i h d _ v m. isSet-or (sides .near) (sides .far) v ∙ go i h d v m (isSet (sides .places) i) refl; beyond = λ i h d e. absurd (not-both e (isSet-nought i)) }, λ v a b. not-both b (isSet-nought v))
       where
-        go : (i : ℕ) → i < n → (i ≡ place → ⊥) → (v : ℕ) → isSet (getD masks i 0) v ≡ true → (b : Bool) → isSet (sides .places) i ≡ b → (isSet (sides .near) v || isSet (sides .far) v) ≡ true
+        go : (i : ℕ) → i < n → (i ≡ place → ⊥) → (v : ℕ) → elem v (scopeOf N (getD c i 0)) ≡ true → (b : Bool) → isSet (sides .places) i ≡ b → (isSet (sides .near) v || isSet (sides .far) v) ≡ true
         go i h d v m true q = or-right (isSet (sides .near) v) (given .beyond i h d q v m)
         go i h d v m false q = or-left (isSet (sides .far) v) (given .nearby i h d q v m)

@@ -12,16 +12,12 @@ use Rattle.layout.specs.Setting.{Setting, network}
 use Rattle.layout.specs.Pairs.{combinationOf}
 use Rattle.twins.specs.declared.sides.Sides.{Sides}
 
--- ---- By the sets of the members' variables
+-- ---- As they are divided
 
--- of each member the set of its variables
-abbrev pub MasksOf : Network → Combination → List ℕ → Type 0
-MasksOf N c masks = (i : ℕ) → i < length c → (v : ℕ) → isSet (getD masks i 0) v ≡ elem v (scopeOf N (getD c i 0))
-
--- Of n sets, each but the one at `place` is in the side where its place is.
-pub record Divides (masks : List ℕ) (n place : ℕ) (sides : Sides) : Type 0 where
-  pub nearby : (i : ℕ) → i < n → (i ≡ place → ⊥) → isSet (sides .places) i ≡ false → (v : ℕ) → isSet (getD masks i 0) v ≡ true → isSet (sides .near) v ≡ true
-  pub beyond : (i : ℕ) → i < n → (i ≡ place → ⊥) → isSet (sides .places) i ≡ true → (v : ℕ) → isSet (getD masks i 0) v ≡ true → isSet (sides .far) v ≡ true
+-- Of the first n members, each but the one at `place` is in the side where its place is, with all its variables.
+pub record Divides (N : Network) (c : Combination) (n place : ℕ) (sides : Sides) : Type 0 where
+  pub nearby : (i : ℕ) → i < n → (i ≡ place → ⊥) → isSet (sides .places) i ≡ false → (v : ℕ) → elem v (scopeOf N (getD c i 0)) ≡ true → isSet (sides .near) v ≡ true
+  pub beyond : (i : ℕ) → i < n → (i ≡ place → ⊥) → isSet (sides .places) i ≡ true → (v : ℕ) → elem v (scopeOf N (getD c i 0)) ≡ true → isSet (sides .far) v ≡ true
 
 -- Set j is put to either side; of the other places none changes side.
 pub record Put (sides : Sides) (j mask : ℕ) (after : Sides) : Type 0 where

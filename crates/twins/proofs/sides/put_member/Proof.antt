@@ -9,6 +9,6 @@ pub put-member-spec : {M : Type 1} → statement M
 put-member-spec =
     tie.close
     (tie.spec
-    (λ c. let s = c .before .before in omega (arith, s .pre .0))
-    (λ c. let s = c .before .before .before in put-far (s .args .sides) (s .args .j) (s .args .mask) (omega (arith, s .pre .0)))
-    (λ c. let s = c .before .before in put-near (s .args .sides) (s .args .j) (s .args .mask) (s .pre .1)))
+    (λ c. let s = c .before .before .before .before .before in omega (arith, s .pre .0))
+    (λ c. let s = c .before .before .before .before .before .before in put-far (s .args .sides) (s .args .j) (s .args .mask) (omega (arith, s .pre .0)))
+    (λ c. let s = c .before .before .before in put-near (s .args .sides) (s .args .j) (s .args .mask) (s .pre .1)))

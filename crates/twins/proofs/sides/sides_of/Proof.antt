@@ -7,12 +7,12 @@ use native.Mathlib.Nat.{div-mul-le-self, add-sub-cancel-left}
 use native.Mathlib.Omega.{arith}
 use lib.ListN.{length, getD, take, drop}
 use borrow.Author.Needs.{needs}
-use Rattle.model.specs.Limits.{maxMembers}
 use Rattle.layout.specs.Starts.{recordsIn}
 use Rattle.layout.specs.Setting.{Setting, network, Sound}
 use Rattle.layout.specs.Pairs.{combinationOf}
 use Rattle.layout.proofs.Pairs.{combination-length, base-within, member-exists, member-of}
-use Rattle.twins.specs.Sides.{MasksOf, Divides, Apart, Sided}
+use Rattle.twins.specs.Sides.{Divides}
+use Rattle.twins.proofs.Dividing.{apart-none, apart-whole}
 use Rattle.twins.proofs.sides.sides_of.Statement.{statement}
 use Rattle.twins.proofs.sides.sides_of.Tie as tie
 
@@ -33,9 +33,6 @@ module _ (c : tie.After-wide2) where
 
   each-is : c .before .wide .result ≡ a .args .m
   each-is = c .before .wide .ensures .0
-
-  few : c .before .wide .result ≤ maxMembers
-  few = omega (arith, each-is, sound .paired .list .few)
 
   abbrev base : ℕ
   base = c .wide2 .result / c .before .wide .result * c .before .wide .result
@@ -62,8 +59,21 @@ module _ (c : tie.After-wide2) where
       subst (λ (r : ℕ). r < length (recordsIn (a .args .starts .now))) (sym (member-of framed (sound .paired) (a .args .p) (a .pre .pair) j l))
       (member-exists framed (sound .paired) (a .args .p / a .args .m * a .args .m + j) (omega (arith, l, base-within framed (sound .paired) (a .args .p) (a .pre .pair))))
 
-masks-of-requires : tie.Need-masks-of-requires
-masks-of-requires c κs =
+abbrev begun : tie.After-divided → tie.After-wide2
+begun c = c .before .before .before
+
+-- the sides as they are divided
+divides : (c : tie.After-divided) → (let b = begun c in let p = a b .args .p in Divides (network (G b)) (combinationOf (G b) p) (length (combinationOf (G b) p)) (p % a b .args .m) (c .divided .result))
+divides c =
+    let w = c .before in
+    let b = begun c in
+    let N = network (G b) in
+    let place-is : w .wide3 .result % b .before .wide .result ≡ a b .args .p % a b .args .m = ap₂ (λ (q n : ℕ). q % n) (w .wide3 .ensures .0) (each-is b) in
+    subst (λ (place : ℕ). Divides N (combinationOf (G b) (a b .args .p)) (length (combinationOf (G b) (a b .args .p))) place (c .divided .result)) place-is
+    (subst (λ (ms : List ℕ). Divides N ms (length ms) (w .wide3 .result % b .before .wide .result) (c .divided .result)) (part-is b) (c .divided .ensures))
+
+divided-requires : tie.Need-divided-requires
+divided-requires c κs =
     let b = c .before .before in (
       record { laid = sound b .laid; exist = subst (λ (ms : List ℕ). (j : ℕ) → j < length ms → getD ms j 0 < length (recordsIn (a b .args .starts .now))) (sym (part-is b)) (exist b) },
       omega (arith, ap length (part-is b), many b, sound b .paired .list .few),
@@ -71,22 +81,19 @@ masks-of-requires c κs =
 
 returns : tie.Need-returns
 returns c =
-    let d = c .before in
-    let k = d .before .before in
-    let w = k .before .before in
-    let b = w .before in
-    let s = c .parted .result in
-    let N = network (G b) in
-    let masks = k .masks-of .result in
-    let place-is : w .wide3 .result % b .before .wide .result ≡ a b .args .p % a b .args .m = ap₂ (λ (q n : ℕ). q % n) (w .wide3 .ensures .0) (each-is b) in
-    let theirs : MasksOf N (combinationOf (G b) (a b .args .p)) masks = subst (λ (ms : List ℕ). MasksOf N ms masks) (part-is b) (k .masks-of .ensures) in
-    let divides : Divides masks (a b .args .m) (a b .args .p % a b .args .m) s =
-    subst (λ (n : ℕ). Divides masks n (a b .args .p % a b .args .m) s) (each-is b) (subst (λ (q : ℕ). Divides masks (b .before .wide .result) q s) place-is (c .parted .ensures .0)) in
-    record {
-      nearby = λ i h n e v m. divides .nearby i (omega (arith, h, many b)) n e v (theirs i h v ∙ m);
-      beyond = λ i h n e v m. divides .beyond i (omega (arith, h, many b)) n e v (theirs i h v ∙ m);
-      apart = c .parted .ensures .1;
-    }
+    let d = c .before .before in
+    let b = begun d in
+    let p = a b .args .p in
+    let D = divides d in
+    record { nearby = D .nearby; beyond = D .beyond; apart = apart-none (network (G b)) (combinationOf (G b) p) (p % a b .args .m) (length (combinationOf (G b) p)) (d .divided .result) D (c .if1 .taken) }
+
+returns-2 : tie.Need-returns-2
+returns-2 c =
+    let d = c .before .before .before in
+    let b = begun d in
+    let p = a b .args .p in
+    let W = apart-whole (network (G b)) (combinationOf (G b) p) (p % a b .args .m) (length (combinationOf (G b) p)) (d .divided .result) (divides d) in
+    record { nearby = W .0 .nearby; beyond = W .0 .beyond; apart = W .1 }
 
 pub sides-of-spec : {M : Type 1} → statement M
 sides-of-spec =
@@ -96,14 +103,12 @@ sides-of-spec =
     (λ c. omega (arith, each-is c, sound c .paired .list .positive))
     (λ c. omega (arith, div-mul-le-self (c .wide2 .result) (c .before .wide .result)))
     (λ c. let w = within c in search needs)
+    (λ c. let w = within c in search needs)
+    (λ c. search needs)
+    (λ c. search needs)
+    (λ c. within c)
     (λ c κs. search needs)
-    (λ c. omega (arith, each-is (c .before), sound (c .before) .paired .list .positive))
-    (λ c. let w = within (c .before) in search needs)
-    (λ c. let w = within (c .before) in search needs)
-    (λ c. let w = within (c .before) in search needs)
-    (λ c. within (c .before))
-    masks-of-requires
-    (λ c κs. few (c .before .before .before))
-    (λ c κs. few (c .before .before .before .before))
-    (λ c κs. c .divided .ensures)
-    returns)
+    (λ c. omega (arith, each-is (c .before .before), sound (c .before .before) .paired .list .positive))
+    divided-requires
+    returns
+    returns-2)
