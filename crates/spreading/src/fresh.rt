@@ -1,4 +1,4 @@
-// Members of a combination narrowed through fresh tuples: every support has one, so a tuple stays only if it is fresh or may agree with an
+// Members of a combination narrowed through fresh tuples: every support has one, so a tuple stays only if it is fresh or may agree with a
 // fresh one of another member.
 ghost use mathlib.Core.Path.{_≡_};
 ghost use mathlib.Core.Bool.{true};
