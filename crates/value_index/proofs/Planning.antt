@@ -11,7 +11,7 @@ use lib.ListN.{length, getD, set, length-set}
 use lib.Seq.{getD-set-same, getD-set-other}
 use Rattle.layout.specs.Starts.{variableStart}
 use Rattle.value_index.specs.declared.plan.Digits.{Digits}
-use Rattle.value_index.specs.Plan.{columnStart, planWords, indexWords, rowWords, digitCount, digitRows, factor, step, columnWords, ColumnRows}
+use Rattle.value_index.specs.Plan.{columnStart, planWords, indexWords, rowWords, digitCount, digitRows, factor, columnWords, ColumnRows}
 use Rattle.value_index.specs.Index.{Laid}
 use Rattle.value_index.specs.Planning.{ScopesWithin, Digital, Fits, Begins, LaysRelation, LaysRelations}
 
@@ -66,7 +66,7 @@ module _ (size : ℕ) where
 module _ (index : List ℕ) (full : length index ≡ indexWords) (words : ℕ) (d : Digits) where
   -- the index once its numbers are written
   abbrev pub numbered : List ℕ
-  numbered = set (set (set (set (set index 512 words) 513 (d .count)) 514 (d .rows)) 515 (d .factor)) 516 (d .step)
+  numbered = set (set (set (set (set index 512 words) 513 (d .count)) 514 (d .rows)) 515 (d .factor)) 516 (d .mixes)
 
   abbrev one : List ℕ
   one = set index 512 words
@@ -93,13 +93,13 @@ module _ (index : List ℕ) (full : length index ≡ indexWords) (words : ℕ) (
   four-full = length-set three 515 (d .factor) ∙ three-full
 
   pub numbered-full : length numbered ≡ indexWords
-  numbered-full = length-set four 516 (d .step) ∙ four-full
+  numbered-full = length-set four 516 (d .mixes) ∙ four-full
 
   module _ (final : List ℕ) (laid : LaysRelations ((d .count * d .rows + 1) * words) 64 numbered final) where
     words-are : rowWords final ≡ words
     words-are =
         laid .others 512 (omega arith)
-        ∙ getD-set-other four 516 512 (d .step) 0 (λ e. absurd (omega arith))
+        ∙ getD-set-other four 516 512 (d .mixes) 0 (λ e. absurd (omega arith))
         ∙ getD-set-other three 515 512 (d .factor) 0 (λ e. absurd (omega arith))
         ∙ getD-set-other two 514 512 (d .rows) 0 (λ e. absurd (omega arith))
         ∙ getD-set-other one 513 512 (d .count) 0 (λ e. absurd (omega arith))
@@ -108,7 +108,7 @@ module _ (index : List ℕ) (full : length index ≡ indexWords) (words : ℕ) (
     digits-are : digitCount final ≡ d .count
     digits-are =
         laid .others 513 (omega arith)
-        ∙ getD-set-other four 516 513 (d .step) 0 (λ e. absurd (omega arith))
+        ∙ getD-set-other four 516 513 (d .mixes) 0 (λ e. absurd (omega arith))
         ∙ getD-set-other three 515 513 (d .factor) 0 (λ e. absurd (omega arith))
         ∙ getD-set-other two 514 513 (d .rows) 0 (λ e. absurd (omega arith))
         ∙ getD-set-same one 513 (d .count) 0 (omega (arith, one-full))
@@ -116,18 +116,15 @@ module _ (index : List ℕ) (full : length index ≡ indexWords) (words : ℕ) (
     rows-are : digitRows final ≡ d .rows
     rows-are =
         laid .others 514 (omega arith)
-        ∙ getD-set-other four 516 514 (d .step) 0 (λ e. absurd (omega arith))
+        ∙ getD-set-other four 516 514 (d .mixes) 0 (λ e. absurd (omega arith))
         ∙ getD-set-other three 515 514 (d .factor) 0 (λ e. absurd (omega arith))
         ∙ getD-set-same two 514 (d .rows) 0 (omega (arith, two-full))
 
     factor-is : factor final ≡ d .factor
     factor-is =
         laid .others 515 (omega arith)
-        ∙ getD-set-other four 516 515 (d .step) 0 (λ e. absurd (omega arith))
+        ∙ getD-set-other four 516 515 (d .mixes) 0 (λ e. absurd (omega arith))
         ∙ getD-set-same three 515 (d .factor) 0 (omega (arith, three-full))
-
-    step-is : step final ≡ d .step
-    step-is = laid .others 516 (omega arith) ∙ getD-set-same four 516 (d .step) 0 (omega (arith, four-full))
 
     size-is : columnWords final ≡ (d .count * d .rows + 1) * words
     size-is = rw (digits-are, rows-are, words-are) refl
@@ -146,7 +143,6 @@ module _ (index : List ℕ) (full : length index ≡ indexWords) (words : ℕ) (
             short = omega (arith, rows-are, sound .short);
             narrow = omega (arith, words-are, short);
             small = omega (arith, factor-is, sound .small);
-            near = omega (arith, step-is, sound .near);
             columns = λ r c h k. column-rows (columnStart final r c) (laid .columns r c h k);
           };
           bits = omega (arith, words-are, enough);

@@ -7,16 +7,38 @@ use Prim.Native.Nat.{ℕ, zero, suc, _+_, _*_, _/_, _%_, _≤_, _<_}
 use native.Mathlib.Nat.{mul-le-mul, mul-le-mul-right}
 use native.Mathlib.Omega.{arith}
 use lib.ListN.{length, getD}
-use Rattle.value_index.specs.Plan.{planWords, indexWords, hashes, columnStart, rowWords, digitCount, digitRows, factor, step, columnWords, rowPlan, anyRow, hashBehind, hashAt, rowOf, rowAt, ColumnRows, SoundPlan, SamePlan}
+use Rattle.value_index.specs.Plan.{planWords, indexWords, hashes, columnStart, rowWords, digitCount, digitRows, factor, mixes, columnWords, rowPlan, anyRow, folded, mixed, mixedIf, hashBehind, hashAt, rowOf, rowAt, ColumnRows, SoundPlan, SamePlan}
 use Rattle.value_index.proofs.Products.{piece-within}
+
+pub mixed-is : (hash : ℕ) → mixed hash ≡ folded 8192 (folded 32768 hash * 2246822507 % hashes)
+unfolding mixed
+mixed-is hash = refl
+
+mixed-below : (hash : ℕ) → mixed hash < hashes
+unfolding mixed
+mixed-below hash = omega arith
+
+mixed-if-below : (n hash : ℕ) → hash < hashes → mixedIf n hash < hashes
+unfolding mixedIf
+mixed-if-below zero hash h = h
+mixed-if-below (suc n) hash h = mixed-below hash
+
+pub not-mixed : (n hash : ℕ) → n ≡ 0 → mixedIf n hash ≡ hash
+unfolding mixedIf
+not-mixed n hash e = ap (λ (k : ℕ). mixedIf k hash) e
+
+pub is-mixed : (n hash : ℕ) → (n ≡ 0 → ⊥) → mixedIf n hash ≡ mixed hash
+unfolding mixedIf
+is-mixed zero hash d = absurd (d refl)
+is-mixed (suc n) hash d = refl
 
 module _ (index : List ℕ) (v : ℕ) where
   pub hash-below : (i : ℕ) → hashAt index v i < hashes
   unfolding hashAt
-  hash-below zero = omega arith
+  hash-below zero = mixed-if-below (mixes index) (v * factor index % hashes) (omega arith)
   hash-below (suc i) = omega arith
 
-  pub hash-first : hashAt index v 0 ≡ v * factor index % hashes
+  pub hash-first : hashAt index v 0 ≡ mixedIf (mixes index) (v * factor index % hashes)
   unfolding hashAt
   hash-first = refl
 
@@ -45,11 +67,6 @@ module _ {index : List ℕ} (sound : SoundPlan index) (hash : ℕ) (below : hash
   hash-fits =
       let h : hash ≤ hashes = omega (arith, below) in
       mul-le-mul h (sound .short)
-
-  pub behind-fits : hash * step index ≤ 18446744069414584320
-  behind-fits =
-      let h : hash ≤ 4294967295 = omega (arith, below) in
-      mul-le-mul h (sound .near)
 
   module _ (i : ℕ) (h : i < digitCount index) where
     -- the rows before it, of this digit and those before it
@@ -87,8 +104,8 @@ module _ (before after : List ℕ) (same : SamePlan before after) where
 
   pub hash-same : (v i : ℕ) → hashAt after v i ≡ hashAt before v i
   unfolding hashAt
-  hash-same v zero = ap (λ (f : ℕ). v * f % hashes) (same 515 (omega arith))
-  hash-same v (suc i) = ap₂ (λ (h r : ℕ). h * r % hashes) (hash-same v i) (same 516 (omega arith))
+  hash-same v zero = ap₂ (λ (n f : ℕ). mixedIf n (v * f % hashes)) (same 516 (omega arith)) (same 515 (omega arith))
+  hash-same v (suc i) = ap₂ (λ (h r : ℕ). h * r % hashes) (hash-same v i) (same 514 (omega arith))
 
   pub row-same : (start v i : ℕ) → rowAt after start v i ≡ rowAt before start v i
   unfolding rowAt
@@ -121,6 +138,5 @@ module _ (before after : List ℕ) (same : SamePlan before after) where
         short = let e = same 514 (omega arith) in omega (arith, e, s .short);
         narrow = let e = same 512 (omega arith) in omega (arith, e, s .narrow);
         small = let e = same 515 (omega arith) in omega (arith, e, s .small);
-        near = let e = same 516 (omega arith) in omega (arith, e, s .near);
         columns = λ r c h k. rows-same (columnStart after r c) (columnStart before r c) (columns-same r c h k) (s .columns r c h k);
       }

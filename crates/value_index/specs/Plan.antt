@@ -5,6 +5,7 @@ use mathlib.Core.Logic.{_⊎_}
 use mathlib.Core.List.{List}
 use Prim.Native.Nat.{ℕ, zero, suc, _+_, _*_, _/_, _%_, _≤_, _<_}
 use lib.ListN.{length, getD}
+use lib.Bits.{bitXor}
 use Rattle.model.specs.Limits.{maxRelations, maxWidth}
 use Rattle.value_index.specs.declared.digits.RowPlan.{RowPlan}
 
@@ -50,14 +51,14 @@ digitRows index = getD index 514 0
 abbrev pub factor : List ℕ → ℕ
 factor index = getD index 515 0
 
--- .. and a hash, for the digit behind
-abbrev pub step : List ℕ → ℕ
-step index = getD index 516 0
+-- whether the product is mixed: 0 if it is not
+abbrev pub mixes : List ℕ → ℕ
+mixes index = getD index 516 0
 
 -- these five together
 abbrev pub rowPlan : List ℕ → RowPlan
 rowPlan index =
-    record { words = rowWords index; digits = digitCount index; rows = digitRows index; factor = factor index; step = step index }
+    record { words = rowWords index; digits = digitCount index; rows = digitRows index; factor = factor index; mixes = mixes index }
 
 -- the words of one column's rows: those of the digits, and behind them the row of any
 abbrev pub columnWords : List ℕ → ℕ
@@ -67,13 +68,26 @@ columnWords index = (digitCount index * digitRows index + 1) * rowWords index
 abbrev pub anyRow : List ℕ → ℕ → ℕ
 anyRow index start = start + digitCount index * digitRows index * rowWords index
 
+-- the high bits of a hash, from that of 2 ^ k = d on, in its low ones too
+abbrev pub folded : ℕ → ℕ → ℕ
+folded d hash = bitXor hash (hash / d) % hashes
+
+-- a hash mixed
+unfoldable pub mixed : ℕ → ℕ
+mixed hash = folded 8192 (folded 32768 hash * 2246822507 % hashes)
+
+-- .. unless n is 0
+unfoldable pub mixedIf : ℕ → ℕ → ℕ
+mixedIf zero hash = hash
+mixedIf (suc n) hash = mixed hash
+
 -- the hash of the digit behind one that is made of a hash
 abbrev pub hashBehind : List ℕ → ℕ → ℕ
-hashBehind index hash = hash * step index % hashes
+hashBehind index hash = hash * digitRows index % hashes
 
 -- .. of a value's digit i
 unfoldable pub hashAt : List ℕ → ℕ → ℕ → ℕ
-hashAt index v zero = v * factor index % hashes
+hashAt index v zero = mixedIf (mixes index) (v * factor index % hashes)
 hashAt index v (suc i) = hashBehind index (hashAt index v i)
 
 -- the word at which the row of digit i begins, which is made of a hash, among the rows that begin at `start`
@@ -96,7 +110,6 @@ pub record SoundPlan (index : List ℕ) : Type 0 where
   pub short : digitRows index ≤ rowsWords
   pub narrow : rowWords index ≤ rowsWords
   pub small : factor index ≤ hashes
-  pub near : step index ≤ hashes
   pub columns : (r c : ℕ) → r < maxRelations → c < maxWidth → (columnStart index r c ≡ 0) ⊎ ColumnRows index (columnStart index r c)
 
 -- the plan is the same

@@ -20,7 +20,6 @@ pub record Digital (d : Digits) : Type 0 where
   pub some : 0 < d .rows
   pub short : d .rows ≤ mostRows
   pub small : d .factor ≤ hashes
-  pub near : d .step ≤ hashes
 
 -- rows of so many words that begin at n, if it is not 0, lie behind the plan and within the index
 abbrev pub Fits : ℕ → ℕ → Type 0

@@ -30,7 +30,7 @@ pub mod digits; // the rows of a value's digits, by a plan that is read once
 pub mod any; // the row of any
 
 // The plan's words: where each column's rows begin, how many words a row has, how many digits a value has, how many rows a digit has,
-// what a value is multiplied by, what a hash is for the digit behind, and each relation's variables, a bit for each.
+// what a value is multiplied by, whether the product is mixed, and each relation's variables, a bit for each.
 pub const ROW_WORDS: usize = 512;
 
 pub const DIGITS: usize = 513;
@@ -39,7 +39,7 @@ pub const DIGIT_ROWS: usize = 514;
 
 pub const FACTOR: usize = 515;
 
-pub const STEP: usize = 516;
+pub const MIXES: usize = 516;
 
 pub const SCOPES: usize = 517;
 

@@ -17,11 +17,11 @@ use super::HASHES;
 use super::INDEX;
 use super::Index;
 use super::MAX_DIGITS;
+use super::MIXES;
 use super::PLAN;
 use super::ROW_WORDS;
 use super::ROWS;
 use super::SCOPES;
-use super::STEP;
 use layout::Starts;
 use layout::relation_count;
 use layout::tuple_count;
@@ -39,17 +39,15 @@ const MOST_ROWS: u64 = 1024;
 // So many classes of hashes are enough for values that cannot all be told apart: few tuples are then taken for others.
 const ENOUGH: u64 = 65536;
 
-// Factors that spread such values: of a value's hash, and of each digit's from the one before.
+// A factor that spreads such values, before the product is mixed.
 const SPREAD: u64 = 2654435769;
 
-const FURTHER: u64 = 2246822507;
-
-// How many digits a value has, how many rows each, and what a value is multiplied by, and a hash for the digit behind.
+// How many digits a value has, how many rows each, what a value is multiplied by, and whether the product is mixed.
 struct Digits {
     count: u64,
     rows: u64,
     factor: u64,
-    step: u64,
+    mixes: u64,
 }
 
 // The variables that stand more than once in the list, a bit for each: those that two relations have.
@@ -184,7 +182,7 @@ fn fewer_rows(rows: u64, digits: u64, classes: u64) -> u64
 }
 
 // As few digits as tell all values of the range apart, with so many rows, wherever it begins: their hashes lie so far from each other.
-// Where fewer make enough classes, or where four do not tell them apart, each digit is that of a product which spreads the values.
+// Where fewer make enough classes, or where four do not tell them apart, they are digits of a product which spreads the values, mixed.
 fn digits_for(rows: u64, range: u64) -> Digits
     requires { ⌜ (maxDigits ≤ rows) × (rows ≤ mostRows) × (0 < range) × (range ≤ hashes) ⌝ }
     ensures { λ d. ⌜ Digital d ⌝ }
@@ -200,7 +198,7 @@ fn digits_for(rows: u64, range: u64) -> Digits
                 count,
                 rows: fewer,
                 factor,
-                step: fewer,
+                mixes: 0,
             };
         }
         if tells(each, count, ENOUGH) {
@@ -208,7 +206,7 @@ fn digits_for(rows: u64, range: u64) -> Digits
                 count,
                 rows: each,
                 factor: SPREAD,
-                step: FURTHER,
+                mixes: 1,
             };
         }
         count += 1;
@@ -217,7 +215,7 @@ fn digits_for(rows: u64, range: u64) -> Digits
         count: MAX_DIGITS as u64,
         rows: rows / MAX_DIGITS as u64,
         factor: SPREAD,
-        step: FURTHER,
+        mixes: 1,
     }
 }
 
@@ -344,7 +342,7 @@ pub fn lay_out(variables: &[u16], values: &[Value], starts: &Starts, index: &mut
     index[DIGITS] = digits.count;
     index[DIGIT_ROWS] = digits.rows;
     index[FACTOR] = digits.factor;
-    index[STEP] = digits.step;
+    index[MIXES] = digits.mixes;
     let size = (digits.count * digits.rows + 1) as usize * words;
     lay_relations(variables, starts, shared, size, index);
 }

@@ -59,19 +59,19 @@ returns c =
     let t = c .before .before .before in
     let e = c .fewer-rows .ensures in
     let s : c .fewer-rows .result ≤ 1024 = omega (arith, e .1, short t) in
-    record { few = few t; some = e .0; short = s; small = factor-small (start t); near = omega (arith, s) }
+    record { few = few t; some = e .0; short = s; small = factor-small (start t) }
 
 returns-2 : tie.Need-returns-2 Inv-loop μ-loop
 returns-2 c =
     let t = c .before .before .before .before in
-    record { few = few t; some = some t; short = short t; small = omega arith; near = omega arith }
+    record { few = few t; some = some t; short = short t; small = omega arith }
 
 returns-3 : tie.Need-returns-3 Inv-loop μ-loop
 returns-3 c =
     let s = c .before .before in
     let rows : 4 ≤ s .args .rows = s .pre .0 in
     let most : s .args .rows ≤ 1024 = s .pre .1 in
-    record { few = omega arith; some = omega arith; short = omega arith; small = omega arith; near = omega arith }
+    record { few = omega arith; some = omega arith; short = omega arith; small = omega arith }
 
 pub digits-for-spec : {M : Type 1} → statement M
 digits-for-spec =
