@@ -61,9 +61,9 @@ pub type Indices = [u16; MAX_MEMBERS];
 // What a search came to: a support, or none; and from HARD on it was hard.
 pub const FOUND: u16 = 1;
 
-const NONE: u16 = 0;
+pub const NONE: u16 = 0;
 
-const HARD: u16 = 2;
+pub const HARD: u16 = 2;
 
 // The indices of a support, one for each member, if the kind is odd; half of the kind is how many choices a hard search has tried, if they are
 // fewer than LONG. Its fields are of one width and are read back as they are written: a word made of two flags would be waited for.
