@@ -16,23 +16,27 @@ use Rattle.model.specs.Limits.{maxMembers, noSupport}
 use Rattle.model.specs.Lists.{from, all, earlier}
 use Rattle.model.specs.TupleSet.{TupleSet, has}
 use Rattle.model.specs.Network.{Network, size, total, firstId, indexOf}
-use Rattle.model.specs.Combination.{Combination}
+use Rattle.model.specs.Combination.{Combination, pairMember}
 use Rattle.model.specs.LiveWords.{isLive, cleared}
 use Rattle.model.specs.Support.{candidates, isSupport, firstSupport, supportFrom}
 use Rattle.model.proofs.Lists.{all-at, all-intro, all-map, from-mem, map-from-same, map-places, earlier-within}
 use Rattle.model.proofs.Network.{ids-below}
 use Rattle.model.proofs.LiveWords.{living-has}
 use Rattle.model.proofs.Support.{isSupport-intro, isSupport-self, candidates-length, candidates-at, candidates-index, candidates-id, firstSupport-lowest}
-use Rattle.model.proofs.Search.{supportFrom-first, supportFrom-some, supportFrom-none}
+use Rattle.model.proofs.Bools.{not-both}
+use Rattle.model.proofs.Search.{Lowest, supportFrom-first, supportFrom-some, supportFrom-none}
 use Rattle.worklist.specs.Supports.{chosenId, Chosen, allLive}
 use Rattle.worklist.proofs.Stretch.{replaced, replaced-same}
 use Rattle.support.specs.Search.{Search, seeker, answer, SoundSearch}
 use Rattle.layout.specs.Setting.{Setting, network, liveIn}
 use Rattle.layout.specs.Pairs.{combinationOf, sizeOf, tupleId, placeOf, held}
-use Rattle.engine.specs.Work.{Candidate, Bound, Renewed, Seeker}
+use Rattle.engine.specs.Work.{Candidate, Bound, LeanIn, Renewed, Seeker}
 use Rattle.layout.proofs.Pairs.{combination-length, member-at, place-within}
 use Rattle.layout.proofs.SoundStarts.{tuples-few}
-use Rattle.layout.proofs.Pairs.{member-below, base-within, combination-proper, start-of-member, place-below}
+use Rattle.layout.proofs.Pairs.{member-below, base-within, combination-proper, start-of-member, place-below, tuple-below}
+use Rattle.lean.specs.Lean.{LeanAt}
+use Rattle.lean.proofs.Leaner.{pair-asks}
+use Rattle.lean.proofs.Supports.{lean-lowest, lean-from}
 use Rattle.engine.proofs.Candidates.{own-index, none-earlier}
 
 module _ {G : Setting} {words numbers : List ℕ} {p x : ℕ} (A : Seeker G words numbers p x) where
@@ -205,15 +209,19 @@ module _ {G : Setting} {words numbers : List ℕ} {p x : ℕ} (A : Seeker G word
 
   -- ---- The search from the bound
 
-  abbrev pub searched : Search
-  searched = record { lists = G .lists; words = words; members = c; place = p % G .m; own = x; low = lowOf }
+  -- over lean words
+  abbrev pub searched : List ℕ → Search
+  searched lean = record { lists = G .lists; words = lean; members = c; place = p % G .m; own = x; low = lowOf }
+
+  own-is : getD c (p % G .m) 0 ≡ pairMember (G .members) p
+  own-is = member-at (A .sound .laid .framed) (A .sound .paired) p (A .pair)
 
   -- .. and none of the search's
-  pub searched-lowest : (u : List ℕ) → List·Memᴰ u (candidates N c) → isSupport N S (seeker searched) u ≡ true → earlier (map (indexOf N) u) lowOf ≡ false
-  searched-lowest u m s = low-lowest u m (ap (λ (r : ℕ). isSupport N S (firstId N r + x) u) (sym (member-at (A .sound .laid .framed) (A .sound .paired) p (A .pair))) ∙ s)
+  searched-lowest : Lowest N S (seeker (searched words)) lowOf c
+  searched-lowest u m s = low-lowest u m (ap (λ (r : ℕ). isSupport N S (firstId N r + x) u) (sym own-is) ∙ s)
 
   size-is : size N (getD c (p % G .m) 0) ≡ sizeOf G p
-  size-is = ap (size N) (member-at (A .sound .laid .framed) (A .sound .paired) p (A .pair))
+  size-is = ap (size N) own-is
 
   low-own : getD lowOf (p % G .m) 0 ≡ x
   low-own =
@@ -238,12 +246,12 @@ module _ {G : Setting} {words numbers : List ℕ} {p x : ℕ} (A : Seeker G word
           omega (arith, ap (λ (is : List ℕ). getD is j 0) e, getD-set-other (replicate maxMembers 0) (p % G .m) j x 0 d, getD-replicate {A = ℕ} maxMembers j 0 0 (omega (arith, A .sound .paired .list .few)))
 
   -- what `first_support` asks
-  pub ready : SoundSearch searched
-  ready =
+  pub ready : {lean : List ℕ} → length lean ≡ 64 → SoundSearch (searched lean)
+  ready long =
       let l = place-below (A .sound .laid .framed) (A .sound .paired) p (A .pair) in
       record {
         laid = A .sound .laid;
-        words = A .working .space .enough;
+        words = omega (arith, long, tuples-few (A .sound .laid .framed));
         members = combination-proper (A .sound .laid .framed) (A .sound .paired) p (A .pair);
         few = omega (arith, member-count, A .sound .paired .list .few);
         place = omega (arith, member-count);
@@ -252,17 +260,40 @@ module _ {G : Setting} {words numbers : List ℕ} {p x : ℕ} (A : Seeker G word
         low-within = λ j i. low-within j (omega (arith, member-count));
       }
 
+  -- ---- Over lean words
+
+  module _ {lean : List ℕ} (E : LeanIn G p words lean) where
+    own-within : x < size N (getD c (p % G .m) 0)
+    own-within = omega (arith, size-is, A .index)
+
+    own-lives : isLive words (seeker (searched words)) ≡ true
+    own-lives =
+        ap (λ (r : ℕ). isLive words (firstId N r + x)) own-is
+        ∙ sym (living-has (total N) words g (tuple-below (A .sound) p x (A .pair) (A .index)))
+        ∙ A .lives
+
+    abbrev asks : LeanAt (G .lists) c (p % G .m)
+    asks = pair-asks (A .sound) p (A .pair)
+
+    -- none is earlier
+    pub lean-searched-lowest : Lowest N (liveIn G lean) (seeker (searched lean)) lowOf c
+    lean-searched-lowest = lean-lowest asks E x own-within own-lives lowOf searched-lowest
+
+    -- what is found is the same
+    pub lean-searched : supportFrom N (liveIn G lean) c (seeker (searched lean)) lowOf ≡ supportFrom N S c (seeker (searched words)) lowOf
+    lean-searched = lean-from asks E x own-within own-lives lowOf searched-lowest
+
   -- what it answers
-  module _ (ok : Bool) (tuples : List ℕ) (answers : answer ok (take (length c) tuples) ≡ supportFrom N S c (seeker searched) lowOf) where
+  module _ (ok : Bool) (tuples : List ℕ) (answers : answer ok (take (length c) tuples) ≡ supportFrom N S c (seeker (searched words)) lowOf) where
     answered : supportFrom N S c g lowOf ≡ answer ok (take (G .m) tuples)
     answered =
         sym
         (ap (λ (n : ℕ). answer ok (take n tuples)) (sym member-count)
         ∙ answers
-        ∙ ap (λ (r : ℕ). supportFrom N S c (firstId N r + x) lowOf) (member-at (A .sound .laid .framed) (A .sound .paired) p (A .pair)))
+        ∙ ap (λ (r : ℕ). supportFrom N S c (firstId N r + x) lowOf) own-is)
 
     -- a support: it is the first
-    pub renewed-found : ok ≡ true → Renewed G p x words numbers true words (take (placeOf G p x) numbers ++ take (G .m) tuples ++ drop (placeOf G p x + G .m) numbers)
+    pub renewed-found : ok ≡ true → Renewed G p x words numbers ok words (take (placeOf G p x) numbers ++ take (G .m) tuples ++ drop (placeOf G p x + G .m) numbers)
     renewed-found e =
         let some-is : supportFrom N S c g lowOf ≡ some (take (G .m) tuples) = answered ∙ ap (λ (b : Bool). answer b (take (G .m) tuples)) e in
         let first : firstSupport N S c g ≡ take (G .m) tuples =
@@ -274,14 +305,14 @@ module _ {G : Setting} {words numbers : List ℕ} {p x : ℕ} (A : Seeker G word
             ap (λ (is : List ℕ). replaced numbers is (placeOf G p x) (G .m)) (sym first),
             supportFrom-some N S g lowOf c (take (G .m) tuples) some-is,
           );
-          removed = λ q. absurd (true≢false q);
+          removed = λ q. absurd (not-both e q);
         }
 
     -- none: there is no support
-    pub renewed-none : ok ≡ false → Renewed G p x words numbers false (cleared g words) numbers
+    pub renewed-none : ok ≡ false → Renewed G p x words numbers ok (cleared g words) numbers
     renewed-none e =
         record {
-          kept = λ q. absurd (true≢false (sym q));
+          kept = λ q. absurd (not-both q e);
           removed = λ _. (
             refl,
             refl,

@@ -1,27 +1,29 @@
 -- Laws of a visit under way: what holds once its walk has come to a tuple, and what each turn of the walk makes of it.
 -- From the laws of one step of a visit, and of live words.
 use mathlib.Core.Path.{_≡_, refl, sym, _∙_, ap, subst}
-use mathlib.Core.Bool.{Bool, true, false, not, _||_, true≢false}
+use mathlib.Core.Bool.{Bool, true, false, _||_, true≢false}
 use mathlib.Core.Logic.{_⊎_, inl, inr}
 use mathlib.Core.List.{List}
-use Prim.Native.Nat.{ℕ, suc, _*_, _≤_, _<_}
+use Prim.Native.Nat.{ℕ, suc, _+_, _*_, _%_, _≤_, _<_}
 use native.Mathlib.Decide.{ℕ-discrete}
 use native.Mathlib.Omega.{arith}
-use lib.Dec.{eqb}
-use lib.ListN.{length, drop}
+use lib.ListN.{length, getD, drop}
 use Rattle.model.specs.Limits.{maxPairs}
 use Rattle.model.specs.TupleSet.{has, count}
+use Rattle.model.specs.Network.{size, firstId}
+use Rattle.model.specs.Combination.{pairMember}
 use Rattle.model.specs.Consistency.{needed}
 use Rattle.model.specs.LiveWords.{isLive, cleared}
-use Rattle.model.proofs.Bools.{not-both, and-left}
+use Rattle.model.proofs.Bools.{not-both}
 use Rattle.model.proofs.LiveWords.{cleared-below, cleared-length}
-use Rattle.live.proofs.Stores.{cleared-live}
 use Rattle.worklist.specs.Pairs.{queues}
 use Rattle.sweeping.specs.Shrunk.{Shrunk}
 use Rattle.sweeping.proofs.Shrunk.{shrunk-refl, shrunk-trans}
 use Rattle.layout.specs.Setting.{Setting, network, listed, Sound, liveIn}
-use Rattle.layout.specs.Pairs.{sizeOf, tupleId}
-use Rattle.engine.specs.Work.{Working, Rest, Renewed, Visited}
+use Rattle.layout.specs.Pairs.{combinationOf, sizeOf, tupleId}
+use Rattle.layout.proofs.Pairs.{member-at}
+use Rattle.lean.proofs.Leaner.{pair-asks, lean-cleared}
+use Rattle.engine.specs.Work.{Working, Rest, LeanIn, Renewed, Visited}
 use Rattle.engine.proofs.Steps.{Small, kept-length, kept-beyond, kept-rest, kept-working, kept-done, done-skip, removed-count, removed-working, removed-shrunk, removed-rest, removed-done, kept-noted, removed-noted}
 use Rattle.worklist.specs.Supports.{Done}
 use Rattle.doubles.specs.Doubles.{Entered}
@@ -41,13 +43,21 @@ pub record VisitOf (G : Setting) (p : ℕ) (queue words numbers queue′ words�
   pub same : shrunk ≡ false → (queue′ ≡ queue) × (words′ ≡ words)
   pub less : shrunk ≡ true → (count (liveIn G words′) < count (liveIn G words)) × ((q : ℕ) → q < length (G .members) → queues (G .m) (G .members) p q ≡ true → isLive queue′ q ≡ true)
 
--- no tuple is live after a renewal that was not before
-pub renewed-inside : {G : Setting} {p x : ℕ} {words numbers words′ numbers′ : List ℕ} {found : Bool} → Renewed G p x words numbers found words′ numbers′ → tupleId G p x < 64 * length words → (g : ℕ) → isLive words′ g ≡ true → isLive words g ≡ true
-renewed-inside {G} {p} {x} {words} {numbers} {words′} {numbers′} {found} R l g e = go found refl
+-- what is lean stays so in a renewal
+pub renewed-lean : {G : Setting} → Sound G → {p x : ℕ} → p < length (G .members) → x < sizeOf G p → {words numbers words′ numbers′ lean : List ℕ} {found : Bool} → tupleId G p x < 64 * length words → Renewed G p x words numbers found words′ numbers′ → LeanIn G p words lean → LeanIn G p words′ lean
+renewed-lean {G} sound {p} {x} hp hx {words} {numbers} {words′} {numbers′} {lean} {found} room R E = go found refl
   where
-    go : (b : Bool) → found ≡ b → isLive words g ≡ true
-    go true q = subst (λ (ws : List ℕ). isLive ws g ≡ true) (R .kept q .0) e
-    go false q = and-left (isLive words g) (not (eqb (tupleId G p x) g)) (sym (cleared-live words (tupleId G p x) g l) ∙ subst (λ (ws : List ℕ). isLive ws g ≡ true) (R .removed q .0) e)
+    is-own : getD (combinationOf G p) (p % G .m) 0 ≡ pairMember (G .members) p
+    is-own = member-at (sound .laid .framed) (sound .paired) p hp
+
+    less : LeanIn G p (cleared (tupleId G p x) words) lean
+    less =
+        subst (λ (r : ℕ). LeanIn G p (cleared (firstId (network G) r + x) words) lean) is-own
+        (lean-cleared (G .lists) (combinationOf G p) (p % G .m) (pair-asks sound p hp) E x (subst (λ (r : ℕ). x < size (network G) r) (sym is-own) hx) (subst (λ (r : ℕ). firstId (network G) r + x < 64 * length words) (sym is-own) room))
+
+    go : (b : Bool) → found ≡ b → LeanIn G p words′ lean
+    go true q = subst (λ (ws : List ℕ). LeanIn G p ws lean) (sym (R .kept q .0)) E
+    go false q = subst (λ (ws : List ℕ). LeanIn G p ws lean) (sym (R .removed q .0)) less
 
 module _ {G : Setting} (sound : Sound G) {p : ℕ} (hp : p < length (G .members)) where
   -- nothing is done yet

@@ -17,6 +17,7 @@ use Rattle.model.specs.LiveWords.{isLive, cleared, written}
 use Rattle.value_index.specs.Index.{Indexed}
 use Rattle.narrowing.specs.Narrows.{Long}
 use Rattle.spreading.specs.Fresh.{Meets}
+use Rattle.lean.specs.Lean.{Lean, LeanFrom}
 use Rattle.sweeping.specs.Shrunk.{Shrunk}
 use Rattle.worklist.specs.Supports.{SupportsFit, PairsBegin, Supported, Done}
 use Rattle.twins.specs.declared.sides.Sides.{Sides}
@@ -96,6 +97,14 @@ pub record RenewAt (G : Setting) (index words numbers sought : List ℕ) (p x at
 -- what is known of fresh tuples in a visit of pair p: every support in its combination has one beside the member's own
 abbrev pub Beside : Setting → ℕ → List ℕ → List ℕ → Type 0
 Beside G p words fresh = Long fresh × (1 < length (combinationOf G p) → Meets (network G) (combinationOf G p) (p % G .m) words fresh)
+
+-- the words over which pair p's tuples seek their supports
+abbrev pub LeanIn : Setting → ℕ → List ℕ → List ℕ → Type 0
+LeanIn G p words lean = Lean (G .lists) (combinationOf G p) (p % G .m) words lean
+
+-- .. made of others
+abbrev pub LeanOf : Setting → ℕ → List ℕ → List ℕ → Type 0
+LeanOf G p words lean = LeanFrom (G .lists) (combinationOf G p) (p % G .m) words lean
 
 -- Tuple x of pair p's member has its first support in the list, or has none and is dead; nothing else changes.
 pub record Renewed (G : Setting) (p x : ℕ) (words numbers : List ℕ) (found : Bool) (words′ numbers′ : List ℕ) : Type 0 where

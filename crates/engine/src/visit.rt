@@ -5,13 +5,16 @@ ghost use Rattle.narrowing.specs.Narrows.{Long};
 ghost use Rattle.live.specs.Words.{WordArray};
 ghost use Rattle.spreading.specs.Spread.{PairNumbers};
 ghost use Rattle.doubles.specs.Doubles.{Entered};
-ghost use Rattle.engine.specs.Work.{SeekAt, RenewAt, Beside, Renewed, VisitAt, Visited};
+ghost use Rattle.support.specs.Search.{isFound};
+ghost use Rattle.doubles.specs.Alike.{PairAt};
+ghost use Rattle.engine.specs.Work.{SeekAt, RenewAt, LeanIn, LeanOf, Beside, Renewed, VisitAt, Visited};
 use doubles::PLACES;
 use doubles::Table;
 use layout::Starts;
 use layout::put;
 use layout::tuple_start;
 use layout::wide;
+use lean::lean_once_hard;
 use live::WORDS;
 use live::Words;
 use live::clear;
@@ -21,6 +24,7 @@ use model::NO_SUPPORT;
 use model::Value;
 use spreading::steps::steps_of_pair;
 use support::FOUND;
+use support::NONE;
 use support::first_support;
 use twins::Twin;
 use twins::sides::Sides;
@@ -41,8 +45,8 @@ fn steps_at(index: &Index, members: &[u16], m: u16, p: u16) -> u64
     steps_of_pair(index, members, wide(m), wide(p))
 }
 
-// Whether tuple x of pair p's member has a support, sought from the bound that the list holds: its first one is in the list then, and
-// otherwise the tuple is dead.
+// What the search of tuple x of pair p's member came to, from the bound that the list holds and over the lean words: its first support is in
+// the list, or the tuple is dead.
 fn seek(
     variables: &[u16],
     values: &[Value],
@@ -56,12 +60,13 @@ fn seek(
     x: u16,
     at: usize,
     steps: u64,
+    lean: &Words,
     fresh: &mut Words,
-) -> bool
+) -> u16
     requires { ⌜ Long (now words) × SeekAt (setting now variables values starts members m) (now index) (now words) (now numbers) p x at ⌝ }
-    requires { ⌜ Beside (setting now variables values starts members m) p (now words) (now fresh) ⌝ }
-    ensures { λ r. ⌜ Renewed (setting entry variables values starts members m) p x (entry words) (entry numbers) r (exit words) (exit numbers) ⌝ }
-    ensures { λ _. ⌜ Beside (setting entry variables values starts members m) p (entry words) (exit fresh) ⌝ }
+    requires { ⌜ Beside (setting now variables values starts members m) p (now lean) (now fresh) × LeanIn (setting now variables values starts members m) p (now words) (now lean) ⌝ }
+    ensures { λ r. ⌜ Renewed (setting entry variables values starts members m) p x (entry words) (entry numbers) (isFound r) (exit words) (exit numbers) ⌝ }
+    ensures { λ _. ⌜ Beside (setting entry variables values starts members m) p (entry lean) (exit fresh) ⌝ }
 {
     let each = wide(m);
     let pair = wide(p);
@@ -77,7 +82,7 @@ fn seek(
         values,
         starts,
         index,
-        words,
+        lean,
         &members[base..end],
         place,
         x,
@@ -85,13 +90,14 @@ fn seek(
         steps,
         fresh,
     );
-    if found.kind % 2 == FOUND {
+    let kind = found.kind;
+    if kind % 2 == FOUND {
         let tuples = found.tuples;
         store(numbers, at, each, tuples);
-        return true;
+        return kind;
     }
     clear(words, tuple_start(starts, members[pair]) + x);
-    false
+    kind
 }
 
 // The same for a tuple that may have a twin: it takes that one's support with x put in, or falls as that one fell, or seeks its own.
@@ -110,13 +116,14 @@ fn replace(
     at: usize,
     sides: Sides,
     steps: u64,
+    lean: &Words,
     fresh: &mut Words,
-) -> bool
-    requires { ⌜ Long (now words) × Beside (setting now variables values starts members m) p (now words) (now fresh) ⌝ }
+) -> u16
+    requires { ⌜ Long (now words) × Beside (setting now variables values starts members m) p (now lean) (now fresh) × LeanIn (setting now variables values starts members m) p (now words) (now lean) ⌝ }
     requires { ⌜ RenewAt (setting now variables values starts members m) (now index) (now words) (now numbers) (now sought) p x at sides ⌝ }
-    ensures { λ r. ⌜ Renewed (setting entry variables values starts members m) p x (entry words) (entry numbers) r (exit words) (exit numbers) ⌝ }
+    ensures { λ r. ⌜ Renewed (setting entry variables values starts members m) p x (entry words) (entry numbers) (isFound r) (exit words) (exit numbers) ⌝ }
     ensures { λ _. ⌜ Entered x (entry sought) (exit sought) ⌝ }
-    ensures { λ _. ⌜ Beside (setting entry variables values starts members m) p (entry words) (exit fresh) ⌝ }
+    ensures { λ _. ⌜ Beside (setting entry variables values starts members m) p (entry lean) (exit fresh) ⌝ }
 {
     let twin = take_twin(
         variables,
@@ -133,10 +140,10 @@ fn replace(
         sides,
     );
     match twin {
-        Twin::Taken => true,
+        Twin::Taken => FOUND,
         Twin::Fallen => {
             clear(words, tuple_start(starts, members[wide(p)]) + x);
-            false
+            NONE
         }
         Twin::None => seek(
             variables,
@@ -151,13 +158,13 @@ fn replace(
             x,
             at,
             steps,
+            lean,
             fresh,
         ),
     }
 }
 
-// Whether tuple x of pair p's member has a support: its first one is in the list then, and otherwise the tuple is dead. It is the one held
-// if that lives.
+// What was found for tuple x of pair p's member: its first support is in the list, or the tuple is dead. It is the one held if that lives.
 pub fn renew(
     variables: &[u16],
     values: &[Value],
@@ -173,19 +180,20 @@ pub fn renew(
     at: usize,
     sides: Sides,
     steps: u64,
+    lean: &Words,
     fresh: &mut Words,
-) -> bool
-    requires { ⌜ Long (now words) × Beside (setting now variables values starts members m) p (now words) (now fresh) ⌝ }
+) -> u16
+    requires { ⌜ Long (now words) × Beside (setting now variables values starts members m) p (now lean) (now fresh) × LeanIn (setting now variables values starts members m) p (now words) (now lean) ⌝ }
     requires { ⌜ RenewAt (setting now variables values starts members m) (now index) (now words) (now numbers) (now sought) p x at sides ⌝ }
-    ensures { λ r. ⌜ Renewed (setting entry variables values starts members m) p x (entry words) (entry numbers) r (exit words) (exit numbers) ⌝ }
+    ensures { λ r. ⌜ Renewed (setting entry variables values starts members m) p x (entry words) (entry numbers) (isFound r) (exit words) (exit numbers) ⌝ }
     ensures { λ _. ⌜ Entered x (entry sought) (exit sought) ⌝ }
-    ensures { λ _. ⌜ Beside (setting entry variables values starts members m) p (entry words) (exit fresh) ⌝ }
+    ensures { λ _. ⌜ Beside (setting entry variables values starts members m) p (entry lean) (exit fresh) ⌝ }
 {
     let each = wide(m);
     if numbers[at] != NO_SUPPORT {
         let held = load(numbers, at, each);
         if all_live(words, starts, members, wide(p) / each * each, each, held) {
-            return true;
+            return FOUND;
         }
     }
     replace(
@@ -203,7 +211,38 @@ pub fn renew(
         at,
         sides,
         steps,
+        lean,
         fresh,
+    )
+}
+
+// Once a search of pair p was hard, by its kind, what is sought among becomes lean; whether it is.
+fn lean_at(
+    variables: &[u16],
+    values: &[Value],
+    starts: &Starts,
+    members: &[u16],
+    m: u16,
+    p: u16,
+    kind: u16,
+    done: bool,
+    lean: &mut Words,
+) -> bool
+    requires { ⌜ Long (now lean) × PairAt (setting now variables values starts members m) p ⌝ }
+    ensures { λ _. ⌜ LeanOf (setting entry variables values starts members m) p (entry lean) (exit lean) ⌝ }
+{
+    let each = wide(m);
+    let base = wide(p) / each * each;
+    let end = base + each;
+    lean_once_hard(
+        variables,
+        values,
+        starts,
+        &members[base..end],
+        wide(p) % each,
+        kind,
+        done,
+        lean,
     )
 }
 
@@ -231,6 +270,8 @@ pub fn visit(
     let end = tuple_start(starts, r + 1);
     let start = wide(pair_starts[wide(p)]);
     let mut sought = [NO_SUPPORT; PLACES];
+    let mut lean = *words;
+    let mut is_lean = false;
     let mut fresh = [!0u64; WORDS];
     let mut waiting = queue;
     let mut shrunk = false;
@@ -238,7 +279,7 @@ pub fn visit(
     while g < end {
         let x = g - first;
         let at = start + wide(x) * wide(m);
-        if !renew(
+        let kind = renew(
             variables,
             values,
             starts,
@@ -253,13 +294,26 @@ pub fn visit(
             at,
             sides,
             steps,
+            &lean,
             &mut fresh,
-        ) {
+        );
+        if kind % 2 != FOUND {
             if !shrunk {
                 waiting = requeue(waiting, members, m, p);
                 shrunk = true;
             }
         }
+        is_lean = lean_at(
+            variables,
+            values,
+            starts,
+            members,
+            m,
+            p,
+            kind,
+            is_lean,
+            &mut lean,
+        );
         g = next(words, g + 1, end);
     }
     waiting

@@ -47,6 +47,28 @@ module _ (L : Lists) (c : Combination) (place : ℕ) where
   lean-same words long =
       (record { long = long; own = λ x h e. e; others = λ j x h d l e. e; doubles = λ j x h d l e f. absurd (not-both e f) }, λ g e. e)
 
+  -- lean words of lean words
+  module _ {words lean less : List ℕ} (E : Lean L c place words lean) (F : Lean L c place lean less) where
+    fell : (j x : ℕ) → j < length c → (j ≡ place → ⊥) → x < size N (getD c j 0) → isLive words (id j x) ≡ true → isLive less (id j x) ≡ false → (b : Bool) → isLive lean (id j x) ≡ b → Double L c j words x
+    fell j x h d l e f false q = E .doubles j x h d l e q
+    fell j x h d l e f true q =
+        let D = F .doubles j x h d l q f in
+        let R = D .repeated in
+        record {
+          set = D .set;
+          covers = D .covers;
+          repeated = record { y = R .y; before = R .before; lives = E .others j (R .y) h d (omega (arith, R .before, l)) (R .lives); alike = R .alike };
+        }
+
+    pub lean-both : Lean L c place words less
+    lean-both =
+        record {
+          long = F .long;
+          own = λ x l e. F .own x l (E .own x l e);
+          others = λ j x h d l e. E .others j x h d l (F .others j x h d l e);
+          doubles = λ j x h d l e f. fell j x h d l e f (isLive lean (id j x)) refl;
+        }
+
   module _ (A : LeanAt L c place) where
     pub member-exists : (j : ℕ) → j < length c → getD c j 0 < length (N .relations)
     member-exists j h =
@@ -57,35 +79,33 @@ module _ (L : Lists) (c : Combination) (place : ℕ) where
     members-differ : (i j : ℕ) → i < length c → j < length c → (i ≡ j → ⊥) → getD c i 0 ≡ getD c j 0 → ⊥
     members-differ i j h k d = differ N c (A .members) i j h k d
 
-    -- ---- One member more is thinned
+    -- ---- One member is thinned
 
-    module _ {words lean less : List ℕ} (E : Lean L c place words lean) (j set : ℕ) (hj : j < length c) (other : j ≡ place → ⊥) (covers : Covers N c j (isSet set)) (T : Thinned L set (getD c j 0) lean less) where
+    module _ {words less : List ℕ} (j set : ℕ) (hj : j < length c) (other : j ≡ place → ⊥) (covers : Covers N c j (isSet set)) (T : Thinned L set (getD c j 0) words less) where
       -- the ids of another member stay
-      stays : (i x : ℕ) → i < length c → (i ≡ j → ⊥) → x < size N (getD c i 0) → isLive less (id i x) ≡ isLive lean (id i x)
+      stays : (i x : ℕ) → i < length c → (i ≡ j → ⊥) → x < size N (getD c i 0) → isLive less (id i x) ≡ isLive words (id i x)
       stays i x h d l = T .outside (id i x) (ids-apart N (getD c i 0) x (getD c j 0) l (members-differ j i hj h (λ q. d (sym q))))
 
-      fell : (i x : ℕ) → i < length c → (i ≡ place → ⊥) → x < size N (getD c i 0) → isLive words (id i x) ≡ true → isLive less (id i x) ≡ false → (b : Bool) → isLive lean (id i x) ≡ b → Dec (j ≡ i) → Double L c i words x
-      fell i x h d l e f false q k = E .doubles i x h d l e q
-      fell i x h d l e f true q (no k) = absurd (not-both (stays i x h (λ p. k (sym p)) l ∙ q) f)
-      fell i x h d l e f true q (yes k) = subst (λ (i : ℕ). Double L c i words x) k (own (subst (λ (i : ℕ). x < size N (getD c i 0)) (sym k) l) (subst (λ (i : ℕ). isLive lean (id i x) ≡ true) (sym k) q) (subst (λ (i : ℕ). isLive less (id i x) ≡ false) (sym k) f))
-        where
-          own : x < size N (getD c j 0) → isLive lean (id j x) ≡ true → isLive less (id j x) ≡ false → Double L c j words x
-          own l q f =
-              let R = T .repeats x l q f in
-              record {
-                set = set;
-                covers = covers;
-                repeated = record { y = R .y; before = R .before; lives = E .others j (R .y) hj other (omega (arith, R .before, l)) (R .lives); alike = R .alike };
-              }
+      gone : (i x : ℕ) → i < length c → x < size N (getD c i 0) → isLive words (id i x) ≡ true → isLive less (id i x) ≡ false → Dec (j ≡ i) → Double L c i words x
+      gone i x h l e f (no k) = absurd (not-both (stays i x h (λ q. k (sym q)) l ∙ e) f)
+      gone i x h l e f (yes k) =
+          subst (λ (i : ℕ). Double L c i words x) k
+          (record {
+            set = set;
+            covers = covers;
+            repeated = T .repeats x (subst (λ (i : ℕ). x < size N (getD c i 0)) (sym k) l) (subst (λ (i : ℕ). isLive words (id i x) ≡ true) (sym k) e) (subst (λ (i : ℕ). isLive less (id i x) ≡ false) (sym k) f);
+          })
 
-      pub lean-thinned : Lean L c place words less
-      lean-thinned =
-          record {
-            long = T .long;
-            own = λ x l e. stays place x (A .inside) (λ q. other (sym q)) l ∙ E .own x l e;
-            others = λ i x h d l e. E .others i x h d l (T .inside (id i x) e);
-            doubles = λ i x h d l e f. fell i x h d l e f (isLive lean (id i x)) refl (ℕ-discrete j i);
-          }
+      pub thinned-lean : LeanFrom L c place words less
+      thinned-lean = (
+        record {
+          long = T .long;
+          own = λ x l e. stays place x (A .inside) (λ q. other (sym q)) l ∙ e;
+          others = λ i x h d l e. T .inside (id i x) e;
+          doubles = λ i x h d l e f. gone i x h l e f (ℕ-discrete j i);
+        },
+        T .inside,
+      )
 
     -- ---- A tuple of the member at the place falls
 

@@ -10,7 +10,7 @@ use borrow.Author.Needs.{needs}
 use Rattle.layout.specs.Setting.{Lists}
 use Rattle.layout.proofs.SoundStarts.{relations-few}
 use Rattle.lean.specs.Lean.{LeanFrom}
-use Rattle.lean.proofs.Leaner.{lean-same, lean-thinned, member-exists}
+use Rattle.lean.proofs.Leaner.{lean-same, lean-both, thinned-lean, member-exists}
 use Rattle.lean.proofs.without_doubles.Statement.{statement}
 use Rattle.lean.proofs.without_doubles.Tie as tie
 
@@ -40,9 +40,8 @@ loop-again c =
     ⊎-elim
     {C = so-far (c .if1 .words)}
     (λ w.
-    let T = w .4 .ensures in
-    subst so-far (sym (w .5))
-    (lean-thinned (L s) (s .args .members .now) (s .args .place) (s .pre .1) (l .inv .0) (l .j) (w .1 .result) (turn .loop-test .taken) (w .0 .taken) (λ i h d v e. w .1 .ensures i (omega arith) h d v e) T, λ g e. l .inv .1 g (T .inside g e)))
+    let F = thinned-lean (L s) (s .args .members .now) (s .args .place) (s .pre .1) (l .j) (w .1 .result) (turn .loop-test .taken) (w .0 .taken) (λ i h d v e. w .1 .ensures i (omega arith) h d v e) (w .4 .ensures) in
+    subst so-far (sym (w .5)) (lean-both (L s) (s .args .members .now) (s .args .place) (l .inv .0) (F .0), λ g e. l .inv .1 g (F .1 g e)))
     (λ w. subst so-far (sym (w .1)) (l .inv))
     (c .if1 .came)
 

@@ -18,6 +18,7 @@ use Rattle.layout.proofs.Pairs.{member-below, tuple-below}
 use Rattle.twins.specs.declared.Twin.{Twin}
 use Rattle.twins.specs.declared.Twin.the-variants as twin
 use Rattle.twins.specs.Twins.{Outcome}
+use Rattle.support.specs.Search.{isFound}
 use Rattle.engine.specs.Work.{Seeker, SeekAt, Renewed}
 use Rattle.engine.proofs.visit.replace.Statement.{statement}
 use Rattle.engine.proofs.visit.replace.Tie as tie
@@ -127,7 +128,7 @@ seek-requires : tie.Need-seek-requires
 seek-requires c κs =
     let e = c .before .before .before in
     let a = start (e .before .before) in
-    ((a .pre .0 .0, subst (λ (ns : List ℕ). SeekAt (G a) (a .args .index .now) (a .args .words .now) ns (a .args .p) (a .args .x) (a .args .at)) (sym (same e)) (a .pre .1 .seek)), a .pre .0 .1)
+    ((a .pre .0 .0, subst (λ (ns : List ℕ). SeekAt (G a) (a .args .index .now) (a .args .words .now) ns (a .args .p) (a .args .x) (a .args .at)) (sym (same e)) (a .pre .1 .seek)), (a .pre .0 .1, a .pre .0 .2))
 
 returns-3 : tie.Need-returns-3
 returns-3 c =
@@ -135,7 +136,7 @@ returns-3 c =
     let e = s .before .before .before .before in
     let k = e .before .before in
     let a = start k in (
-      subst (λ (ns : List ℕ). Renewed (G a) (a .args .p) (a .args .x) (a .args .words .now) ns (s .seek .result) (s .seek .last .1 .1 .1 .1 .1 .1 .0) (s .seek .last .1 .1 .1 .1 .1 .1 .1 .0)) (same e) (s .seek .ensures .0),
+      subst (λ (ns : List ℕ). Renewed (G a) (a .args .p) (a .args .x) (a .args .words .now) ns (isFound (s .seek .result)) (s .seek .last .1 .1 .1 .1 .1 .1 .0) (s .seek .last .1 .1 .1 .1 .1 .1 .1 .0)) (same e) (s .seek .ensures .0),
       (k .before .before .take-twin .ensures .1, s .seek .ensures .1),
     )
 

@@ -10,23 +10,25 @@ use native.Mathlib.Omega.{arith}
 use lib.ListN.{length, getD}
 use borrow.Author.Needs.{needs}
 use Rattle.spreading.proofs.Numbers.{pair-numbers}
-use borrow.Author.Tests.{not-true, not-false}
+use borrow.Author.Tests.{not-false, eq-eqb, ne-eqb}
 use Rattle.model.specs.Combination.{pairMember}
 use Rattle.model.specs.LiveWords.{isLive}
 use Rattle.worklist.specs.Pairs.{queues}
 use Rattle.worklist.specs.declared.queue.Queue.{Queue}
 use Rattle.layout.specs.Starts.{tupleStart}
 use Rattle.layout.specs.Setting.{Setting, network, Sound}
-use Rattle.layout.specs.Pairs.{combinationOf, placeOf}
+use Rattle.layout.specs.Pairs.{combinationOf, tupleId, placeOf}
 use Rattle.twins.specs.Twins.{Noted}
 use Rattle.twins.proofs.Sought.{noted-none, noted-more}
 use Rattle.spreading.proofs.Meeting.{meets-fewer}
 use Rattle.support.proofs.Spent.{meets-ones}
-use Rattle.engine.specs.Work.{Working, Beside}
+use Rattle.support.specs.Search.{isFound}
+use Rattle.lean.proofs.Leaner.{lean-same, lean-both}
+use Rattle.engine.specs.Work.{Working, LeanIn, Beside}
 use Rattle.layout.proofs.SoundStarts.{tuples-few}
 use Rattle.layout.proofs.Outline.{supportStart-outline}
 use Rattle.layout.proofs.Pairs.{member-below, tuple-below}
-use Rattle.engine.proofs.Visiting.{VisitOf, renewed-inside, going-kept, going-removed, going-noted, still-waits, requeued-waits}
+use Rattle.engine.proofs.Visiting.{VisitOf, renewed-lean, going-kept, going-removed, going-noted, still-waits, requeued-waits}
 use Rattle.engine.proofs.Walking.{WalkAt, come-first, come-end, index-lives, come-more, place-short}
 use Rattle.layout.proofs.Rows.{Row, row-of, row-total, row-asks, row-index, next-ahead}
 use Rattle.engine.proofs.visit.visit.Statement.{statement}
@@ -37,13 +39,14 @@ settingOf variables values starts members m =
     record { lists = record { variables = variables; values = values; starts = starts }; members = members; m = m }
 
 abbrev Inv-loop : tie.InvT-loop
-Inv-loop variables values starts index members m pair-starts words₀ numbers₀ p sides steps r first end start sought₀ fresh₀ waiting₀ shrunk₀ g₀ words numbers sought fresh waiting shrunk g =
+Inv-loop variables values starts index members m pair-starts words₀ numbers₀ p sides steps r first end start sought₀ lean₀ is-lean₀ fresh₀ waiting₀ shrunk₀ g₀ words numbers sought lean is-lean fresh waiting shrunk g =
     WalkAt (settingOf variables values starts members m) p first end (waiting₀ .words) words₀ numbers₀ (waiting .words) words numbers shrunk g
     × Noted (settingOf variables values starts members m) words p (g - first) sought
-    × Beside (settingOf variables values starts members m) p words fresh
+    × Beside (settingOf variables values starts members m) p lean fresh
+    × LeanIn (settingOf variables values starts members m) p words lean
 
 abbrev μ-loop : tie.MeasureT-loop
-μ-loop variables values starts index members m pair-starts words₀ numbers₀ p sides steps r first end start sought₀ fresh₀ waiting₀ shrunk₀ g₀ words numbers sought fresh waiting shrunk g = end - g
+μ-loop variables values starts index members m pair-starts words₀ numbers₀ p sides steps r first end start sought₀ lean₀ is-lean₀ fresh₀ waiting₀ shrunk₀ g₀ words numbers sought lean is-lean fresh waiting shrunk g = end - g
 
 -- ---- What it is called on
 
@@ -98,7 +101,7 @@ start-is c =
 -- ---- In the loop
 
 abbrev begun : tie.In-loop Inv-loop μ-loop → tie.After-wide3 Inv-loop μ-loop
-begun c = c .before .before .before .before .before
+begun c = c .before .before .before .before .before .before
 
 -- the place of the tuple's numbers
 place-is : (c : tie.After-wide5 Inv-loop μ-loop) → (let i = c .before .before in let b = begun i in b .wide3 .result + c .before .wide4 .result * c .wide5 .result ≡ placeOf (G (entry b)) (entry b .args .p) (i .before .loop .g - first b))
@@ -120,7 +123,7 @@ place-small c =
 -- ---- After the tuple's renewal
 
 abbrev turning : tie.After-renew Inv-loop μ-loop → tie.In-loop Inv-loop μ-loop
-turning c = c .before .before .before .before .before .before .before
+turning c = c .before .before .before .before .before .before .before .before
 
 abbrev words-after : tie.After-renew Inv-loop μ-loop → List ℕ
 words-after c = c .renew .last .1 .1 .1 .1 .1 .1 .0
@@ -139,7 +142,7 @@ Turned c waiting shrunk =
     let a = entry b in
     VisitOf (G a) (a .args .p) (a .args .queue .words) (a .args .words .now) (a .args .numbers .now) (waiting .words) (words-after c) (numbers-after c) shrunk (suc (i .before .loop .g - first b))
 
-turned-kept : (c : tie.After-renew Inv-loop μ-loop) → c .renew .result ≡ true → (let l = turning c .before .loop in Turned c (l .waiting) (l .shrunk))
+turned-kept : (c : tie.After-renew Inv-loop μ-loop) → isFound (c .renew .result) ≡ true → (let l = turning c .before .loop in Turned c (l .waiting) (l .shrunk))
 turned-kept c e =
     let i = turning c in
     let b = begun i in
@@ -149,7 +152,7 @@ turned-kept c e =
     (row-index (row b) (l .inv .0 .from-first) (i .loop-test .taken))
     (c .renew .ensures .0) e
 
-turned-removed : (c : tie.After-renew Inv-loop μ-loop) (waiting : Queue) → c .renew .result ≡ false → (let i = turning c in let a = entry (begun i) in (q : ℕ) → q < length (a .args .members .now) → isLive (waiting .words) q ≡ false → (isLive (i .before .loop .waiting .words) q ≡ false) × (queues (a .args .m) (a .args .members .now) (a .args .p) q ≡ false)) → Turned c waiting true
+turned-removed : (c : tie.After-renew Inv-loop μ-loop) (waiting : Queue) → isFound (c .renew .result) ≡ false → (let i = turning c in let a = entry (begun i) in (q : ℕ) → q < length (a .args .members .now) → isLive (waiting .words) q ≡ false → (isLive (i .before .loop .waiting .words) q ≡ false) × (queues (a .args .m) (a .args .members .now) (a .args .p) q ≡ false)) → Turned c waiting true
 turned-removed c waiting e waits =
     let i = turning c in
     let b = begun i in
@@ -175,16 +178,7 @@ noted c =
     (c .renew .ensures .1 .0)
 
 abbrev fresh-after : tie.After-renew Inv-loop μ-loop → List ℕ
-fresh-after c = c .renew .last .1 .1 .1 .1 .1 .1 .1 .1 .1 .1 .1 .1 .1 .1 .0
-
-beside : (c : tie.After-renew Inv-loop μ-loop) → (let a = entry (begun (turning c)) in Beside (G a) (a .args .p) (words-after c) (fresh-after c))
-beside c =
-    let i = turning c in
-    let a = entry (begun i) in
-    let l = i .before .loop in
-    let N = network (G a) in
-    let E = c .renew .ensures in
-    (E .1 .1 .0, λ two. meets-fewer N (combinationOf (G a) (a .args .p)) (a .args .p % a .args .m) (l .words) (words-after c) (fresh-after c) (renewed-inside (E .0) (omega (arith, tuple-below (sound a) (a .args .p) (l .g - first (begun i)) (in-members a) (row-index (row (begun i)) (l .inv .0 .from-first) (i .loop-test .taken)), l .inv .0 .going .working .space .enough))) (E .1 .1 .1 two))
+fresh-after c = c .renew .last .1 .1 .1 .1 .1 .1 .1 .1 .1 .1 .1 .1 .1 .1 .1 .0
 
 abbrev renewed : tie.Joined1 Inv-loop μ-loop → tie.After-renew Inv-loop μ-loop
 renewed c = c .before .before .before
@@ -199,38 +193,67 @@ turned c =
     let joins : (waiting : Queue) (shrunk : Bool) → c .if1 .waiting ≡ waiting → c .if1 .shrunk ≡ shrunk → Turned n waiting shrunk → Turned n (c .if1 .waiting) (c .if1 .shrunk) =
     λ waiting shrunk e f t. subst (λ (q : Queue). Turned n q (c .if1 .shrunk)) (sym e) (subst (Turned n waiting) (sym f) t) in
     ⊎-elim
-    (λ w. joins (w .2 .result) true (w .3) (w .4) (turned-removed n (w .2 .result) (not-true (n .renew .result) (w .0 .taken)) (requeued-waits (sound a) (a .args .p) (l .waiting .words) (w .2 .result .words) (w .2 .ensures))))
+    (λ w. joins (w .2 .result) true (w .3) (w .4) (turned-removed n (w .2 .result) (ne-eqb (n .renew .result % 2) 1 (w .0 .taken)) (requeued-waits (sound a) (a .args .p) (l .waiting .words) (w .2 .result .words) (w .2 .ensures))))
     (⊎-elim
     (λ w.
     let e = not-false (l .shrunk) (w .1 .left) in
     joins (l .waiting) true (w .2) (w .3 ∙ e)
-    (turned-removed n (l .waiting) (not-true (n .renew .result) (w .0 .taken))
+    (turned-removed n (l .waiting) (ne-eqb (n .renew .result % 2) 1 (w .0 .taken))
     (still-waits (sound a) (in-members a) (l .inv .0 .going) e)))
-    (λ w. joins (l .waiting) (l .shrunk) (w .1) (w .2) (turned-kept n (not-false (n .renew .result) (w .0 .left)))))
+    (λ w. joins (l .waiting) (l .shrunk) (w .1) (w .2) (turned-kept n (eq-eqb (n .renew .result % 2) 1 (w .0 .left)))))
     (c .if1 .came)
+
+-- ---- After the words are made lean
+
+abbrev joined : tie.After-lean-at Inv-loop μ-loop → tie.Joined1 Inv-loop μ-loop
+joined c = c .before .before
+
+abbrev lean-after : tie.After-lean-at Inv-loop μ-loop → List ℕ
+lean-after c = c .lean-at .last .1 .1 .1 .1 .1 .1 .1 .1 .0
+
+beside : (c : tie.After-lean-at Inv-loop μ-loop) → (let n = renewed (joined c) in let a = entry (begun (turning n)) in Beside (G a) (a .args .p) (lean-after c) (fresh-after n))
+beside c =
+    let n = renewed (joined c) in
+    let i = turning n in
+    let a = entry (begun i) in
+    let E = n .renew .ensures .1 .1 in
+    (E .0, λ two. meets-fewer (network (G a)) (combinationOf (G a) (a .args .p)) (a .args .p % a .args .m) (i .before .loop .lean) (lean-after c) (fresh-after n) (c .lean-at .ensures .1) (E .1 two))
+
+lean : (c : tie.After-lean-at Inv-loop μ-loop) → (let n = renewed (joined c) in let a = entry (begun (turning n)) in LeanIn (G a) (a .args .p) (words-after n) (lean-after c))
+lean c =
+    let n = renewed (joined c) in
+    let i = turning n in
+    let b = begun i in
+    let a = entry b in
+    let l = i .before .loop in
+    let x-in = row-index (row b) (l .inv .0 .from-first) (i .loop-test .taken) in
+    let room : tupleId (G a) (a .args .p) (l .g - first b) < 64 * length (l .words) = omega (arith, tuple-below (sound a) (a .args .p) (l .g - first b) (in-members a) x-in, l .inv .0 .going .working .space .enough) in
+    lean-both (G a .lists) (combinationOf (G a) (a .args .p)) (a .args .p % a .args .m)
+    (renewed-lean (sound a) (in-members a) x-in room (n .renew .ensures .0) (l .inv .3))
+    (c .lean-at .ensures .0)
 
 -- ---- The needs
 
 next-requires : tie.Need-next-requires Inv-loop μ-loop
 next-requires c κs =
-    let b = c .before .before in
+    let b = c .before .before .before in
     let a = entry b in
     row-asks (row b) (a .args .words .now) (first b) (work a .space .enough) (omega (arith, row b .is-end))
 
 loop-holds : tie.Need-loop-holds Inv-loop μ-loop
 loop-holds c =
-    let b = c .before .before .before in
+    let b = c .before .before .before .before in
     let a = entry b in
-    (subst (WalkAt (G a) (a .args .p) (first b) (end b) (a .args .queue .words) (a .args .words .now) (a .args .numbers .now) (a .args .queue .words) (a .args .words .now) (a .args .numbers .now) false) (sym (c .next .ensures)) (come-first (row b) (a .pre .0 .small) (work a)), noted-none (a .args .words .now) (c .next .result - first b), (refl, meets-ones (network (G a)) (tuples-few (sound a .laid .framed)) (combinationOf (G a) (a .args .p)) (a .args .p % a .args .m) (a .args .words .now)))
+    (subst (WalkAt (G a) (a .args .p) (first b) (end b) (a .args .queue .words) (a .args .words .now) (a .args .numbers .now) (a .args .queue .words) (a .args .words .now) (a .args .numbers .now) false) (sym (c .next .ensures)) (come-first (row b) (a .pre .0 .small) (work a)), noted-none (a .args .words .now) (c .next .result - first b), (refl, meets-ones (network (G a)) (tuples-few (sound a .laid .framed)) (combinationOf (G a) (a .args .p)) (a .args .p % a .args .m) (a .args .words .now)), lean-same (G a .lists) (combinationOf (G a) (a .args .p)) (a .args .p % a .args .m) (a .args .words .now) (a .pre .0 .long) .0)
 
 renew-requires : tie.Need-renew-requires Inv-loop μ-loop
 renew-requires c κs =
-    let w = c .before .before .before .before in
+    let w = c .before .before .before .before .before in
     let i = w .before .before in
     let b = begun i in
     let a = entry b in
     let l = i .before .loop in (
-      (l .inv .0 .going .wide ∙ a .pre .0 .long, l .inv .2),
+      (l .inv .0 .going .wide ∙ a .pre .0 .long, l .inv .2, l .inv .3),
       record {
         seek = record {
           seeker = record {
@@ -251,27 +274,34 @@ renew-requires c κs =
 
 requeue-requires : tie.Need-requeue-requires Inv-loop μ-loop
 requeue-requires c κs =
-    let a = entry (begun (c .before .before .before .before .before .before .before .before .before .before .before)) in
+    let a = entry (begun (c .before .before .before .before .before .before .before .before .before .before .before .before)) in
     (sound a .paired .list, in-members a)
+
+lean-at-requires : tie.Need-lean-at-requires Inv-loop μ-loop
+lean-at-requires c κs =
+    let i = turning (renewed (c .before)) in
+    let a = entry (begun i) in
+    (i .before .loop .inv .3 .long, record { sound = sound a; pair = in-members a })
 
 add-next : tie.Need-add-next Inv-loop μ-loop
 add-next c =
-    let i = turning (renewed (c .before .before)) in
+    let i = turning (renewed (joined (c .before .before))) in
     let b = begun i in
     let a = entry b in
     omega (arith, i .loop-test .taken, row-total (row b), tuples-few (sound a .laid .framed))
 
 next-requires-2 : tie.Need-next-requires-2 Inv-loop μ-loop
 next-requires-2 c κs =
-    let n = renewed (c .before .before) in
+    let j = joined (c .before .before) in
+    let n = renewed j in
     let i = turning n in
     let b = begun i in
     let a = entry b in
-    row-asks (row b) (words-after n) (i .before .loop .g + 1) (turned (c .before .before) .working .space .enough) (omega (arith, i .loop-test .taken))
+    row-asks (row b) (words-after n) (i .before .loop .g + 1) (turned j .working .space .enough) (omega (arith, i .loop-test .taken))
 
 loop-less : tie.Need-loop-less Inv-loop μ-loop
 loop-less c =
-    let n = renewed (c .before .before .before) in
+    let n = renewed (joined (c .before .before .before)) in
     let i = turning n in
     let b = begun i in
     let a = entry b in
@@ -281,7 +311,8 @@ loop-less c =
 
 loop-again : tie.Need-loop-again Inv-loop μ-loop
 loop-again c =
-    let j = c .before .before .before in
+    let k = c .before .before .before in
+    let j = joined k in
     let n = renewed j in
     let i = turning n in
     let b = begun i in
@@ -291,12 +322,13 @@ loop-again c =
       subst (WalkAt (G a) (a .args .p) (first b) (end b) (a .args .queue .words) (a .args .words .now) (a .args .numbers .now) (j .if1 .waiting .words) (words-after n) (numbers-after n) (j .if1 .shrunk)) (sym (c .next2 .ensures))
           (come-more (row b) (l .inv .0) (i .loop-test .taken) (turned j)),
       noted-more (omega (arith, f .0, c .next2 .ensures, l .inv .0 .from-first)) (noted n),
-      beside n,
+      beside k,
+      lean k,
     )
 
 returns : tie.Need-returns Inv-loop μ-loop
 returns c =
-    let b = c .before .before .before .before .before in
+    let b = c .before .before .before .before .before .before in
     let a = entry b in
     let l = c .before .loop in
     come-end (row b) (l .inv .0) (c .loop-test .left)
@@ -327,6 +359,7 @@ visit-spec =
     (λ c. omega (arith, place-small c))
     renew-requires
     requeue-requires
+    lean-at-requires
     add-next
     next-requires-2
     loop-less
