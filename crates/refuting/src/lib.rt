@@ -31,6 +31,9 @@ const MORE: u16 = 65535;
 // What one candidate costs at most: itself, and a copy of the words.
 const COST: u32 = 4;
 
+// The steps for each choice that a search has tried.
+const STEPS: u32 = 4;
+
 // Whether place j is in the set.
 fn is_in(left: u64, j: usize) -> bool
     requires { ⌜ j < 64 ⌝ }
@@ -262,8 +265,8 @@ fn refuted(
     over
 }
 
-// Whether the seeking tuple, `own` of the member at `place`, has no support: nothing completes the members from k on. False also where so many
-// steps do not suffice to tell.
+// Whether the seeking tuple, `own` of the member at `place`, has no support: nothing completes the members from k on. False also where that is
+// not shown in a few steps for each choice that the search has tried.
 pub fn hopeless(
     variables: &[u16],
     values: &[Value],
@@ -274,7 +277,7 @@ pub fn hopeless(
     place: usize,
     own: u16,
     k: usize,
-    steps: u32,
+    tried: u16,
 ) -> bool
     requires { ⌜ Long (now words) × Refutable (lists now variables values starts) (now index) (now members) place own ⌝ }
     requires { ⌜ k < length (now members) ⌝ }
@@ -291,7 +294,7 @@ pub fn hopeless(
         place,
         own,
         left,
-        steps,
+        STEPS * tried as u32,
     )
         != 0
 }

@@ -1,21 +1,23 @@
 -- Laws of the tuples chosen so far, and of the test of the next one.
 -- From the definitions of `chosenIds` and `fits`, and the laws of lists and of ids.
-use mathlib.Core.Path.{_≡_, refl, sym, _∙_, ap, ap₂}
+use mathlib.Core.Path.{_≡_, refl, sym, _∙_, ap, ap₂, subst}
 use mathlib.Core.Bool.{Bool, true, false}
 use mathlib.Core.List.{List, [], _∷_, _++_, map, map-append, List·Memᴰ, Memᴰ·map, Memᴰ·of-map}
 use Prim.Native.Nat.{ℕ, zero, suc, _+_, _≤_, _<_}
 use native.Mathlib.Nat.{zero-add}
 use native.Mathlib.Numerals.{add-one}
 use native.Mathlib.Omega.{arith}
-use lib.ListN.{length, getD, take, set}
+use lib.ListN.{length, getD, take, drop, set, take-append-drop}
 use lib.Seq.{take-suc, getD-set-same, getD-set-other}
 use Rattle.model.specs.Lists.{from, all}
 use Rattle.model.specs.Network.{Network, size, firstId, idsOf, indexOf}
 use Rattle.model.specs.Agreement.{agree}
 use Rattle.model.specs.Combination.{Combination}
+use Rattle.model.specs.Support.{candidates}
 use Rattle.model.proofs.Bools.{and-intro, not-both}
 use Rattle.model.proofs.Lists.{all-at, all-append, from-mem, mem-from, from-append, map-from-same, Picks, done, pick, picks-append}
 use Rattle.model.proofs.Network.{indexOf-at}
+use Rattle.model.proofs.Support.{picks-candidates}
 use Rattle.support.specs.Search.{idAt, chosenIds, fits}
 
 -- ---- The tuples chosen
@@ -75,6 +77,13 @@ chosen-set N c chosen k x h =
     (map-from-same (λ (j : ℕ). idAt N c j (getD (set chosen k x) j 0)) (λ (j : ℕ). idAt N c j (getD chosen j 0)) 0 k
     (λ j a b. ap (idAt N c j) (getD-set-other chosen k j x 0 (λ e. omega arith))))
     (getD-set-same chosen k x 0 h)
+
+-- .. and one tuple of each member from k on are a candidate
+pub chosen-candidate : (N : Network) (c : Combination) (chosen : List ℕ) (k : ℕ) → k ≤ length c → ((j : ℕ) → j < k → getD chosen j 0 < size N (getD c j 0)) → (t : List ℕ) → Picks (map (idsOf N) (drop k c)) t → List·Memᴰ (chosenIds N c chosen k ++ t) (candidates N c)
+chosen-candidate N c chosen k h f t p =
+    picks-candidates N c
+    (subst (λ (xss : List (List ℕ)). Picks xss (chosenIds N c chosen k ++ t)) (sym (map-append (idsOf N) (take k c) (drop k c)) ∙ ap (map (idsOf N)) (take-append-drop k c))
+    (picks-append (chosen-picks N c chosen k h f) p))
 
 -- ---- The test
 

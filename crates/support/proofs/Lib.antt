@@ -7,5 +7,6 @@ pub mod Turn
 pub mod Ends
 pub mod Last
 pub mod Narrow
+pub mod Alone
 pub mod Failed
 pub mod Spent

@@ -3,11 +3,11 @@
 use mathlib.Core.Path.{_≡_, refl, sym, _∙_, ap, subst}
 use mathlib.Core.Bool.{Bool, true, false}
 use mathlib.Core.Option.{none}
-use mathlib.Core.List.{List, [], _∷_, _++_, map, map-append, List·Memᴰ}
+use mathlib.Core.List.{List, [], _∷_, _++_, map, List·Memᴰ}
 use mathlib.Core.Logic.{inl, inr}
 use Prim.Native.Nat.{ℕ, suc, _+_, _-_, _≤_, _<_}
 use native.Mathlib.Omega.{arith}
-use lib.ListN.{length, getD, take, drop, length-map, length-drop, take-append-drop}
+use lib.ListN.{length, getD, drop, length-map, length-drop}
 use lib.Seq.{getD-drop, drop-cons}
 use Rattle.model.specs.Lists.{from}
 use Rattle.model.specs.Network.{Network, size, total, firstId, idsOf, relationOf}
@@ -16,18 +16,17 @@ use Rattle.model.specs.TupleSet.{has}
 use Rattle.model.specs.LiveWords.{living, isLive}
 use Rattle.model.specs.Combination.{Combination}
 use Rattle.model.specs.Support.{candidates, supportFrom}
-use Rattle.model.proofs.Lists.{all-at, all-intro, from-mem, mem-from, getD-map-in, Picks, pick, picks-append}
+use Rattle.model.proofs.Lists.{all-at, all-intro, from-mem, mem-from, getD-map-in, Picks, pick}
 use Rattle.model.proofs.TupleSet.{has-below}
 use Rattle.model.proofs.Network.{index-bounds, ids-below}
 use Rattle.model.proofs.LiveWords.{living-length, living-has}
-use Rattle.model.proofs.Support.{picks-candidates}
 use Rattle.model.proofs.Search.{completion-bare}
 use Rattle.model.proofs.Narrowing.{Narrower, narrow-all, completion-narrow, supportFrom-narrow, Enough, completion-enough, supportFrom-enough}
 use Rattle.layout.proofs.SoundStarts.{tuples-few}
 use Rattle.narrowing.specs.Narrows.{Later, Others, Narrowed, Bare}
 use Rattle.spreading.specs.Spread.{Held, KeepsSupports}
 use Rattle.support.specs.Search.{Search, netOf, liveOf, idAt, seeker, SoundSearch, chosenIds, Prefix, span, left, sought}
-use Rattle.support.proofs.Chosen.{chosen-of, chosen-picks}
+use Rattle.support.proofs.Chosen.{chosen-of, chosen-candidate}
 use Rattle.support.proofs.Walking.{members-apart, few-tuples, member-below, span-inside}
 use Rattle.support.proofs.Ends.{sought-first}
 
@@ -252,10 +251,7 @@ module _ (Q : Search) (after : List ℕ) (k : ℕ) (long : length after ≡ 64) 
 
   -- the tuples chosen and one of each later member are a candidate
   goes-on : (t : List ℕ) → Picks (map (idsOf N) (drop k c)) t → List·Memᴰ (ids ++ t) (candidates N c)
-  goes-on t p =
-      picks-candidates N c
-      (subst (λ (xss : List (List ℕ)). Picks xss (ids ++ t)) (sym (map-append (idsOf N) (take k c) (drop k c)) ∙ ap (map (idsOf N)) (take-append-drop k c))
-      (picks-append (chosen-picks N c chosen k (B .depth) (B .within)) p))
+  goes-on = chosen-candidate N c chosen k (B .depth) (B .within)
 
   enough : Enough N c (liveOf Q) (liveOf (onWords Q after))
   enough = spread-enough Q (Q .words) after k long K

@@ -38,6 +38,7 @@ use narrowing::sieve::Sieve;
 use narrowing::sieve::passes;
 use narrowing::sieve::sieve_for;
 use network::agreement::tuples_agree;
+use refuting::hopeless;
 use spreading::fresh::narrow_to_fresh;
 use spreading::spread_members;
 use spreading::steps::steps_between;
@@ -55,6 +56,12 @@ const FAILURES: u16 = 16;
 // .. and long where so many were tried once it was hard: what it has come to is kept in mind.
 const LONG: u16 = 256;
 
+// Once so many were tried, it is looked whether a hard search is hopeless; and again each time after four times as many.
+const PATIENCE: u16 = 64;
+
+// More choices than this are not counted.
+const MOST: u16 = 16384;
+
 // One tuple of each member, by its index.
 pub type Indices = [u16; MAX_MEMBERS];
 
@@ -66,7 +73,7 @@ pub const NONE: u16 = 0;
 pub const HARD: u16 = 2;
 
 // The indices of a support, one for each member, if the kind is odd; half of the kind is how many choices a hard search has tried, if they are
-// fewer than LONG. Its fields are of one width and are read back as they are written: a word made of two flags would be waited for.
+// fewer than MOST. Its fields are of one width and are read back as they are written: a word made of two flags would be waited for.
 pub struct Found {
     pub tuples: Indices,
     pub kind: u16,
@@ -483,15 +490,23 @@ fn may_lead(
     x <= first_alike(variables, values, starts, failed, members[k], x, common)
 }
 
-// One choice more, and those tried behind it; not more than are needed to call it long.
+// One choice more, and those tried behind it; no more once it is MOST.
 fn one_more(tried: u16, behind: u16) -> u16 {
-    if LONG <= tried {
+    if MOST <= tried {
         return tried;
     }
-    if LONG <= behind {
+    if MOST <= behind {
         return behind;
     }
     tried + behind + 1
+}
+
+// Four times as many choices, or more than are counted.
+fn longer(patience: u16) -> u16 {
+    if MOST <= patience {
+        return 65535;
+    }
+    4 * patience
 }
 
 // The kind, FOUND or HARD, after so many choices.
@@ -499,14 +514,14 @@ fn after(tried: u16, kind: u16) -> u16
     requires { ⌜ kind < 3 ⌝ }
     ensures { λ k. ⌜ isFound k ≡ isFound kind ⌝ }
 {
-    if LONG <= tried {
-        return 2 * LONG + kind;
+    if MOST <= tried {
+        return 2 * MOST + kind;
     }
     2 * tried + kind
 }
 
 // What `search` is called for, sought from id `from` on, where it is hard: a tuple is passed over that has the values of one that failed, under
-// all variables of the members behind.
+// all variables of the members behind. Once many were tried, it is looked whether there is anything to find.
 fn comb(
     variables: &[u16],
     values: &[Value],
@@ -534,6 +549,7 @@ fn comb(
     let sieve = sieve_behind(variables, values, starts, words, members, place, k);
     let mut failed = [NO_SUPPORT; PLACES];
     let mut tried: u16 = 0;
+    let mut patience = PATIENCE;
     let mut g = from;
     while g < end {
         let x = g - first;
@@ -553,6 +569,26 @@ fn comb(
             common,
             resumed,
         ) {
+            if patience <= tried {
+                if hopeless(
+                    variables,
+                    values,
+                    starts,
+                    index,
+                    words,
+                    members,
+                    place,
+                    own,
+                    k,
+                    tried,
+                ) {
+                    return Found {
+                        tuples: chosen,
+                        kind: after(tried, HARD),
+                    };
+                }
+                patience = longer(patience);
+            }
             let found = attempt(
                 variables,
                 values,

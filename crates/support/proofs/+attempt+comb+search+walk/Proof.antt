@@ -1,6 +1,6 @@
 -- `attempt` finds what there is to find with one more tuple, `walk` and `comb` go from one tuple to the next, and `search` finds the first
 -- support that has the tuples chosen. The invariant of both walks: from the id reached on, there is still all to find; the measure is the number
--- of members still unchosen. From the laws of one member's turn, of narrowed words, and of tuples that failed.
+-- of members still unchosen. From the laws of one member's turn, of narrowed words, of tuples that failed, and of one without partners.
 use mathlib.Core.Path.{_≡_, refl, sym, ap, subst, _∙_}
 use mathlib.Core.Bool.{Bool, true, false, _&&_}
 use mathlib.Core.Option.{Option, none, some}
@@ -25,6 +25,8 @@ use Rattle.layout.specs.Starts.{tupleStart}
 use Rattle.support.specs.declared.Span.{Span}
 use Rattle.support.specs.declared.Stage.{Stage}
 use Rattle.narrowing.specs.declared.sieve.Sieve.{Sieve}
+use Rattle.narrowing.specs.Narrows.{Long}
+use Rattle.refuting.specs.Refuted.{Refutable}
 use Rattle.support.specs.Search.{Search, netOf, liveOf, idAt, seeker, SoundSearch, chosenIds, Prefix, SearchAt, pastOwn, placeBehind, span, onward, left, WalkAt, MayLead, fits, sought, isFound, answer}
 use Rattle.support.proofs.Chosen.{chosen-mem}
 use Rattle.support.proofs.Walking.{member-below, exists}
@@ -33,6 +35,7 @@ use Rattle.support.proofs.Last.{flag, stage-behind, stage-onward}
 use Rattle.support.proofs.Turn.{span-asks, Turn, turn-on, walk-asks, walk-forward, come-first, come-from, come-none, come-found, come-next, come-lives, come-live, index-below, trial, come-clash, agrees-own}
 use Rattle.support.proofs.Failed.{Known, known-none, known-next, leads-nowhere}
 use Rattle.support.proofs.Narrow.{others, onWords, Fewer, fewer-words, ready-narrowed, sought-bare, sought-none, prefix-narrowed, sought-narrowed, turn-sound, turn-lives, turn-prefix, turn-sought, turn-left}
+use Rattle.support.proofs.Alone.{sought-alone}
 use Rattle.support.proofs.attempt.Reads as attempt
 use Rattle.support.proofs.attempt.Kinds as attempt-kinds
 use Rattle.support.proofs.+attempt+comb+search+walk.Lts-attempt as attempt-lts
@@ -50,6 +53,7 @@ use Rattle.layout.proofs.put.Reads as put-reads
 use Rattle.layout.proofs.tuple_start.Reads as tuple-start-reads
 use Rattle.live.proofs.next.Reads as next-reads
 use Rattle.narrowing.proofs.narrow_members.Reads as narrow-members-reads
+use Rattle.refuting.proofs.hopeless.Reads as hopeless-reads
 use Rattle.spreading.proofs.spread_members.Reads as spread-members-reads
 use Rattle.spreading.proofs.steps.steps_between.Reads as steps-between-reads
 use Rattle.support.proofs.attempt_last.Reads as attempt-last-reads
@@ -59,6 +63,7 @@ use Rattle.support.proofs.place_behind.Reads as place-behind-reads
 use Rattle.support.proofs.span_of.Reads as span-of-reads
 use Rattle.support.proofs.may_lead.Reads as may-lead-reads
 use Rattle.support.proofs.one_more.Reads as one-more-reads
+use Rattle.support.proofs.longer.Reads as longer-reads
 use Rattle.support.proofs.after.Reads as after-reads
 use Rattle.support.proofs.sieve_behind.Reads as sieve-behind-reads
 use Rattle.support.proofs.+attempt+comb+search+walk.{statement}
@@ -127,7 +132,7 @@ walk-callees t =
 
 abbrev comb-callees : ℕ → comb-lts.Claims
 comb-callees t =
-    (tuple-start-reads.Asked, tuple-start-reads.Learnt, variables-from-reads.Asked, variables-from-reads.Learnt, sieve-behind-reads.Asked, sieve-behind-reads.Learnt, may-lead-reads.Asked, may-lead-reads.Learnt, attempt-below t, attempt.Post, one-more-reads.Asked, one-more-reads.Learnt, after-reads.Asked, after-reads.Learnt, next-reads.Asked, next-reads.Learnt)
+    (tuple-start-reads.Asked, tuple-start-reads.Learnt, variables-from-reads.Asked, variables-from-reads.Learnt, sieve-behind-reads.Asked, sieve-behind-reads.Learnt, may-lead-reads.Asked, may-lead-reads.Learnt, hopeless-reads.Asked, hopeless-reads.Learnt, after-reads.Asked, after-reads.Learnt, longer-reads.Asked, longer-reads.Learnt, attempt-below t, attempt.Post, one-more-reads.Asked, one-more-reads.Learnt, next-reads.Asked, next-reads.Learnt)
 
 -- ---- The turn of a member
 
@@ -418,11 +423,11 @@ module _ (t : ℕ) where
 -- ---- comb
 
 abbrev comb-Inv-loop : comb-lts.InvT-loop
-comb-Inv-loop variables values starts index words members place own k resumes chosen from low r first end lowest common sieve failed₀ tried₀ g₀ failed tried g =
+comb-Inv-loop variables values starts index words members place own k resumes chosen from low r first end lowest common sieve failed₀ tried₀ patience₀ g₀ failed tried patience g =
     let Q = searchOn variables values starts words members place own low in WalkAt Q k resumes chosen g × Known Q k resumes chosen failed
 
 abbrev comb-μ-loop : comb-lts.MeasureT-loop
-comb-μ-loop variables values starts index words members place own k resumes chosen from low r first end lowest common sieve failed₀ tried₀ g₀ failed tried g = end - g
+comb-μ-loop variables values starts index words members place own k resumes chosen from low r first end lowest common sieve failed₀ tried₀ patience₀ g₀ failed tried patience g = end - g
 
 module _ (t : ℕ) where
   abbrev Comb : Type 0
@@ -443,6 +448,12 @@ module _ (t : ℕ) where
         turn-of combed (a .args .index .now) (a .args .k) (a .args .resumes) (a .args .chosen) from-pre
         (good-length (eInt w16) 4 (a .args .chosen) _ (a .good .1 .1 .1 .1 .1 .1 .1 .1 .1 .1 .1 .0))
         (good-length (eInt w16) 4 (a .args .t9) _ (a .good .1 .1 .1 .1 .1 .1 .1 .1 .0))
+
+    -- what `hopeless` asks
+    hopeless-asks : (Long (a .args .words .now) × Refutable (combed .lists) (a .args .index .now) (a .args .members .now) (a .args .place) (a .args .own)) × (a .args .k < length (a .args .members .now))
+    hopeless-asks =
+        let R = combing .ready in
+        ((a .pre .1 .0 .0, (((record { laid = R .laid; indexed = from-pre .seeking .indexed }, record { proper = R .members; few = R .few }), R .place), R .own)), combing .inside)
 
   module _ (l : comb-lts.In-loop (comb-callees t) (comb-at t) comb.Post comb-Inv-loop comb-μ-loop) where
     abbrev covering : comb-lts.After-variables-from (comb-callees t) (comb-at t) comb.Post comb-Inv-loop comb-μ-loop
@@ -521,7 +532,7 @@ module _ (t : ℕ) where
         let l = at-loop in
         let a = origin l in
         ⊎-elim
-        (λ w. sym (w .1 .ensures) ∙ ap (λ (b : Bool). answer b (take (length (a .args .members .now)) (w .1 .result .tuples))) (ne-eqb (w .1 .result .kind % 2) 1 (w .3 .left)))
+        (λ w. sym (w .2 .ensures) ∙ ap (λ (b : Bool). answer b (take (length (a .args .members .now)) (w .2 .result .tuples))) (ne-eqb (w .2 .result .kind % 2) 1 (w .4 .left)))
         (λ w. leads-nowhere (l .before .loop .inv .1) (lead led) (combing a) (covering l .variables-from .ensures) (x-from l) (x-to l) (l .before .before .sieve-behind .ensures) (w .0 .left))
         (joined .if2 .came)
 
@@ -706,19 +717,27 @@ pub +attempt+comb+search+walk-spec : {M : Type 1} → statement M
     (λ c. let a = c .before .before .before .before .before .before .before .before in (a .pre .1 .1 .0, known-none (combed t a) (a .args .k) (a .args .resumes) (a .args .chosen)))
     (λ l. omega (arith, head-is t l, from-head t l))
     (λ c κs. let l = c .before .before in (trial (combing t (origin t l)) (x t l) (x-from t l) (x-to t l), l .before .loop .inv .1 .0))
+    (λ c κs. hopeless-asks t (origin t (here t (c .before .before))))
+    (λ c κs. search needs)
+    (λ c.
+    let p = c .before .before in
+    let a = origin t (here t (p .before .before .before)) in
+    ap (λ (b : Bool). answer b (take (length (a .args .members .now)) (a .args .chosen))) (c .after .ensures)
+    ∙ sym (sought-alone (combed t a) (combing t a .ready) (a .args .k) (a .args .resumes) (a .args .chosen) (combing t a .begun) (p .hopeless .ensures (c .before .if4 .taken))))
+    (λ c κs. search needs)
     (λ c κs.
-    let l = here t (c .before) in
+    let l = here t (c .before .before) in
     let a = origin t l in
     (omega (arith, a .pre .0), (a .pre .1 .0 .0, record { turn = from-pre t a; from-start = x-from t l; to-end = x-to t l; lives = x-lives t l; further = a .pre .1 .1 .1 })))
     (λ c κs. search needs)
     (λ c κs. search needs)
     (λ c.
     let u = c .before .before .before .before in
-    let l = here t (u .before .before) in
+    let l = here t (u .before .before .before) in
     let a = origin t l in
     let ts = take (length (a .args .members .now)) (u .attempt .result .tuples) in
-    let e = ap (λ (b : Bool). answer b ts) (eq-eqb (u .attempt .result .kind % 2) 1 (c .before .before .if3 .taken)) in
-    ap (λ (b : Bool). answer b ts) (c .after .ensures) ∙ sym (come-found (combing t a) (l .before .loop .g) (arrived t l) (in-line t l) ts (ap (onward (combed t a) (a .args .k) (a .args .chosen)) (sym (x-is t l)) ∙ sym (u .attempt .ensures) ∙ e)))
+    let e = ap (λ (b : Bool). answer b ts) (eq-eqb (u .attempt .result .kind % 2) 1 (c .before .before .if5 .taken)) in
+    ap (λ (b : Bool). answer b ts) (c .after2 .ensures) ∙ sym (come-found (combing t a) (l .before .loop .g) (arrived t l) (in-line t l) ts (ap (onward (combed t a) (a .args .k) (a .args .chosen)) (sym (x-is t l)) ∙ sym (u .attempt .ensures) ∙ e)))
     (λ c. let l = here t (c .before .before) in omega (arith, in-line t l, next-asks t l (l .before .loop .g) (arrived t l .from-start) (arrived t l .to-end) .2))
     (λ c κs.
     let l = here t (c .before .before) in
@@ -732,7 +751,7 @@ pub +attempt+comb+search+walk-spec : {M : Type 1} → statement M
     (λ c.
     let e = c .before in
     let a = e .before .before .before .before .before .before .before .before .before .before in
-    ap (λ (b : Bool). answer b (take (length (a .args .members .now)) (a .args .chosen))) (c .after2 .ensures)
+    ap (λ (b : Bool). answer b (take (length (a .args .members .now)) (a .args .chosen))) (c .after3 .ensures)
     ∙ sym (come-none (combing t a) (e .before .loop .g) (e .before .loop .inv .0) (omega (arith, e .loop-test .left, e .before .before .before .before .tuple-start2 .ensures)))))
     (λ t. search-lts.spec (search-callees t) (search-at t) search′.Post
     (λ c. let a = c .before .before .before in omega (arith, sound t a .few, asked t a .inside))

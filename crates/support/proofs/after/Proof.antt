@@ -17,6 +17,6 @@ after-spec =
     tie.close
     (tie.spec
     (λ c. search needs) (λ c. search needs)
-    (λ c. twice-more 256 (c .before .args .kind))
+    (λ c. twice-more 16384 (c .before .args .kind))
     (λ c. search needs) (λ c. search needs)
     (λ c. twice-more (c .before .args .tried) (c .before .args .kind)))
