@@ -14,7 +14,7 @@ use Rattle.model.specs.TupleSet.{TupleSet, has}
 use Rattle.model.specs.Network.{Network, size, total, firstId, idsOf}
 use Rattle.model.specs.Combination.{Combination, pairMember}
 use Rattle.model.specs.Support.{candidates, isSupport}
-use Rattle.model.specs.LiveWords.{nextLive}
+use Rattle.model.specs.LiveWords.{isLive, nextLive}
 use Rattle.model.proofs.Bools.{iff-eq, implies-intro, implies-elim, not-both}
 use Rattle.model.proofs.Lists.{all-at, all-intro, any-at, any-intro, from-mem, mem-from}
 use Rattle.model.proofs.LiveWords.{living-length, living-has, nextLive-first}
@@ -27,6 +27,9 @@ use Rattle.layout.proofs.Pairs.{combination-length, combination-proper, place-b
 use Rattle.layout.proofs.Rows.{Row, row-total, row-index, row-id}
 use Rattle.narrowing.specs.Narrows.{Long}
 use Rattle.support.specs.Search.{Search, SoundSearch}
+use Rattle.lean.specs.Lean.{Lean}
+use Rattle.lean.proofs.Leaner.{pair-asks}
+use Rattle.lean.proofs.Supports.{lean-any}
 use Rattle.consistency.specs.Consistent.{lowest, hasSupport, consistentIn, pairConsistent, allConsistent}
 
 -- ---- The lowest indices
@@ -145,9 +148,10 @@ module _ {G : Setting} (words : List ℕ) {p first end : ℕ} (long : Long words
     module _ (b : g < end) where
       -- ---- The search for the support of tuple g
 
-      abbrev pub searched : Search
-      searched =
-          record { lists = G .lists; words = words; members = c; place = place; own = g - first; low = lowest place (g - first) }
+      -- over lean words
+      abbrev pub searched : List ℕ → Search
+      searched lean =
+          record { lists = G .lists; words = lean; members = c; place = place; own = g - first; low = lowest place (g - first) }
 
       own-is : getD c place 0 ≡ pairMember (G .members) p
       own-is = member-at (row .sound .laid .framed) (row .sound .paired) p (row .pair)
@@ -164,12 +168,12 @@ module _ {G : Setting} (words : List ℕ) {p first end : ℕ} (long : Long words
       low-within j (no d) = omega (arith, lowest-other place (g - first) j d)
 
       -- what it asks
-      pub searched-sound : SoundSearch searched
-      searched-sound =
+      pub searched-sound : {lean : List ℕ} → Long lean → SoundSearch (searched lean)
+      searched-sound sized =
           let few = combination-length (row .sound .laid .framed) (row .sound .paired) p (row .pair) in
           record {
             laid = row .sound .laid;
-            words = words-enough;
+            words = omega (arith, sized, tuples-few (row .sound .laid .framed));
             members = combination-proper (row .sound .laid .framed) (row .sound .paired) p (row .pair);
             few = omega (arith, few, row .sound .paired .list .few);
             place = omega (arith, few, place-below (row .sound .laid .framed) (row .sound .paired) p (row .pair));
@@ -179,18 +183,26 @@ module _ {G : Setting} (words : List ℕ) {p first end : ℕ} (long : Long words
           }
 
       -- it seeks for g
-      searched-is : hasSupport searched ≡ any (isSupport N S g) (candidates N c)
-      searched-is =
-          ap (λ (h : ℕ). any (isSupport N S h) (candidates N c)) (ap (λ (r : ℕ). firstId N r + (g - first)) own-is ∙ row-id row (w .from-first))
+      own-id : firstId N (getD c place 0) + (g - first) ≡ g
+      own-id = ap (λ (r : ℕ). firstId N r + (g - first)) own-is ∙ row-id row (w .from-first)
+
+      searched-is : hasSupport (searched words) ≡ any (isSupport N S g) (candidates N c)
+      searched-is = ap (λ (h : ℕ). any (isSupport N S h) (candidates N c)) own-id
+
+      -- over lean words the same is found
+      pub searched-lean : {lean : List ℕ} → Lean (G .lists) c place words lean → hasSupport (searched lean) ≡ hasSupport (searched words)
+      searched-lean E =
+          lean-any (pair-asks (row .sound) p (row .pair)) E (g - first) own-within
+          (ap (isLive words) own-id ∙ sym (living-has (total N) words g (omega (arith, b, row-total row))) ∙ w .lives b)
 
       -- there is none
-      pub walk-fails : false ≡ hasSupport searched → false ≡ pairConsistent G words p
+      pub walk-fails : false ≡ hasSupport (searched words) → false ≡ pairConsistent G words p
       walk-fails e =
           let m = mem-from (firstId N (pairMember (G .members) p)) (sizeOf G p) g (omega (arith, row .is-first, w .from-first)) (omega (arith, row .is-first, row .is-end)) in
           consistentIn-not N S c (pairMember (G .members) p) g m (w .lives b) (sym (e ∙ searched-is))
 
       -- there is one
-      pub walk-goes : true ≡ hasSupport searched → WalkAt G words p first end (nextLive words (g + 1) end)
+      pub walk-goes : true ≡ hasSupport (searched words) → WalkAt G words p first end (nextLive words (g + 1) end)
       walk-goes e = walk-next (g + 1) (omega (arith, w .from-first)) (omega arith) (λ j l m a. before j l a (decLt j g) m)
         where
           before : (j : ℕ) → first ≤ j → has S j ≡ true → Dec (j < g) → j < g + 1 → Supported N S c j

@@ -5,7 +5,7 @@ ghost use Rattle.layout.specs.Loan.{entry, exit};
 ghost use Rattle.layout.specs.Shape.{instanceOf};
 ghost use Rattle.layout.specs.Setting.{setting, Sound};
 ghost use Rattle.narrowing.specs.Narrows.{Long};
-ghost use Rattle.support.specs.Search.{searching, Seeking};
+ghost use Rattle.support.specs.Search.{searching, Seeking, isFound};
 ghost use Rattle.support.specs.Spent.{MeetsBeside};
 ghost use Rattle.consistency.specs.Consistent.{lowest, hasSupport, PairAt, pairConsistent, allConsistent};
 use layout::Shape;
@@ -13,6 +13,7 @@ use layout::Starts;
 use layout::tuple_count;
 use layout::tuple_start;
 use layout::wide;
+use lean::lean_once_hard;
 use live::WORDS;
 use live::Words;
 use live::copied;
@@ -29,7 +30,7 @@ use value_index::INDEX;
 use value_index::Index;
 use value_index::index_all;
 
-// Whether tuple `own` of the member at `place` has a support in the combination of these members.
+// What the search of tuple `own` of the member at `place` came to, in the combination of these members: whether it has a support.
 fn has_support(
     variables: &[u16],
     values: &[Value],
@@ -41,10 +42,10 @@ fn has_support(
     own: u16,
     steps: u64,
     fresh: &mut Words,
-) -> bool
+) -> u16
     requires { ⌜ Long (now words) × Seeking (searching now variables values starts words members place own (lowest place own)) (now index) ⌝ }
     requires { ⌜ Long (now fresh) × MeetsBeside (searching now variables values starts words members place own (lowest place own)) (now fresh) ⌝ }
-    ensures { λ b. ⌜ b ≡ hasSupport (searching entry variables values starts words members place own (lowest place own)) ⌝ }
+    ensures { λ k. ⌜ isFound k ≡ hasSupport (searching entry variables values starts words members place own (lowest place own)) ⌝ }
     ensures { λ _. ⌜ Long (exit fresh) × MeetsBeside (searching entry variables values starts words members place own (lowest place own)) (exit fresh) ⌝ }
 {
     let mut low = [0u16; MAX_MEMBERS];
@@ -62,7 +63,7 @@ fn has_support(
         steps,
         fresh,
     );
-    found.kind % 2 == FOUND
+    found.kind
 }
 
 // Whether every live tuple of pair p's member has a support in the pair's combination.
@@ -85,23 +86,36 @@ fn pair_supported(
     let r = members[p];
     let first = tuple_start(starts, r);
     let end = tuple_start(starts, r + 1);
+    let mut lean = *words;
+    let mut is_lean = false;
     let mut fresh = [!0u64; WORDS];
     let mut g = next(words, first, end);
     while g < end {
-        if !has_support(
+        let kind = has_support(
             variables,
             values,
             starts,
             index,
-            words,
+            &lean,
             &members[base..stop],
             p % m,
             g - first,
             steps,
             &mut fresh,
-        ) {
+        );
+        if kind % 2 != FOUND {
             return false;
         }
+        is_lean = lean_once_hard(
+            variables,
+            values,
+            starts,
+            &members[base..stop],
+            p % m,
+            kind,
+            is_lean,
+            &mut lean,
+        );
         g = next(words, g + 1, end);
     }
     true

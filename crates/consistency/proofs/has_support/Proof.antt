@@ -36,11 +36,10 @@ none-earlier a =
 
 returns : tie.Need-returns
 returns c =
-    let f = c .before in
-    let a = f .before .before .before .before .before in
+    let a = c .before .before .before .before .before in
     let Q = searchOf a in (
-      supportFrom-any (netOf Q) (liveOf Q) (seeker Q) (Q .low) (Q .members) (none-earlier a) (isFound (f .first-support .result .kind)) (take (length (Q .members)) (f .first-support .result .tuples)) (f .first-support .ensures .0),
-      f .first-support .ensures .1,
+      supportFrom-any (netOf Q) (liveOf Q) (seeker Q) (Q .low) (Q .members) (none-earlier a) (isFound (c .first-support .result .kind)) (take (length (Q .members)) (c .first-support .result .tuples)) (c .first-support .ensures .0),
+      c .first-support .ensures .1,
     )
 
 pub has-support-spec : {M : Type 1} → statement M
