@@ -32,7 +32,7 @@ const MORE: u16 = 65535;
 const COST: u32 = 4;
 
 // The steps for each choice that a search has tried.
-const STEPS: u32 = 4;
+const STEPS: u32 = 32;
 
 // Whether place j is in the set.
 fn is_in(left: u64, j: usize) -> bool

@@ -48,7 +48,7 @@ use value_index::Index;
 const FEW: u16 = 8;
 
 // .. and in a hard one.
-const MANY: u16 = 64;
+const MANY: u16 = 128;
 
 // A search is hard where so many choices of one member have failed.
 const FAILURES: u16 = 16;
