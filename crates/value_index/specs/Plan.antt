@@ -68,7 +68,7 @@ columnWords index = (digitCount index * digitRows index + 1) * rowWords index
 abbrev pub anyRow : List ℕ → ℕ → ℕ
 anyRow index start = start + digitCount index * digitRows index * rowWords index
 
--- the high bits of a hash, from that of 2 ^ k = d on, in its low ones too
+-- a hash into whose low bits its high ones have gone: it and its quotient, which is it moved down where d is a power of two
 abbrev pub folded : ℕ → ℕ → ℕ
 folded d hash = bitXor hash (hash / d) % hashes
 
