@@ -87,7 +87,7 @@ fn pair_supported(
     let first = tuple_start(starts, r);
     let end = tuple_start(starts, r + 1);
     let mut lean = *words;
-    let mut is_lean = false;
+    let mut tried = 0;
     let mut fresh = [!0u64; WORDS];
     let mut g = next(words, first, end);
     while g < end {
@@ -106,14 +106,14 @@ fn pair_supported(
         if kind % 2 != FOUND {
             return false;
         }
-        is_lean = lean_once_hard(
+        tried = lean_once_hard(
             variables,
             values,
             starts,
             &members[base..stop],
             p % m,
             kind,
-            is_lean,
+            tried,
             &mut lean,
         );
         g = next(words, g + 1, end);

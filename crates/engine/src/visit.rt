@@ -24,6 +24,7 @@ use model::NO_SUPPORT;
 use model::Value;
 use spreading::steps::steps_of_pair;
 use support::FOUND;
+use support::HARD;
 use support::NONE;
 use support::first_support;
 use twins::Twin;
@@ -216,7 +217,7 @@ pub fn renew(
     )
 }
 
-// Once a search of pair p was hard, by its kind, what is sought among becomes lean; whether it is.
+// How many choices the searches of pair p have tried, with one more search by its kind. Once they are many, the words become lean.
 fn lean_at(
     variables: &[u16],
     values: &[Value],
@@ -225,12 +226,15 @@ fn lean_at(
     m: u16,
     p: u16,
     kind: u16,
-    done: bool,
+    tried: u16,
     lean: &mut Words,
-) -> bool
+) -> u16
     requires { ⌜ Long (now lean) × PairAt (setting now variables values starts members m) p ⌝ }
     ensures { λ _. ⌜ LeanOf (setting entry variables values starts members m) p (entry lean) (exit lean) ⌝ }
 {
+    if kind < HARD {
+        return tried;
+    }
     let each = wide(m);
     let base = wide(p) / each * each;
     let end = base + each;
@@ -241,7 +245,7 @@ fn lean_at(
         &members[base..end],
         wide(p) % each,
         kind,
-        done,
+        tried,
         lean,
     )
 }
@@ -271,7 +275,7 @@ pub fn visit(
     let start = wide(pair_starts[wide(p)]);
     let mut sought = [NO_SUPPORT; PLACES];
     let mut lean = *words;
-    let mut is_lean = false;
+    let mut tried = 0;
     let mut fresh = [!0u64; WORDS];
     let mut waiting = queue;
     let mut shrunk = false;
@@ -303,7 +307,7 @@ pub fn visit(
                 shrunk = true;
             }
         }
-        is_lean = lean_at(
+        tried = lean_at(
             variables,
             values,
             starts,
@@ -311,7 +315,7 @@ pub fn visit(
             m,
             p,
             kind,
-            is_lean,
+            tried,
             &mut lean,
         );
         g = next(words, g + 1, end);

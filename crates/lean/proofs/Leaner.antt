@@ -1,6 +1,6 @@
 -- Laws of lean words: how they come about member by member, and that they stay so while tuples of the member at the place fall.
 -- From the laws of ids, and what falls of one relation.
-use mathlib.Core.Path.{_≡_, refl, sym, _∙_, ap, subst}
+use mathlib.Core.Path.{_≡_, refl, sym, _∙_, subst}
 use mathlib.Core.Bool.{Bool, true, false}
 use mathlib.Core.List.{List}
 use mathlib.Core.Logic.{⊎-elim}
@@ -22,7 +22,7 @@ use Rattle.layout.specs.Pairs.{combinationOf}
 use Rattle.layout.proofs.Pairs.{combination-length, combination-proper, place-below}
 use Rattle.narrowing.specs.Narrows.{Long}
 use Rattle.spreading.proofs.Kept.{differ}
-use Rattle.lean.specs.Lean.{Fewer, Repeated, Thinned, LeanAt, Double, Lean, LeanFrom}
+use Rattle.lean.specs.Lean.{Thinned, LeanAt, Double, Lean, LeanFrom}
 use Rattle.lean.proofs.Thinning.{cleared-fewer, cleared-other}
 
 -- a pair's combination, and its member's place

@@ -14,7 +14,6 @@ use Rattle.model.specs.Limits.{noSupport}
 use Rattle.model.specs.Lists.{all, any, pairwise, earlier}
 use Rattle.model.specs.TupleSet.{TupleSet, has}
 use Rattle.model.specs.Network.{Network, size, total, firstId, indexOf}
-use Rattle.model.specs.Agreement.{agree}
 use Rattle.model.specs.Combination.{Combination}
 use Rattle.model.specs.LiveWords.{isSet, isLive, living}
 use Rattle.model.specs.Support.{candidates, isSupport, firstSupport, supportFrom}

@@ -7,7 +7,6 @@ ghost use Rattle.layout.specs.Setting.{lists, SoundLists};
 ghost use Rattle.narrowing.specs.Narrows.{Long};
 ghost use Rattle.lean.specs.Lean.{Thinned, LeanAt, LeanFrom};
 use doubles::PLACES;
-use doubles::Table;
 use doubles::alike::variables_from;
 use doubles::first_alike;
 use layout::Starts;
@@ -17,7 +16,9 @@ use live::clear;
 use live::next;
 use model::NO_SUPPORT;
 use model::Value;
-use support::HARD;
+
+// The words become lean once the hard searches have tried so many choices: what it costs is won back then.
+const CHOICES: u16 = 16;
 
 // Of relation r, each live tuple falls that has the values of an earlier one under the variables of the set.
 fn thin(
@@ -66,7 +67,7 @@ fn without_doubles(
     }
 }
 
-// The same once a search was hard, by its kind, if it was not done before. Whether it is done.
+// How many choices the searches have tried, with one more search by its kind: half of it. Once they are CHOICES the doubles fall.
 pub fn lean_once_hard(
     variables: &[u16],
     values: &[Value],
@@ -74,18 +75,18 @@ pub fn lean_once_hard(
     members: &[u16],
     place: usize,
     kind: u16,
-    done: bool,
+    tried: u16,
     words: &mut Words,
-) -> bool
+) -> u16
     requires { ⌜ Long (now words) × LeanAt (lists now variables values starts) (now members) place ⌝ }
     ensures { λ _. ⌜ LeanFrom (lists entry variables values starts) (entry members) place (entry words) (exit words) ⌝ }
 {
-    if done {
-        return true;
+    if CHOICES <= tried {
+        return tried;
     }
-    if kind < HARD {
-        return false;
+    let all = tried + kind / 2;
+    if CHOICES <= all {
+        without_doubles(variables, values, starts, members, place, words);
     }
-    without_doubles(variables, values, starts, members, place, words);
-    true
+    all
 }

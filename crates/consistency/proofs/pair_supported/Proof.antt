@@ -36,13 +36,13 @@ abbrev LeanIn : Setting → ℕ → List ℕ → List ℕ → Type 0
 LeanIn G p words lean = Lean (G .lists) (combinationOf G p) (p % G .m) words lean
 
 abbrev Inv-loop : tie.InvT-loop
-Inv-loop variables values starts index words members m p steps base stop r first end lean₀ is-lean₀ fresh₀ g₀ lean is-lean fresh g =
+Inv-loop variables values starts index words members m p steps base stop r first end lean₀ tried₀ fresh₀ g₀ lean tried fresh g =
     WalkAt (setting (λ xs. xs) variables values starts members m) words p first end g
     × FreshIn (setting (λ xs. xs) variables values starts members m) p lean fresh
     × LeanIn (setting (λ xs. xs) variables values starts members m) p words lean
 
 abbrev μ-loop : tie.MeasureT-loop
-μ-loop variables values starts index words members m p steps base stop r first end lean₀ is-lean₀ fresh₀ g₀ lean is-lean fresh g = end - g
+μ-loop variables values starts index words members m p steps base stop r first end lean₀ tried₀ fresh₀ g₀ lean tried fresh g = end - g
 
 -- ---- What it is called on
 

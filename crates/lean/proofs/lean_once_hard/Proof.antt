@@ -1,6 +1,6 @@
 -- `lean_once_hard` meets its contract: the words stay, or become lean.
 -- From what `without_doubles` ensures.
-use Rattle.layout.specs.Setting.{Lists}
+use borrow.Author.Needs.{needs}
 use Rattle.lean.specs.Lean.{LeanFrom}
 use Rattle.lean.proofs.Leaner.{lean-same}
 use Rattle.lean.proofs.lean_once_hard.Statement.{statement}
@@ -17,6 +17,7 @@ lean-once-hard-spec =
     tie.close
     (tie.spec
     (λ c. stays (c .before .before .before .before))
-    (λ c. stays (c .before .before .before .before .before))
+    (λ c. search needs)
     (λ c κs. c .before .before .before .before .before .before .pre)
-    (λ c. c .without-doubles .ensures))
+    (λ c. c .without-doubles .ensures)
+    (λ c. stays (c .before .before .before .before .before)))

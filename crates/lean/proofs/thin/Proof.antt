@@ -1,13 +1,12 @@
 -- `thin` goes from one live tuple of the relation to the next. The loop's invariant: the tuples that fell have the values of live ones.
 -- From what `first_alike` and `clear` ensure, and the laws of one relation's tuples as they fall.
-use mathlib.Core.Path.{_≡_, refl, sym, _∙_, ap, subst}
+use mathlib.Core.Path.{_≡_, sym, _∙_, ap, subst}
 use mathlib.Core.Bool.{true}
 use mathlib.Core.List.{List}
 use mathlib.Core.Logic.{⊎-elim}
 use Prim.Native.Nat.{ℕ, _+_, _-_, _*_, _≤_, _<_}
 use native.Mathlib.Omega.{arith}
 use lib.ListN.{length}
-use borrow.Author.Needs.{needs}
 use Rattle.model.specs.Network.{Network, size, firstId}
 use Rattle.model.specs.LiveWords.{isLive, nextLive, cleared}
 use Rattle.model.proofs.LiveWords.{nextLive-first}

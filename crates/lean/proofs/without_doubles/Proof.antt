@@ -1,9 +1,9 @@
 -- `without_doubles` goes from member to member. The loop's invariant: the words are lean so far.
 -- From what `thin` ensures, and the laws of lean words.
-use mathlib.Core.Path.{_≡_, sym, subst}
+use mathlib.Core.Path.{sym, subst}
 use mathlib.Core.List.{List}
 use mathlib.Core.Logic.{⊎-elim}
-use Prim.Native.Nat.{ℕ, _+_, _-_, _<_}
+use Prim.Native.Nat.{ℕ, _-_, _<_}
 use native.Mathlib.Omega.{arith}
 use lib.ListN.{length, getD}
 use borrow.Author.Needs.{needs}
@@ -26,7 +26,7 @@ module _ (s : tie.Start Inv-loop μ-loop) where
   L = record { variables = s .args .variables .now; values = s .args .values .now; starts = s .args .starts .now }
 
   below : (j : ℕ) → j < length (s .args .members .now) → getD (s .args .members .now) j 0 < 64
-  below j h = omega (arith, member-exists (L) (s .args .members .now) (s .args .place) (s .pre .1) j h, relations-few (s .pre .1 .laid .framed))
+  below j h = omega (arith, member-exists L (s .args .members .now) (s .args .place) (s .pre .1) j h, relations-few (s .pre .1 .laid .framed))
 
 abbrev begun : tie.At-loop Inv-loop μ-loop → tie.Start Inv-loop μ-loop
 begun c = c .before .before .before .before

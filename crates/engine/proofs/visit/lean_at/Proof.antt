@@ -11,13 +11,13 @@ use Rattle.layout.specs.Setting.{Setting, Sound}
 use Rattle.layout.specs.Pairs.{combinationOf}
 use Rattle.layout.proofs.Pairs.{base-within}
 use Rattle.lean.specs.Lean.{LeanAt, LeanFrom}
-use Rattle.lean.proofs.Leaner.{pair-asks}
+use Rattle.lean.proofs.Leaner.{pair-asks, lean-same}
 use Rattle.engine.proofs.visit.lean_at.Statement.{statement}
 use Rattle.engine.proofs.visit.lean_at.Tie as tie
 
 module _ (c : tie.After-wide2) where
   abbrev a : tie.Start
-  a = c .before .before .before .before .before
+  a = c .before .before .before .before .before .before
 
   abbrev G : Setting
   G =
@@ -55,6 +55,13 @@ module _ (c : tie.After-wide2) where
 place-is : (c : tie.After-wide3) → (let b = c .before .before in c .wide3 .result % b .before .wide .result ≡ a b .args .p % a b .args .m)
 place-is c = ap₂ (λ (q n : ℕ). q % n) (c .wide3 .ensures .0) (each-is (c .before .before))
 
+-- nothing falls
+easy : tie.Need-returns
+easy c =
+    let s = c .before .before .before .before .args in
+    let G : Setting = record { lists = record { variables = s .variables .now; values = s .values .now; starts = s .starts .now }; members = s .members .now; m = s .m } in
+    lean-same (G .lists) (combinationOf G (s .p)) (s .p % s .m) (s .lean .now) (c .before .before .before .before .pre .0)
+
 lean-once-hard-requires : tie.Need-lean-once-hard-requires
 lean-once-hard-requires c κs =
     let w = c .before in
@@ -64,8 +71,8 @@ lean-once-hard-requires c κs =
           (subst (λ (ms : List ℕ). LeanAt (G b .lists) ms (a b .args .p % a b .args .m)) (sym (part-is b)) (pair-asks (sound b) (a b .args .p) (a b .pre .1 .pair))),
     )
 
-returns : tie.Need-returns
-returns c =
+returns-2 : tie.Need-returns-2
+returns-2 c =
     let w = c .before .before in
     let b = w .before .before in
     let lean = c .lean-once-hard .last .1 .1 .1 .1 .1 .1 .1 .0 in
@@ -76,6 +83,7 @@ pub lean-at-spec : {M : Type 1} → statement M
 lean-at-spec =
     tie.close
     (tie.spec
+    easy
     (λ c κs. search needs) (λ c κs. search needs)
     (λ c. omega (arith, each-is c, sound c .paired .list .positive))
     (λ c. omega (arith, div-mul-le-self (c .wide2 .result) (c .before .wide .result)))
@@ -87,4 +95,4 @@ lean-at-spec =
     (λ c κs. search needs)
     (λ c. omega (arith, each-is (c .before .before), sound (c .before .before) .paired .list .positive))
     lean-once-hard-requires
-    returns)
+    returns-2)

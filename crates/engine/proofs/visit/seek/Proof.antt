@@ -1,7 +1,6 @@
 -- `visit::seek` meets its contract: what is held is the bound from which the search starts, and what that finds is the first support.
 -- From the laws of the numbers held for a tuple, and the contracts of the functions called.
 use mathlib.Core.Path.{_≡_, sym, _∙_, ap, ap₂, subst}
-use mathlib.Core.Bool.{true, false}
 use mathlib.Core.Logic.{⊎-elim}
 use mathlib.Core.List.{List, _++_}
 use Prim.Native.Nat.{ℕ, _+_, _-_, _*_, _/_, _%_, _≤_, _<_}

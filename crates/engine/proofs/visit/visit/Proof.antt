@@ -39,14 +39,14 @@ settingOf variables values starts members m =
     record { lists = record { variables = variables; values = values; starts = starts }; members = members; m = m }
 
 abbrev Inv-loop : tie.InvT-loop
-Inv-loop variables values starts index members m pair-starts words₀ numbers₀ p sides steps r first end start sought₀ lean₀ is-lean₀ fresh₀ waiting₀ shrunk₀ g₀ words numbers sought lean is-lean fresh waiting shrunk g =
+Inv-loop variables values starts index members m pair-starts words₀ numbers₀ p sides steps r first end start sought₀ lean₀ tried₀ fresh₀ waiting₀ shrunk₀ g₀ words numbers sought lean tried fresh waiting shrunk g =
     WalkAt (settingOf variables values starts members m) p first end (waiting₀ .words) words₀ numbers₀ (waiting .words) words numbers shrunk g
     × Noted (settingOf variables values starts members m) words p (g - first) sought
     × Beside (settingOf variables values starts members m) p lean fresh
     × LeanIn (settingOf variables values starts members m) p words lean
 
 abbrev μ-loop : tie.MeasureT-loop
-μ-loop variables values starts index members m pair-starts words₀ numbers₀ p sides steps r first end start sought₀ lean₀ is-lean₀ fresh₀ waiting₀ shrunk₀ g₀ words numbers sought lean is-lean fresh waiting shrunk g = end - g
+μ-loop variables values starts index members m pair-starts words₀ numbers₀ p sides steps r first end start sought₀ lean₀ tried₀ fresh₀ waiting₀ shrunk₀ g₀ words numbers sought lean tried fresh waiting shrunk g = end - g
 
 -- ---- What it is called on
 
