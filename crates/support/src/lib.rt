@@ -114,7 +114,7 @@ fn past_own(place: usize, own: u16, k: usize, chosen: Indices) -> Stage
 }
 
 // The place behind k, past the seeking tuple's.
-fn place_behind(place: usize, k: usize) -> usize
+pub fn place_behind(place: usize, k: usize) -> usize
     requires { ⌜ k < maxMembers ⌝ }
     ensures { λ n. ⌜ n ≡ placeBehind place k ⌝ }
 {
@@ -175,7 +175,7 @@ fn fits(
 
 // The id of the first live tuple of member k from id `from` on that fits; the end of its relation's ids if none does. Only tuples are tried that
 // may agree with tuple x of the member at `by`, which is the seeking tuple or one chosen.
-fn first_fitting(
+pub fn first_fitting(
     variables: &[u16],
     values: &[Value],
     starts: &Starts,
