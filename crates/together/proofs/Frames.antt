@@ -10,8 +10,7 @@ use native.Mathlib.Decide.{ℕ-discrete, decLt}
 use native.Mathlib.Omega.{arith}
 use borrow.Author.Tests.{eq-eqb, ne-eqb}
 use lib.Dec.{eqb}
-use lib.ListN.{length, getD, take, drop}
-use lib.Seq.{getD-take, getD-drop}
+use lib.ListN.{length}
 use Rattle.model.specs.Lists.{earlier}
 use Rattle.model.specs.LiveWords.{isLive, cleared}
 use Rattle.model.proofs.Bools.{and-left, iff-eq, not-both}
@@ -25,7 +24,7 @@ use Rattle.together.specs.Together.{Joint, ownSize, ownAt, numbersAt, Ro
 module _ (Q : Joint) (start : ℕ) where
   pub frames-none : (pending numbers : List ℕ) → Long pending → Frames Q start pending pending numbers numbers
   frames-none pending numbers long =
-      record { long = long; inside = λ g e. e; outside = λ g o. refl; room = refl; elsewhere = λ i o. refl; same = λ x h e j l. refl }
+      record { long = long; inside = λ g e. e; outside = λ g o. refl; room = refl; elsewhere = λ b n o. refl; same = λ x h e. refl }
 
   module _ {before mid after numbers numbersMid numbersAfter : List ℕ} (F : Frames Q start before mid numbers numbersMid) (G : Frames Q start mid after numbersMid numbersAfter) where
     -- what is as it was has not changed on the way
@@ -39,8 +38,8 @@ module _ (Q : Joint) (start : ℕ) where
           inside = λ g e. F .inside g (G .inside g e);
           outside = λ g o. G .outside g o ∙ F .outside g o;
           room = G .room ∙ F .room;
-          elsewhere = λ i o. G .elsewhere i o ∙ F .elsewhere i o;
-          same = λ x h e j l. let u = unchanged (ownAt Q x) e in G .same x h (e ∙ sym u) j l ∙ F .same x h u j l;
+          elsewhere = λ b n o. G .elsewhere b n o ∙ F .elsewhere b n o;
+          same = λ x h e. let u = unchanged (ownAt Q x) e in G .same x h (e ∙ sym u) ∙ F .same x h u;
         }
 
   module _ (k : ℕ) (chosen words : List ℕ) where
@@ -62,14 +61,10 @@ module _ (Q : Joint) (start : ℕ) where
               support = t .support;
               completes = t .completes;
               lowest = t .lowest;
-              held = λ j l. U .frames .same x h (a ∙ sym e) j l ∙ t .held j l;
+              held = U .frames .same x h (a ∙ sym e) ∙ t .held;
             }
 
   -- ---- One tuple takes its support
-
-  -- an element by its place in a stretch
-  stretch-at : (xs : List ℕ) (b n j : ℕ) → j < n → getD (take n (drop b xs)) j 0 ≡ getD xs (b + j) 0
-  stretch-at xs b n j h = getD-take n (drop b xs) j 0 h ∙ getD-drop b xs j 0
 
   -- the numbers of a later tuple begin behind those of an earlier one
   apart : (y z : ℕ) → y < z → y * length (Q .members) + length (Q .members) ≤ z * length (Q .members)
@@ -103,12 +98,6 @@ module _ (Q : Joint) (start : ℕ) where
     after-own : isLive after (ownAt Q x) ≡ false
     after-own = after-live (ownAt Q x) ∙ ap (λ (b : Bool). isLive before (ownAt Q x) && not b) (eq-eqb (ownAt Q x) (ownAt Q x) refl) ∙ and-false (isLive before (ownAt Q x))
 
-    elsewhere : (b n : ℕ) → (b + n ≤ at) ⊎ (at + m ≤ b) → (j : ℕ) → j < n → getD stored (b + j) 0 ≡ getD numbers (b + j) 0
-    elsewhere b n o j h =
-        sym (stretch-at stored b n j h)
-        ∙ ap (λ (xs : List ℕ). getD xs j 0) (replaced-elsewhere numbers support at m (completes .long) inside b n o)
-        ∙ stretch-at numbers b n j h
-
     -- a tuple that is as it was is another
     other : (y : ℕ) → isLive after (ownAt Q y) ≡ isLive before (ownAt Q y) → y ≡ x → ⊥
     other y e q = not-both (e ∙ ap (λ (z : ℕ). isLive before (ownAt Q z)) q ∙ seeks) (ap (λ (z : ℕ). isLive after (ownAt Q z)) q ∙ after-own)
@@ -120,8 +109,8 @@ module _ (Q : Joint) (start : ℕ) where
         go (yes l) = inl (omega (arith, apart y x l))
         go (no l) = inr (omega (arith, apart x y (omega arith)))
 
-    out : (i : ℕ) → (i < start) ⊎ (numbersAt Q start (ownSize Q) ≤ i) → (i + 1 ≤ at) ⊎ (at + m ≤ i)
-    out i o = ⊎-elim (λ l. inl (omega arith)) (λ l. inr (omega (arith, apart x (ownSize Q) own))) o
+    out : (b n : ℕ) → (b + n ≤ start) ⊎ (numbersAt Q start (ownSize Q) ≤ b) → (b + n ≤ at) ⊎ (at + m ≤ b)
+    out b n o = ⊎-elim (λ l. inl (omega arith)) (λ l. inr (omega (arith, apart x (ownSize Q) own))) o
 
     frames-one : Frames Q start before after numbers stored
     frames-one =
@@ -130,8 +119,8 @@ module _ (Q : Joint) (start : ℕ) where
           inside = λ g e. and-left (isLive before g) (not (eqb (ownAt Q x) g)) (sym (after-live g) ∙ e);
           outside = λ g o. after-other g (λ q. ⊎-elim (λ l. omega arith) (λ l. omega arith) o);
           room = replaced-length numbers support at m (completes .long) inside;
-          elsewhere = λ i o. let z : i + 0 ≡ i = omega arith in ap (λ (n : ℕ). getD stored n 0) (sym z) ∙ elsewhere i 1 (out i o) 0 (omega arith) ∙ ap (λ (n : ℕ). getD numbers n 0) z;
-          same = λ y h e j l. elsewhere (numbersAt Q start y) m (beside y (other y e)) j l;
+          elsewhere = λ b n o. replaced-elsewhere numbers support at m (completes .long) inside b n (out b n o);
+          same = λ y h e. replaced-elsewhere numbers support at m (completes .long) inside (numbersAt Q start y) m (beside y (other y e));
         }
 
     pub takes-one : Takes Q start k chosen words before after numbers stored
@@ -144,7 +133,7 @@ module _ (Q : Joint) (start : ℕ) where
               support = support;
               completes = completes;
               lowest = lowest;
-              held = λ j l. sym (stretch-at stored at m j l) ∙ ap (λ (xs : List ℕ). getD xs j 0) (replaced-here numbers support at m (completes .long) inside);
+              held = replaced-here numbers support at m (completes .long) inside;
             }
 
         go : (y : ℕ) → isLive before (ownAt Q y) ≡ true → isLive after (ownAt Q y) ≡ false → Dec (y ≡ x) → Taken Q start k chosen words y stored

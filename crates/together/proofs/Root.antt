@@ -122,7 +122,7 @@ module _ {Q : Joint} {index : List ℕ} (S : SoundJoint Q index) (words : List �
       record {
         lives = t .lives;
         supported = (ids′, m, s);
-        held = λ j l. t .held j l ∙ ap (λ (ks : List ℕ). getD ks j 0) (sym (f ∙ e));
+        held = t .held ∙ sym (f ∙ e);
       }
 
   pub together : (start : ℕ) (before after numbers numbersAfter : List ℕ) (left : ℕ) → Seeks Q start k chosen words before after numbers numbersAfter left → Together Q start words before after numbers numbersAfter left

@@ -4,7 +4,7 @@ use mathlib.Core.Bool.{Bool, true, false}
 use mathlib.Core.List.{List, List·Memᴰ}
 use mathlib.Core.Logic.{_⊎_}
 use Prim.Native.Nat.{ℕ, _+_, _*_, _≤_, _<_}
-use lib.ListN.{length, getD, set}
+use lib.ListN.{length, getD, take, drop, set}
 use Rattle.model.specs.Lists.{earlier}
 use Rattle.model.specs.Network.{Network, size, total}
 use Rattle.model.specs.Agreement.{agree}
@@ -52,6 +52,10 @@ ownAt Q x = tupleAt Q (Q .place) x
 -- where the numbers of its tuple x begin, if those of tuple 0 begin at `start`
 abbrev pub numbersAt : Joint → ℕ → ℕ → ℕ
 numbersAt Q start x = start + x * length (Q .members)
+
+-- the numbers themselves
+abbrev pub heldAt : Joint → ℕ → List ℕ → ℕ → List ℕ
+heldAt Q start numbers x = take (length (Q .members)) (drop (numbersAt Q start x) numbers)
 
 -- there is room for the numbers of all
 abbrev pub Room : Joint → ℕ → ℕ → Type 0
@@ -135,7 +139,7 @@ pub record Taken (Q : Joint) (start k : ℕ) (chosen words : List ℕ) (x : ℕ)
   pub support : List ℕ
   pub completes : Completes Q k chosen words x support
   pub lowest : (us : List ℕ) → Completes Q k chosen words x us → earlier us support ≡ false
-  pub held : (j : ℕ) → j < length (Q .members) → getD numbers (numbersAt Q start x + j) 0 ≡ getD support j 0
+  pub held : heldAt Q start numbers x ≡ support
 
 -- ---- What a step takes
 
@@ -145,8 +149,8 @@ pub record Frames (Q : Joint) (start : ℕ) (before after numbers numbersAfter :
   pub inside : (g : ℕ) → isLive after g ≡ true → isLive before g ≡ true
   pub outside : (g : ℕ) → (g < ownAt Q 0) ⊎ (ownAt Q (ownSize Q) ≤ g) → isLive after g ≡ isLive before g
   pub room : length numbersAfter ≡ length numbers
-  pub elsewhere : (i : ℕ) → (i < start) ⊎ (numbersAt Q start (ownSize Q) ≤ i) → getD numbersAfter i 0 ≡ getD numbers i 0
-  pub same : (x : ℕ) → x < ownSize Q → isLive after (ownAt Q x) ≡ isLive before (ownAt Q x) → (j : ℕ) → j < length (Q .members) → getD numbersAfter (numbersAt Q start x + j) 0 ≡ getD numbers (numbersAt Q start x + j) 0
+  pub elsewhere : (b n : ℕ) → (b + n ≤ start) ⊎ (numbersAt Q start (ownSize Q) ≤ b) → take n (drop b numbersAfter) ≡ take n (drop b numbers)
+  pub same : (x : ℕ) → x < ownSize Q → isLive after (ownAt Q x) ≡ isLive before (ownAt Q x) → heldAt Q start numbersAfter x ≡ heldAt Q start numbers x
 
 -- .. and each of these has taken the first support with the tuples chosen.
 pub record Takes (Q : Joint) (start k : ℕ) (chosen words before after numbers numbersAfter : List ℕ) : Type 0 where
@@ -190,7 +194,7 @@ Supported Q words x = (t : List ℕ) × List·Memᴰ t (candidates (netOf Q) (Q 
 pub record HasFirst (Q : Joint) (start : ℕ) (words : List ℕ) (x : ℕ) (numbers : List ℕ) : Type 0 where
   pub lives : isLive words (ownAt Q x) ≡ true
   pub supported : Supported Q words x
-  pub held : (j : ℕ) → j < length (Q .members) → getD numbers (numbersAt Q start x + j) 0 ≡ getD (firstSupport (netOf Q) (liveOf Q words) (Q .members) (ownAt Q x)) j 0
+  pub held : heldAt Q start numbers x ≡ firstSupport (netOf Q) (liveOf Q words) (Q .members) (ownAt Q x)
 
 -- Each tuple that seeks no more has its first support; if steps are left, each that is live and still seeks has none.
 pub record Together (Q : Joint) (start : ℕ) (words before after numbers numbersAfter : List ℕ) (left : ℕ) : Type 0 where
