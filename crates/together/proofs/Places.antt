@@ -20,7 +20,11 @@ use Rattle.layout.specs.Starts.{tupleStart}
 use Rattle.layout.proofs.SoundStarts.{tuple-start, tuple-end, ids-few}
 use Rattle.spreading.proofs.Kept.{member-below}
 use Rattle.support.specs.Search.{placeBehind}
-use Rattle.together.specs.Together.{Joint, netOf, tupleAt, sizeAt, SoundJoint, Before, Chosen, AgreesAll, Completes}
+use Rattle.together.specs.Together.{Joint, joint, netOf, tupleAt, sizeAt, SoundJoint, Before, Chosen, AgreesAll, Completes}
+
+-- the search on lists
+abbrev pub jointOf : List ℕ → List ℕ → List ℕ → List ℕ → ℕ → Joint
+jointOf = joint (λ (list : List ℕ). list)
 
 -- ---- The order
 

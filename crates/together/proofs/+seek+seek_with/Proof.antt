@@ -19,7 +19,7 @@ use Rattle.model.proofs.LiveWords.{nextLive-first}
 use Rattle.support.specs.Search.{placeBehind}
 use Rattle.support.proofs.Own.{behind-within}
 use Rattle.together.specs.Together.{Joint, tupleAt, sizeAt, Room, SeekAt, ChooseAt, Seeks}
-use Rattle.together.proofs.Places.{IdsAt, ids-at, behind, chosen-more}
+use Rattle.together.proofs.Places.{jointOf, IdsAt, ids-at, behind, chosen-more}
 use Rattle.together.proofs.Frames.{takes-none}
 use Rattle.together.proofs.Choosing.{seeks-wider}
 use Rattle.together.proofs.Turn.{Reached, seeks-out, reached-first, reached-next, reached-end}
@@ -39,10 +39,6 @@ use Rattle.together.proofs.+seek+seek_with.{statement}
 use Rattle.together.proofs.+seek+seek_with.Tie.{close}
 
 -- ---- The measures, the invariant and the callees
-
-abbrev jointOf : List ℕ → List ℕ → List ℕ → List ℕ → ℕ → Joint
-jointOf variables values starts members place =
-    record { lists = record { variables = variables; values = values; starts = starts }; members = members; place = place }
 
 abbrev μ-seek : Measures 8 seek-kinds.ps ℕ
 μ-seek κs a = (length (a .1 .1 .1 .1 .1 .0 .now) - a .1 .1 .1 .1 .1 .1 .1 .0) * 2 + 1

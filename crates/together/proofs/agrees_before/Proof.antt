@@ -2,7 +2,6 @@
 -- From what `tuples_agree` ensures.
 use mathlib.Core.Path.{_≡_, refl, sym, _∙_}
 use mathlib.Core.Bool.{true}
-use mathlib.Core.List.{List}
 use mathlib.Core.Logic.{⊎-elim}
 use Prim.Native.Nat.{ℕ, _-_, _≤_, _<_}
 use native.Mathlib.Omega.{arith}
@@ -12,13 +11,10 @@ use borrow.Author.Count.{below-more}
 use borrow.Author.Tests.{not-true, not-false}
 use Rattle.model.specs.Agreement.{agree}
 use Rattle.model.proofs.Bools.{not-both}
-use Rattle.together.specs.Together.{Joint, netOf, tupleAt}
+use Rattle.together.specs.Together.{netOf, tupleAt}
+use Rattle.together.proofs.Places.{jointOf}
 use Rattle.together.proofs.agrees_before.Statement.{statement}
 use Rattle.together.proofs.agrees_before.Tie as tie
-
-abbrev jointOf : List ℕ → List ℕ → List ℕ → List ℕ → ℕ → Joint
-jointOf variables values starts members place =
-    record { lists = record { variables = variables; values = values; starts = starts }; members = members; place = place }
 
 abbrev Inv-loop : tie.InvT-loop
 Inv-loop variables values starts members place k i x chosen r j₀ j =

@@ -14,19 +14,14 @@ use Rattle.model.proofs.Bools.{not-both}
 use Rattle.narrowing.specs.Narrows.{Others, Bare}
 use Rattle.narrowing.proofs.Narrowing.{narrowed-one}
 use Rattle.together.specs.Together.{Joint, netOf, tupleAt, ownSize, ChooseAt}
-use Rattle.together.proofs.Places.{IdsAt, ids-at}
+use Rattle.together.proofs.Places.{jointOf, IdsAt, ids-at}
 use Rattle.together.proofs.Choosing.{others-behind, own-differs, Keeping, keeping-none, keeping-pending, keeping-on, none-dead, none-bare, none-unfit}
 use Rattle.together.proofs.choose.Statement.{statement}
 use Rattle.together.proofs.choose.Tie as tie
 
 module _ (a : tie.Start) where
   abbrev Q : Joint
-  Q =
-      record {
-        lists = record { variables = a .args .variables .now; values = a .args .values .now; starts = a .args .starts .now };
-        members = a .args .members .now;
-        place = a .args .place;
-      }
+  Q = jointOf (a .args .variables .now) (a .args .values .now) (a .args .starts .now) (a .args .members .now) (a .args .place)
 
   abbrev asked : ChooseAt Q (a .args .index .now) (a .args .k) (a .args .chosen) (a .args .y)
   asked = a .pre .1

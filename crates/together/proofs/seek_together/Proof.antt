@@ -3,6 +3,7 @@
 use native.Mathlib.Omega.{arith}
 use borrow.Author.Needs.{needs}
 use Rattle.together.specs.Together.{Joint, SoundJoint}
+use Rattle.together.proofs.Places.{jointOf}
 use Rattle.together.proofs.Root.{together}
 use Rattle.together.proofs.seek_together.Statement.{statement}
 use Rattle.together.proofs.seek_together.Tie as tie
@@ -12,12 +13,7 @@ module _ (f : tie.After-first-but) where
   a = f .before .before .before .before .before
 
   abbrev Q : Joint
-  Q =
-      record {
-        lists = record { variables = a .args .variables .now; values = a .args .values .now; starts = a .args .starts .now };
-        members = a .args .members .now;
-        place = a .args .place;
-      }
+  Q = jointOf (a .args .variables .now) (a .args .values .now) (a .args .starts .now) (a .args .members .now) (a .args .place)
 
   abbrev asked : SoundJoint Q (a .args .index .now)
   asked = a .pre .0 .1

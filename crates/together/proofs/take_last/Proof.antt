@@ -1,7 +1,6 @@
 -- `take_last` goes from one seeking tuple to the next. The loop's invariant: those before that still seek have no support.
 -- From what `take_one` ensures, and the laws of the walk over the seeking tuples.
 use mathlib.Core.Path.{_≡_, sym, _∙_, ap, subst}
-use mathlib.Core.List.{List}
 use Prim.Native.Nat.{ℕ, _+_, _-_, _*_, _≤_, _<_}
 use native.Mathlib.Omega.{arith}
 use lib.ListN.{length}
@@ -12,14 +11,10 @@ use Rattle.model.specs.LiveWords.{isLive, nextLive}
 use Rattle.model.proofs.Lists.{First}
 use Rattle.model.proofs.LiveWords.{nextLive-first}
 use Rattle.together.specs.Together.{Joint, ownSize, ownAt, Room, SeekAt}
-use Rattle.together.proofs.Places.{IdsAt, ids-at}
+use Rattle.together.proofs.Places.{jointOf, IdsAt, ids-at}
 use Rattle.together.proofs.Turn.{Passed, seeks-out, passed-first, passed-next, passed-end}
 use Rattle.together.proofs.take_last.Statement.{statement}
 use Rattle.together.proofs.take_last.Tie as tie
-
-abbrev jointOf : List ℕ → List ℕ → List ℕ → List ℕ → ℕ → Joint
-jointOf variables values starts members place =
-    record { lists = record { variables = variables; values = values; starts = starts }; members = members; place = place }
 
 abbrev Inv-loop : tie.InvT-loop
 Inv-loop variables values starts index words members place k chosen pending₀ numbers₀ start steps r first end left₀ g₀ pending numbers left g =

@@ -17,7 +17,7 @@ use Rattle.model.proofs.Bools.{not-both}
 use Rattle.worklist.specs.Supports.{replaced}
 use Rattle.support.specs.Search.{FittingAt, FirstFitting}
 use Rattle.together.specs.Together.{Joint, netOf, tupleAt, sizeAt, ownAt, numbersAt, LastAt, AgreesAll, Completes, TakesOne}
-use Rattle.together.proofs.Places.{IdsAt, ids-at}
+use Rattle.together.proofs.Places.{jointOf, IdsAt, ids-at}
 use Rattle.together.proofs.Frames.{takes-none, takes-one, seeks-no-more, numbers-in}
 use Rattle.together.proofs.Last.{fitting-at, none-fits, none-clash, support, completes-last, lowest-last}
 use Rattle.together.proofs.take_one.Statement.{statement}
@@ -25,12 +25,7 @@ use Rattle.together.proofs.take_one.Tie as tie
 
 module _ (a : tie.Start) where
   abbrev Q : Joint
-  Q =
-      record {
-        lists = record { variables = a .args .variables .now; values = a .args .values .now; starts = a .args .starts .now };
-        members = a .args .members .now;
-        place = a .args .place;
-      }
+  Q = jointOf (a .args .variables .now) (a .args .values .now) (a .args .starts .now) (a .args .members .now) (a .args .place)
 
   abbrev asked : LastAt Q (a .args .index .now) (a .args .k) (a .args .chosen) (a .args .x)
   asked = a .pre .0 .1
