@@ -2,6 +2,7 @@
 pub mod Candidates
 pub mod Bounds
 pub mod Steps
+pub mod Resting
 pub mod Visiting
 pub mod Walking
 pub mod Blanks

@@ -1,3 +1,4 @@
 -- The definitions that the contracts cite.
 pub mod Work
+pub mod Rest
 pub mod Blank
