@@ -172,7 +172,7 @@ module _ (G : Setting) (sound : Sound G) where
     left-is : liveIn G fewer ≡ without (eqb g) before
     left-is = living-cleared n g words small (working .space .enough)
 
-    left-inside : Inside (liveIn G fewer) before
+    pub left-inside : Inside (liveIn G fewer) before
     left-inside h e = restrict-inside (λ y. not (eqb g y)) before h (subst (λ (X : TupleSet). has X h ≡ true) left-is e)
 
     left-other : (h : ℕ) → has (liveIn G fewer) h ≡ true → g ≡ h → ⊥

@@ -16,6 +16,7 @@ use Rattle.model.specs.Consistency.{needed}
 use Rattle.model.specs.LiveWords.{isLive, cleared}
 use Rattle.model.proofs.Bools.{not-both}
 use Rattle.model.proofs.LiveWords.{cleared-below, cleared-length}
+use Rattle.model.proofs.Support.{isSupport-mono}
 use Rattle.worklist.specs.Pairs.{queues}
 use Rattle.sweeping.specs.Shrunk.{Shrunk}
 use Rattle.sweeping.proofs.Shrunk.{shrunk-refl, shrunk-trans}
@@ -24,7 +25,8 @@ use Rattle.layout.specs.Pairs.{combinationOf, sizeOf, tupleId}
 use Rattle.layout.proofs.Pairs.{member-at}
 use Rattle.lean.proofs.Leaner.{pair-asks, lean-cleared}
 use Rattle.engine.specs.Work.{Working, Rest, LeanIn, Renewed, Visited}
-use Rattle.engine.proofs.Steps.{Small, kept-length, kept-beyond, kept-rest, kept-working, kept-done, done-skip, removed-count, removed-working, removed-shrunk, removed-rest, removed-done, kept-noted, removed-noted}
+use Rattle.engine.specs.Rest.{Doomed, Rested}
+use Rattle.engine.proofs.Steps.{Small, left-inside, kept-length, kept-beyond, kept-rest, kept-working, kept-done, done-skip, removed-count, removed-working, removed-shrunk, removed-rest, removed-done, kept-noted, removed-noted}
 use Rattle.worklist.specs.Supports.{Done}
 use Rattle.doubles.specs.Doubles.{Entered}
 use Rattle.twins.specs.Twins.{Noted}
@@ -154,6 +156,34 @@ module _ {G : Setting} (sound : Sound G) {p : ℕ} (hp : p < length (G .members)
               subst (λ (ws : List ℕ). Noted G ws p (suc k) sought′) (sym (R .kept e .0)) (kept-noted G sound words′ numbers′ p k (I .working) hp hk lives noted entered)
           go false e =
               subst (λ (ws : List ℕ). Noted G ws p (suc k) sought′) (sym (R .removed e .0)) (removed-noted G sound words′ numbers′ (I .small) p k (I .working) hp hk lives (R .removed e .2) noted entered)
+
+      -- what is doomed
+      pub going-doomed : has (liveIn G words′) (tupleId G p k) ≡ true → (doomed : List ℕ) → Doomed G p words′ doomed → Doomed G p words″ doomed
+      going-doomed lives doomed D = go found refl
+        where
+          go : (b : Bool) → found ≡ b → Doomed G p words″ doomed
+          go true e = subst (λ (ws : List ℕ). Doomed G p ws doomed) (sym (R .kept e .0)) D
+          go false e =
+              subst (λ (ws : List ℕ). Doomed G p ws doomed) (sym (R .removed e .0))
+              (λ x h f s.
+              D x h f
+              (s .0, s .1, isSupport-mono (network G) (liveIn G (cleared (tupleId G p k) words′)) (liveIn G words′) (left-inside G sound words′ numbers′ (I .small) p k (I .working) hp hk lives (R .removed e .2)) (tupleId G p x) (s .0) (s .2)))
+
+    -- the rest is sought together
+    pub going-rested : k ≤ sizeOf G p → {from : ℕ} {doomed numbers″ doomed″ : List ℕ} → tupleId G p k ≤ from → Rested G p from words′ numbers′ doomed numbers″ doomed″ → VisitOf G p queue words numbers queue′ words′ numbers″ shrunk k
+    going-rested few {from} {doomed} {numbers″} {doomed″} l R =
+        record {
+          small = I .small;
+          working = R .working;
+          shrinks = I .shrinks;
+          beyond = R .beyond ∙ I .beyond;
+          long = R .room ∙ I .long;
+          wide = I .wide;
+          rest = λ all q hq w d y hy e. let r = I .rest all q hq w d y hy e in (r .0, R .same q y hq hy (λ k. absurd (d k)) ∙ r .1);
+          done = λ y h e. let r = I .done y h e in (r .0, R .same p y hp (omega (arith, few, h)) (λ _. omega (arith, l, h)) ∙ r .1);
+          same = I .same;
+          less = I .less;
+        }
 
     -- every pair that a removal queues waits already
     pub still-waits : shrunk ≡ true → (q : ℕ) → q < length (G .members) → isLive queue′ q ≡ false → (isLive queue′ q ≡ false) × (queues (G .m) (G .members) p q ≡ false)

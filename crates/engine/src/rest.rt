@@ -14,6 +14,7 @@ use live::put_back;
 use live::set;
 use model::NO_SUPPORT;
 use model::Value;
+use support::HARD;
 use together::seek_together;
 use value_index::Index;
 use worklist::list::all_live;
@@ -128,4 +129,86 @@ pub fn seek_rest(
     }
     put_back(&pending, doomed, WORDS);
     true
+}
+
+// More choices than this are not counted.
+const MOST: u32 = 1073741824;
+
+// The choices that the searches of a visit have tried, and how many make a search together due.
+pub struct Effort {
+    pub tried: u32,
+    pub due: u32,
+}
+
+// With one more search, by its kind: twice as many as it tried.
+fn counted(kind: u16, effort: Effort) -> Effort {
+    if MOST <= effort.tried {
+        return effort;
+    }
+    Effort {
+        tried: effort.tried + (kind / 2) as u32,
+        due: effort.due,
+    }
+}
+
+// The rest of pair p's tuples are sought together after a hard search, by its kind, if that is due: in twice as many steps as choices were
+// tried. If the steps suffice it is never due again, and otherwise once so many more are tried.
+pub fn seek_rest_once_due(
+    variables: &[u16],
+    values: &[Value],
+    starts: &Starts,
+    index: &Index,
+    members: &[u16],
+    m: u16,
+    start: usize,
+    words: &Words,
+    lean: &Words,
+    numbers: &mut [u16],
+    p: u16,
+    from: u16,
+    kind: u16,
+    effort: Effort,
+    doomed: &mut Words,
+) -> Effort
+    requires { ⌜ RestAt (setting now variables values starts members m) (now index) (now words) (now lean) (now numbers) p start from × Long (now doomed) ⌝ }
+    ensures { λ _. ⌜ Rested (setting entry variables values starts members m) p from (entry words) (entry numbers) (entry doomed) (exit numbers) (exit doomed) ⌝ }
+{
+    if kind < HARD {
+        return effort;
+    }
+    let all = counted(kind, effort);
+    let tried = all.tried;
+    let due = all.due;
+    if tried < due {
+        return all;
+    }
+    if MOST <= tried {
+        return all;
+    }
+    let steps = 2 * tried;
+    if seek_rest(
+        variables,
+        values,
+        starts,
+        index,
+        members,
+        m,
+        start,
+        words,
+        lean,
+        numbers,
+        p,
+        from,
+        steps,
+        doomed,
+    ) {
+        return Effort {
+            tried: tried,
+            due: MOST,
+        };
+    }
+    Effort {
+        tried: tried,
+        due: due + steps,
+    }
 }

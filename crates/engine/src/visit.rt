@@ -7,7 +7,10 @@ ghost use Rattle.spreading.specs.Spread.{PairNumbers};
 ghost use Rattle.doubles.specs.Doubles.{Entered};
 ghost use Rattle.support.specs.Search.{isFound};
 ghost use Rattle.doubles.specs.Alike.{PairAt};
+ghost use Rattle.engine.specs.Rest.{Doomed};
 ghost use Rattle.engine.specs.Work.{SeekAt, RenewAt, LeanIn, LeanOf, Beside, Renewed, VisitAt, Visited};
+use super::rest::Effort;
+use super::rest::seek_rest_once_due;
 use doubles::PLACES;
 use doubles::Table;
 use layout::Starts;
@@ -18,6 +21,7 @@ use lean::lean_once_hard;
 use live::WORDS;
 use live::Words;
 use live::clear;
+use live::is_live;
 use live::next;
 use model::MAX_MEMBERS;
 use model::NO_SUPPORT;
@@ -38,6 +42,9 @@ use worklist::list::load;
 use worklist::list::store;
 use worklist::queue::Queue;
 use worklist::queue::requeue;
+
+// So many choices tried make a search together due.
+const MANY: u32 = 1024;
 
 // The steps for a search by a tuple of pair p's member.
 fn steps_at(index: &Index, members: &[u16], m: u16, p: u16) -> u64
@@ -217,6 +224,58 @@ pub fn renew(
     )
 }
 
+// The same for a tuple that may be doomed: then it falls.
+fn renew_or_fall(
+    variables: &[u16],
+    values: &[Value],
+    starts: &Starts,
+    index: &Index,
+    members: &[u16],
+    m: u16,
+    words: &mut Words,
+    numbers: &mut [u16],
+    sought: &mut Table,
+    p: u16,
+    x: u16,
+    at: usize,
+    sides: Sides,
+    steps: u64,
+    lean: &Words,
+    fresh: &mut Words,
+    doomed: &Words,
+) -> u16
+    requires { ⌜ Long (now words) × Beside (setting now variables values starts members m) p (now lean) (now fresh) × LeanIn (setting now variables values starts members m) p (now words) (now lean) ⌝ }
+    requires { ⌜ RenewAt (setting now variables values starts members m) (now index) (now words) (now numbers) (now sought) p x at sides ⌝ }
+    requires { ⌜ Long (now doomed) × Doomed (setting now variables values starts members m) p (now words) (now doomed) ⌝ }
+    ensures { λ r. ⌜ Renewed (setting entry variables values starts members m) p x (entry words) (entry numbers) (isFound r) (exit words) (exit numbers) ⌝ }
+    ensures { λ _. ⌜ Entered x (entry sought) (exit sought) ⌝ }
+    ensures { λ _. ⌜ Beside (setting entry variables values starts members m) p (entry lean) (exit fresh) ⌝ }
+{
+    let id = tuple_start(starts, members[wide(p)]) + x;
+    if is_live(doomed, id) {
+        clear(words, id);
+        return NONE;
+    }
+    renew(
+        variables,
+        values,
+        starts,
+        index,
+        members,
+        m,
+        words,
+        numbers,
+        sought,
+        p,
+        x,
+        at,
+        sides,
+        steps,
+        lean,
+        fresh,
+    )
+}
+
 // How many choices the searches of pair p have tried, with one more search by its kind. Once they are many, the words become lean.
 fn lean_at(
     variables: &[u16],
@@ -277,13 +336,18 @@ pub fn visit(
     let mut lean = *words;
     let mut tried = 0;
     let mut fresh = [!0u64; WORDS];
+    let mut doomed = [0u64; WORDS];
+    let mut effort = Effort {
+        tried: 0,
+        due: MANY,
+    };
     let mut waiting = queue;
     let mut shrunk = false;
     let mut g = next(words, first, end);
     while g < end {
         let x = g - first;
         let at = start + wide(x) * wide(m);
-        let kind = renew(
+        let kind = renew_or_fall(
             variables,
             values,
             starts,
@@ -300,6 +364,7 @@ pub fn visit(
             steps,
             &lean,
             &mut fresh,
+            &doomed,
         );
         if kind % 2 != FOUND {
             if !shrunk {
@@ -317,6 +382,23 @@ pub fn visit(
             kind,
             tried,
             &mut lean,
+        );
+        effort = seek_rest_once_due(
+            variables,
+            values,
+            starts,
+            index,
+            members,
+            m,
+            start,
+            words,
+            &lean,
+            numbers,
+            p,
+            g + 1,
+            kind,
+            effort,
+            &mut doomed,
         );
         g = next(words, g + 1, end);
     }

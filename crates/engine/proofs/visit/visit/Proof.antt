@@ -12,7 +12,11 @@ use borrow.Author.Needs.{needs}
 use Rattle.spreading.proofs.Numbers.{pair-numbers}
 use borrow.Author.Tests.{not-false, eq-eqb, ne-eqb}
 use Rattle.model.specs.Combination.{pairMember}
+use Rattle.model.specs.Consistency.{supportStart}
 use Rattle.model.specs.LiveWords.{isLive}
+use Rattle.model.proofs.Bools.{not-both}
+use Rattle.model.proofs.LiveWords.{none-isLive}
+use Rattle.narrowing.specs.Narrows.{Long}
 use Rattle.worklist.specs.Pairs.{queues}
 use Rattle.worklist.specs.declared.queue.Queue.{Queue}
 use Rattle.layout.specs.Starts.{tupleStart}
@@ -24,11 +28,12 @@ use Rattle.spreading.proofs.Meeting.{meets-fewer}
 use Rattle.support.proofs.Spent.{meets-ones}
 use Rattle.support.specs.Search.{isFound}
 use Rattle.lean.proofs.Leaner.{lean-same, lean-both}
+use Rattle.engine.specs.Rest.{Doomed}
 use Rattle.engine.specs.Work.{Working, LeanIn, Beside}
 use Rattle.layout.proofs.SoundStarts.{tuples-few}
 use Rattle.layout.proofs.Outline.{supportStart-outline}
 use Rattle.layout.proofs.Pairs.{member-below, tuple-below}
-use Rattle.engine.proofs.Visiting.{VisitOf, renewed-lean, going-kept, going-removed, going-noted, still-waits, requeued-waits}
+use Rattle.engine.proofs.Visiting.{VisitOf, renewed-lean, going-kept, going-removed, going-noted, going-doomed, going-rested, still-waits, requeued-waits}
 use Rattle.engine.proofs.Walking.{WalkAt, come-first, come-end, index-lives, come-more, place-short}
 use Rattle.layout.proofs.Rows.{Row, row-of, row-total, row-asks, row-index, next-ahead}
 use Rattle.engine.proofs.visit.visit.Statement.{statement}
@@ -39,14 +44,16 @@ settingOf variables values starts members m =
     record { lists = record { variables = variables; values = values; starts = starts }; members = members; m = m }
 
 abbrev Inv-loop : tie.InvT-loop
-Inv-loop variables values starts index members m pair-starts words₀ numbers₀ p sides steps r first end start sought₀ lean₀ tried₀ fresh₀ waiting₀ shrunk₀ g₀ words numbers sought lean tried fresh waiting shrunk g =
+Inv-loop variables values starts index members m pair-starts words₀ numbers₀ p sides steps r first end start sought₀ lean₀ tried₀ fresh₀ doomed₀ effort₀ waiting₀ shrunk₀ g₀ words numbers sought lean tried fresh doomed effort waiting shrunk g =
     WalkAt (settingOf variables values starts members m) p first end (waiting₀ .words) words₀ numbers₀ (waiting .words) words numbers shrunk g
     × Noted (settingOf variables values starts members m) words p (g - first) sought
     × Beside (settingOf variables values starts members m) p lean fresh
     × LeanIn (settingOf variables values starts members m) p words lean
+    × Long doomed
+    × Doomed (settingOf variables values starts members m) p words doomed
 
 abbrev μ-loop : tie.MeasureT-loop
-μ-loop variables values starts index members m pair-starts words₀ numbers₀ p sides steps r first end start sought₀ lean₀ tried₀ fresh₀ waiting₀ shrunk₀ g₀ words numbers sought lean tried fresh waiting shrunk g = end - g
+μ-loop variables values starts index members m pair-starts words₀ numbers₀ p sides steps r first end start sought₀ lean₀ tried₀ fresh₀ doomed₀ effort₀ waiting₀ shrunk₀ g₀ words numbers sought lean tried fresh doomed effort waiting shrunk g = end - g
 
 -- ---- What it is called on
 
@@ -89,14 +96,16 @@ row c =
     (c .before .before .before .tuple-start2 .ensures ∙ ap (λ (r : ℕ). tupleStart (a .args .starts .now) (r + 1)) (member-is (c .before .before .before .before .before .before)))
 
 -- where the pair's numbers begin
-start-is : (c : tie.After-wide3 Inv-loop μ-loop) → c .wide3 .result ≡ placeOf (G (entry c)) (entry c .args .p) 0
-start-is c =
+begin-is : (c : tie.After-wide3 Inv-loop μ-loop) → (let a = entry c in c .wide3 .result ≡ supportStart (network (G a)) (a .args .m) (a .args .members .now) (a .args .p))
+begin-is c =
     let a = entry c in
-    let s = c .wide3 .ensures .0
+    c .wide3 .ensures .0
     ∙ ap (λ (q : ℕ). getD (a .args .pair-starts .now) q 0) (c .before .before .wide2 .ensures .0)
     ∙ a .pre .1 .prepared .places (a .args .p) (omega (arith, in-members a))
-    ∙ supportStart-outline (G a .lists) (a .args .m) (a .args .members .now) (a .args .p) in
-    omega (arith, s, zero-mul (a .args .m))
+    ∙ supportStart-outline (G a .lists) (a .args .m) (a .args .members .now) (a .args .p)
+
+start-is : (c : tie.After-wide3 Inv-loop μ-loop) → c .wide3 .result ≡ placeOf (G (entry c)) (entry c .args .p) 0
+start-is c = omega (arith, begin-is c, zero-mul (entry c .args .m))
 
 -- ---- In the loop
 
@@ -122,27 +131,27 @@ place-small c =
 
 -- ---- After the tuple's renewal
 
-abbrev turning : tie.After-renew Inv-loop μ-loop → tie.In-loop Inv-loop μ-loop
-turning c = c .before .before .before .before .before .before .before .before
+abbrev turning : tie.After-renew-or-fall Inv-loop μ-loop → tie.In-loop Inv-loop μ-loop
+turning c = c .before .before .before .before .before .before .before .before .before
 
-abbrev words-after : tie.After-renew Inv-loop μ-loop → List ℕ
-words-after c = c .renew .last .1 .1 .1 .1 .1 .1 .0
+abbrev words-after : tie.After-renew-or-fall Inv-loop μ-loop → List ℕ
+words-after c = c .renew-or-fall .last .1 .1 .1 .1 .1 .1 .0
 
-abbrev numbers-after : tie.After-renew Inv-loop μ-loop → List ℕ
-numbers-after c = c .renew .last .1 .1 .1 .1 .1 .1 .1 .0
+abbrev numbers-after : tie.After-renew-or-fall Inv-loop μ-loop → List ℕ
+numbers-after c = c .renew-or-fall .last .1 .1 .1 .1 .1 .1 .1 .0
 
-abbrev sought-after : tie.After-renew Inv-loop μ-loop → List ℕ
-sought-after c = c .renew .last .1 .1 .1 .1 .1 .1 .1 .1 .0
+abbrev sought-after : tie.After-renew-or-fall Inv-loop μ-loop → List ℕ
+sought-after c = c .renew-or-fall .last .1 .1 .1 .1 .1 .1 .1 .1 .0
 
 -- the visit under way, once tuple g is done
-abbrev Turned : tie.After-renew Inv-loop μ-loop → Queue → Bool → Type 0
+abbrev Turned : tie.After-renew-or-fall Inv-loop μ-loop → Queue → Bool → Type 0
 Turned c waiting shrunk =
     let i = turning c in
     let b = begun i in
     let a = entry b in
     VisitOf (G a) (a .args .p) (a .args .queue .words) (a .args .words .now) (a .args .numbers .now) (waiting .words) (words-after c) (numbers-after c) shrunk (suc (i .before .loop .g - first b))
 
-turned-kept : (c : tie.After-renew Inv-loop μ-loop) → isFound (c .renew .result) ≡ true → (let l = turning c .before .loop in Turned c (l .waiting) (l .shrunk))
+turned-kept : (c : tie.After-renew-or-fall Inv-loop μ-loop) → isFound (c .renew-or-fall .result) ≡ true → (let l = turning c .before .loop in Turned c (l .waiting) (l .shrunk))
 turned-kept c e =
     let i = turning c in
     let b = begun i in
@@ -150,9 +159,9 @@ turned-kept c e =
     let l = i .before .loop in
     going-kept (sound a) (in-members a) (l .inv .0 .going)
     (row-index (row b) (l .inv .0 .from-first) (i .loop-test .taken))
-    (c .renew .ensures .0) e
+    (c .renew-or-fall .ensures .0) e
 
-turned-removed : (c : tie.After-renew Inv-loop μ-loop) (waiting : Queue) → isFound (c .renew .result) ≡ false → (let i = turning c in let a = entry (begun i) in (q : ℕ) → q < length (a .args .members .now) → isLive (waiting .words) q ≡ false → (isLive (i .before .loop .waiting .words) q ≡ false) × (queues (a .args .m) (a .args .members .now) (a .args .p) q ≡ false)) → Turned c waiting true
+turned-removed : (c : tie.After-renew-or-fall Inv-loop μ-loop) (waiting : Queue) → isFound (c .renew-or-fall .result) ≡ false → (let i = turning c in let a = entry (begun i) in (q : ℕ) → q < length (a .args .members .now) → isLive (waiting .words) q ≡ false → (isLive (i .before .loop .waiting .words) q ≡ false) × (queues (a .args .m) (a .args .members .now) (a .args .p) q ≡ false)) → Turned c waiting true
 turned-removed c waiting e waits =
     let i = turning c in
     let b = begun i in
@@ -160,11 +169,11 @@ turned-removed c waiting e waits =
     let l = i .before .loop in
     going-removed (sound a) (in-members a) (l .inv .0 .going)
     (row-index (row b) (l .inv .0 .from-first) (i .loop-test .taken))
-    (c .renew .ensures .0)
+    (c .renew-or-fall .ensures .0)
     (index-lives (row b) (l .inv .0) (i .loop-test .taken))
     (waiting .words) waits e
 
-noted : (c : tie.After-renew Inv-loop μ-loop) → (let i = turning c in let b = begun i in let a = entry b in Noted (G a) (words-after c) (a .args .p) (suc (i .before .loop .g - first b)) (sought-after c))
+noted : (c : tie.After-renew-or-fall Inv-loop μ-loop) → (let i = turning c in let b = begun i in let a = entry b in Noted (G a) (words-after c) (a .args .p) (suc (i .before .loop .g - first b)) (sought-after c))
 noted c =
     let i = turning c in
     let b = begun i in
@@ -172,15 +181,15 @@ noted c =
     let l = i .before .loop in
     going-noted (sound a) (in-members a) (l .inv .0 .going)
     (row-index (row b) (l .inv .0 .from-first) (i .loop-test .taken))
-    (c .renew .ensures .0)
+    (c .renew-or-fall .ensures .0)
     (index-lives (row b) (l .inv .0) (i .loop-test .taken))
     (l .inv .1)
-    (c .renew .ensures .1 .0)
+    (c .renew-or-fall .ensures .1 .0)
 
-abbrev fresh-after : tie.After-renew Inv-loop μ-loop → List ℕ
-fresh-after c = c .renew .last .1 .1 .1 .1 .1 .1 .1 .1 .1 .1 .1 .1 .1 .1 .1 .0
+abbrev fresh-after : tie.After-renew-or-fall Inv-loop μ-loop → List ℕ
+fresh-after c = c .renew-or-fall .last .1 .1 .1 .1 .1 .1 .1 .1 .1 .1 .1 .1 .1 .1 .1 .0
 
-abbrev renewed : tie.Joined1 Inv-loop μ-loop → tie.After-renew Inv-loop μ-loop
+abbrev renewed : tie.Joined1 Inv-loop μ-loop → tie.After-renew-or-fall Inv-loop μ-loop
 renewed c = c .before .before .before
 
 turned : (c : tie.Joined1 Inv-loop μ-loop) → Turned (renewed c) (c .if1 .waiting) (c .if1 .shrunk)
@@ -193,14 +202,14 @@ turned c =
     let joins : (waiting : Queue) (shrunk : Bool) → c .if1 .waiting ≡ waiting → c .if1 .shrunk ≡ shrunk → Turned n waiting shrunk → Turned n (c .if1 .waiting) (c .if1 .shrunk) =
     λ waiting shrunk e f t. subst (λ (q : Queue). Turned n q (c .if1 .shrunk)) (sym e) (subst (Turned n waiting) (sym f) t) in
     ⊎-elim
-    (λ w. joins (w .2 .result) true (w .3) (w .4) (turned-removed n (w .2 .result) (ne-eqb (n .renew .result % 2) 1 (w .0 .taken)) (requeued-waits (sound a) (a .args .p) (l .waiting .words) (w .2 .result .words) (w .2 .ensures))))
+    (λ w. joins (w .2 .result) true (w .3) (w .4) (turned-removed n (w .2 .result) (ne-eqb (n .renew-or-fall .result % 2) 1 (w .0 .taken)) (requeued-waits (sound a) (a .args .p) (l .waiting .words) (w .2 .result .words) (w .2 .ensures))))
     (⊎-elim
     (λ w.
     let e = not-false (l .shrunk) (w .1 .left) in
     joins (l .waiting) true (w .2) (w .3 ∙ e)
-    (turned-removed n (l .waiting) (ne-eqb (n .renew .result % 2) 1 (w .0 .taken))
+    (turned-removed n (l .waiting) (ne-eqb (n .renew-or-fall .result % 2) 1 (w .0 .taken))
     (still-waits (sound a) (in-members a) (l .inv .0 .going) e)))
-    (λ w. joins (l .waiting) (l .shrunk) (w .1) (w .2) (turned-kept n (eq-eqb (n .renew .result % 2) 1 (w .0 .left)))))
+    (λ w. joins (l .waiting) (l .shrunk) (w .1) (w .2) (turned-kept n (eq-eqb (n .renew-or-fall .result % 2) 1 (w .0 .left)))))
     (c .if1 .came)
 
 -- ---- After the words are made lean
@@ -216,7 +225,7 @@ beside c =
     let n = renewed (joined c) in
     let i = turning n in
     let a = entry (begun i) in
-    let E = n .renew .ensures .1 .1 in
+    let E = n .renew-or-fall .ensures .1 .1 in
     (E .0, λ two. meets-fewer (network (G a)) (combinationOf (G a) (a .args .p)) (a .args .p % a .args .m) (i .before .loop .lean) (lean-after c) (fresh-after n) (c .lean-at .ensures .1) (E .1 two))
 
 lean : (c : tie.After-lean-at Inv-loop μ-loop) → (let n = renewed (joined c) in let a = entry (begun (turning n)) in LeanIn (G a) (a .args .p) (words-after n) (lean-after c))
@@ -229,8 +238,38 @@ lean c =
     let x-in = row-index (row b) (l .inv .0 .from-first) (i .loop-test .taken) in
     let room : tupleId (G a) (a .args .p) (l .g - first b) < 64 * length (l .words) = omega (arith, tuple-below (sound a) (a .args .p) (l .g - first b) (in-members a) x-in, l .inv .0 .going .working .space .enough) in
     lean-both (G a .lists) (combinationOf (G a) (a .args .p)) (a .args .p % a .args .m)
-    (renewed-lean (sound a) (in-members a) x-in room (n .renew .ensures .0) (l .inv .3))
+    (renewed-lean (sound a) (in-members a) x-in room (n .renew-or-fall .ensures .0) (l .inv .3))
     (c .lean-at .ensures .0)
+
+-- ---- After the rest was sought
+
+doomed : (c : tie.After-renew-or-fall Inv-loop μ-loop) → (let i = turning c in let a = entry (begun i) in Doomed (G a) (a .args .p) (words-after c) (i .before .loop .doomed))
+doomed c =
+    let i = turning c in
+    let b = begun i in
+    let a = entry b in
+    let l = i .before .loop in
+    going-doomed (sound a) (in-members a) (l .inv .0 .going)
+    (row-index (row b) (l .inv .0 .from-first) (i .loop-test .taken))
+    (c .renew-or-fall .ensures .0)
+    (index-lives (row b) (l .inv .0) (i .loop-test .taken))
+    (l .doomed)
+    (l .inv .5)
+
+abbrev leaned : tie.After-seek-rest-once-due Inv-loop μ-loop → tie.After-lean-at Inv-loop μ-loop
+leaned c = c .before .before .before .before .before
+
+abbrev numbers-rested : tie.After-seek-rest-once-due Inv-loop μ-loop → List ℕ
+numbers-rested c = c .seek-rest-once-due .last .1 .1 .1 .1 .1 .1 .1 .1 .1 .0
+
+rested : (c : tie.After-seek-rest-once-due Inv-loop μ-loop) → (let j = joined (leaned c) in let n = renewed j in let i = turning n in let b = begun i in let a = entry b in VisitOf (G a) (a .args .p) (a .args .queue .words) (a .args .words .now) (a .args .numbers .now) (j .if1 .waiting .words) (words-after n) (numbers-rested c) (j .if1 .shrunk) (suc (i .before .loop .g - first b)))
+rested c =
+    let j = joined (leaned c) in
+    let i = turning (renewed j) in
+    let b = begun i in
+    let a = entry b in
+    let l = i .before .loop in
+    going-rested (sound a) (in-members a) (turned j) (row-index (row b) (l .inv .0 .from-first) (i .loop-test .taken)) (omega (arith, row b .is-first, l .inv .0 .from-first)) (c .seek-rest-once-due .ensures)
 
 -- ---- The needs
 
@@ -244,37 +283,40 @@ loop-holds : tie.Need-loop-holds Inv-loop μ-loop
 loop-holds c =
     let b = c .before .before .before .before in
     let a = entry b in
-    (subst (WalkAt (G a) (a .args .p) (first b) (end b) (a .args .queue .words) (a .args .words .now) (a .args .numbers .now) (a .args .queue .words) (a .args .words .now) (a .args .numbers .now) false) (sym (c .next .ensures)) (come-first (row b) (a .pre .0 .small) (work a)), noted-none (a .args .words .now) (c .next .result - first b), (refl, meets-ones (network (G a)) (tuples-few (sound a .laid .framed)) (combinationOf (G a) (a .args .p)) (a .args .p % a .args .m) (a .args .words .now)), lean-same (G a .lists) (combinationOf (G a) (a .args .p)) (a .args .p % a .args .m) (a .args .words .now) (a .pre .0 .long) .0)
+    (subst (WalkAt (G a) (a .args .p) (first b) (end b) (a .args .queue .words) (a .args .words .now) (a .args .numbers .now) (a .args .queue .words) (a .args .words .now) (a .args .numbers .now) false) (sym (c .next .ensures)) (come-first (row b) (a .pre .0 .small) (work a)), noted-none (a .args .words .now) (c .next .result - first b), (refl, meets-ones (network (G a)) (tuples-few (sound a .laid .framed)) (combinationOf (G a) (a .args .p)) (a .args .p % a .args .m) (a .args .words .now)), lean-same (G a .lists) (combinationOf (G a) (a .args .p)) (a .args .p % a .args .m) (a .args .words .now) (a .pre .0 .long) .0, refl, λ x h e s. absurd (not-both e (none-isLive 64 (tupleId (G a) (a .args .p) x))))
 
-renew-requires : tie.Need-renew-requires Inv-loop μ-loop
-renew-requires c κs =
-    let w = c .before .before .before .before .before in
+renew-or-fall-requires : tie.Need-renew-or-fall-requires Inv-loop μ-loop
+renew-or-fall-requires c κs =
+    let w = c .before .before .before .before .before .before in
     let i = w .before .before in
     let b = begun i in
     let a = entry b in
     let l = i .before .loop in (
       (l .inv .0 .going .wide ∙ a .pre .0 .long, l .inv .2, l .inv .3),
-      record {
-        seek = record {
-          seeker = record {
-            sound = sound a;
-            working = l .inv .0 .going .working;
-            pair = in-members a;
-            index = row-index (row b) (l .inv .0 .from-first) (i .loop-test .taken);
-            lives = index-lives (row b) (l .inv .0) (i .loop-test .taken);
+      (
+        record {
+          seek = record {
+            seeker = record {
+              sound = sound a;
+              working = l .inv .0 .going .working;
+              pair = in-members a;
+              index = row-index (row b) (l .inv .0 .from-first) (i .loop-test .taken);
+              lives = index-lives (row b) (l .inv .0) (i .loop-test .taken);
+            };
+            indexed = a .pre .1 .prepared .indexed;
+            place = place-is w;
           };
-          indexed = a .pre .1 .prepared .indexed;
-          place = place-is w;
-        };
-        done = l .inv .0 .going .done;
-        noted = l .inv .1;
-        sided = b .before .before .before .before .before .before .before .before .sides-of .ensures;
-      },
+          done = l .inv .0 .going .done;
+          noted = l .inv .1;
+          sided = b .before .before .before .before .before .before .before .before .sides-of .ensures;
+        },
+        (l .inv .4, l .inv .5),
+      ),
     )
 
 requeue-requires : tie.Need-requeue-requires Inv-loop μ-loop
 requeue-requires c κs =
-    let a = entry (begun (c .before .before .before .before .before .before .before .before .before .before .before .before)) in
+    let a = entry (begun (turning (c .before .before .before .before))) in
     (sound a .paired .list, in-members a)
 
 lean-at-requires : tie.Need-lean-at-requires Inv-loop μ-loop
@@ -283,16 +325,40 @@ lean-at-requires c κs =
     let a = entry (begun i) in
     (i .before .loop .inv .3 .long, record { sound = sound a; pair = in-members a })
 
-add-next : tie.Need-add-next Inv-loop μ-loop
-add-next c =
-    let i = turning (renewed (joined (c .before .before))) in
+-- an id more is one yet
+id-small : (n : tie.After-renew-or-fall Inv-loop μ-loop) → turning n .before .loop .g < 4096
+id-small n =
+    let i = turning n in
+    let b = begun i in
+    omega (arith, i .loop-test .taken, row-total (row b), tuples-few (sound (entry b) .laid .framed))
+
+seek-rest-once-due-requires : tie.Need-seek-rest-once-due-requires Inv-loop μ-loop
+seek-rest-once-due-requires c κs =
+    let k = c .before .before .before .before in
+    let j = joined k in
+    let i = turning (renewed j) in
     let b = begun i in
     let a = entry b in
-    omega (arith, i .loop-test .taken, row-total (row b), tuples-few (sound a .laid .framed))
+    let l = i .before .loop in (
+      record {
+        sound = sound a;
+        indexed = a .pre .1 .prepared .indexed;
+        working = turned j .working;
+        leaner = lean k;
+        pair = in-members a;
+        begin = begin-is b;
+        after-first = omega (arith, row b .is-first, l .inv .0 .from-first);
+        before-end = omega (arith, row b .is-first, row b .is-end, i .loop-test .taken);
+      },
+      l .inv .4,
+    )
+
+add-next : tie.Need-add-next Inv-loop μ-loop
+add-next c = omega (arith, id-small (renewed (joined (leaned (c .before .before .before .before)))))
 
 next-requires-2 : tie.Need-next-requires-2 Inv-loop μ-loop
 next-requires-2 c κs =
-    let j = joined (c .before .before) in
+    let j = joined (leaned (c .before .before .before .before)) in
     let n = renewed j in
     let i = turning n in
     let b = begun i in
@@ -301,7 +367,7 @@ next-requires-2 c κs =
 
 loop-less : tie.Need-loop-less Inv-loop μ-loop
 loop-less c =
-    let n = renewed (joined (c .before .before .before)) in
+    let n = renewed (joined (leaned (c .before .before .before .before .before))) in
     let i = turning n in
     let b = begun i in
     let a = entry b in
@@ -311,7 +377,8 @@ loop-less c =
 
 loop-again : tie.Need-loop-again Inv-loop μ-loop
 loop-again c =
-    let k = c .before .before .before in
+    let r = c .before .before .before .before .before in
+    let k = leaned r in
     let j = joined k in
     let n = renewed j in
     let i = turning n in
@@ -319,11 +386,13 @@ loop-again c =
     let a = entry b in
     let l = i .before .loop in
     let f = next-ahead (words-after n) (i .loop-test .taken) in (
-      subst (WalkAt (G a) (a .args .p) (first b) (end b) (a .args .queue .words) (a .args .words .now) (a .args .numbers .now) (j .if1 .waiting .words) (words-after n) (numbers-after n) (j .if1 .shrunk)) (sym (c .next2 .ensures))
-          (come-more (row b) (l .inv .0) (i .loop-test .taken) (turned j)),
+      subst (WalkAt (G a) (a .args .p) (first b) (end b) (a .args .queue .words) (a .args .words .now) (a .args .numbers .now) (j .if1 .waiting .words) (words-after n) (numbers-rested r) (j .if1 .shrunk)) (sym (c .next2 .ensures))
+          (come-more (row b) (l .inv .0) (i .loop-test .taken) (rested r)),
       noted-more (omega (arith, f .0, c .next2 .ensures, l .inv .0 .from-first)) (noted n),
       beside k,
       lean k,
+      r .seek-rest-once-due .ensures .long,
+      r .seek-rest-once-due .ensures .none (doomed n),
     )
 
 returns : tie.Need-returns Inv-loop μ-loop
@@ -357,9 +426,11 @@ visit-spec =
     (λ c κs. search needs) (λ c κs. search needs)
     (λ c. omega (arith, place-small c))
     (λ c. omega (arith, place-small c))
-    renew-requires
+    renew-or-fall-requires
     requeue-requires
     lean-at-requires
+    (λ c. omega (arith, id-small (renewed (joined (c .before .before .before)))))
+    seek-rest-once-due-requires
     add-next
     next-requires-2
     loop-less
