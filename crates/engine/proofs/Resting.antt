@@ -3,7 +3,7 @@
 use mathlib.Core.Path.{_≡_, refl, sym, _∙_, ap, ap₂, subst}
 use mathlib.Core.Bool.{Bool, true, false, _||_}
 use mathlib.Core.Logic.{_⊎_, inl, inr, ⊎-elim}
-use mathlib.Core.List.{List, [], _++_, append-nil}
+use mathlib.Core.List.{List, _++_, append-nil}
 use Prim.Native.Nat.{ℕ, suc, _+_, _-_, _*_, _/_, _%_, _≤_, _<_}
 use native.Mathlib.Decide.{ℕ-discrete, decLt}
 use native.Mathlib.Nat.{mul-le-mul-right}
@@ -35,7 +35,7 @@ use Rattle.lean.proofs.Leaner.{pair-asks}
 use Rattle.lean.proofs.Supports.{lean-supported, lean-first, lean-back}
 use Rattle.together.specs.Together.{Joint, ownAt, ownSize, numbersAt, heldAt, SoundJoint, Frames, Together}
 use Rattle.together.specs.Together as together
-use Rattle.engine.specs.Work.{Bound, Working, Seeker}
+use Rattle.engine.specs.Work.{Bound, Seeker}
 use Rattle.engine.specs.Rest.{HeldAt, SeekingAt, Seeking, Doomed, RestAt, Rested}
 use Rattle.engine.proofs.Bounds.{held-inside, chosen}
 use Rattle.engine.proofs.Steps.{first-bound}

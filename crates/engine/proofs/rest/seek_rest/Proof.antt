@@ -14,7 +14,7 @@ use Rattle.layout.specs.Pairs.{combinationOf}
 use Rattle.layout.proofs.Pairs.{member-below, base-within}
 use Rattle.layout.proofs.Rows.{Row, row-of}
 use Rattle.together.specs.Together.{Joint, SoundJoint, Room, Together}
-use Rattle.engine.specs.Rest.{SeekingAt, Seeking, RestAt, Rested}
+use Rattle.engine.specs.Rest.{SeekingAt, RestAt, Rested}
 use Rattle.engine.proofs.Resting.{joined, member-count, sound-joint, room-joint, seeking-asks, rested-none, rested, dooms, whole-back}
 use Rattle.engine.proofs.rest.seek_rest.Statement.{statement}
 use Rattle.engine.proofs.rest.seek_rest.Tie as tie

@@ -1,6 +1,5 @@
 -- `rest::seek_rest_once_due` meets its contract: nothing is sought, or what `seek_rest` is called for.
 -- From what that ensures.
-use Prim.Native.Nat.{ℕ}
 use native.Mathlib.Omega.{arith}
 use borrow.Author.Needs.{needs}
 use Rattle.engine.proofs.Resting.{rested-none}

@@ -6,11 +6,10 @@ use mathlib.Core.Logic.{⊎-elim}
 use mathlib.Core.List.{List}
 use Prim.Native.Nat.{ℕ, _+_, _-_, _*_, _≤_, _<_}
 use native.Mathlib.Omega.{arith}
-use lib.ListN.{length}
 use borrow.Author.Needs.{needs}
 use Rattle.model.specs.LiveWords.{isLive, nextLive}
 use Rattle.model.proofs.LiveWords.{nextLive-first}
-use Rattle.engine.specs.Rest.{HeldAt, SeekingAt}
+use Rattle.engine.specs.Rest.{HeldAt}
 use Rattle.engine.proofs.Resting.{Raises, raises-none, raises-more}
 use Rattle.engine.proofs.rest.seeking.Statement.{statement}
 use Rattle.engine.proofs.rest.seeking.Tie as tie
