@@ -44,7 +44,7 @@ use worklist::queue::Queue;
 use worklist::queue::requeue;
 
 // So many choices tried make a search together due.
-const MANY: u32 = 1024;
+const MANY: u32 = 16384;
 
 // The steps for a search by a tuple of pair p's member.
 fn steps_at(index: &Index, members: &[u16], m: u16, p: u16) -> u64
