@@ -1,11 +1,13 @@
 /* The filter in plain C, by the algorithm of the proved engine: an index of values by digits, sweeps, a queue of pairs of combination and
  * member; in a visit twins, by sides where the other members fall apart, the seeking tuple tried first, members spread to and narrowed,
- * each search resumed at the fallen support; in a hard search members spread to each other, a sieve of values, and tuples like one that failed passed over; in a visit, what a long
- * search has come to narrows those after it. Tuples are known by id, so that candidates of all relations are one array of words. */
+ * each search resumed at the fallen support; in a hard search members spread to each other, a sieve of values, tuples like one that failed
+ * passed over, and now and then an attempt to show, fewest candidates first, that there is no support at all; after one, doubles left out;
+ * what a long search has come to narrows those after it; and where searches have tried much, all that still seek are sought together. Tuples are known by id, so that candidates of all relations are one array of
+ * words. */
 #include "leaves.h"
 #include <string.h>
 
-enum { TABLE = 9216, MAX_DIGITS = 4, MAX_ROWS = 1024, MAX_SWEEPS = 2, FEW = 8, MANY = 64, FAILURES = 16, LONG = 256, PLACES = 2048, SAMPLE = 32 };
+enum { TABLE = 9216, MAX_DIGITS = 4, MAX_ROWS = 1024, MAX_SWEEPS = 2, FEW = 8, MANY = 128, FAILURES = 16, PATIENCE = 64, CHOICES = 32, LONG = 256, MUCH = 16384, PLACES = 2048, SAMPLE = 32 };
 /* Hashes lie below; so many classes of them are enough; and factors that spread them. */
 static const uint64_t HASHES = 1ull << 32, ENOUGH = 65536, SPREAD = 2654435769, FURTHER = 2246822507, FAR = 1 << 30;
 enum { MAX_SHARED = MAX_WIDTH, MAX_KEPT = MAX_SHARED * MAX_DIGITS };
@@ -29,7 +31,7 @@ typedef struct {
  * one of the ids that have any. */
 typedef struct {
     uint64_t factor;
-    bool spread; /* each digit is of a product of its own */
+    bool spread; /* digits are of mixed bits */
     unsigned digits, rows, parts[MAX_DIGITS], begins[MAX_DIGITS];
     uint64_t table[TABLE];
 } value_index;
@@ -49,6 +51,9 @@ typedef struct {
     const relation *members[MAX_MEMBERS];
     int m, place, own; /* the seeking tuple's member, and the tuple */
     bool bare;         /* a member has no live tuple */
+    long tried;        /* choices by hard searches; after some, */
+    const uint64_t *words; /* which are the live words, become the lean ones, */
+    uint64_t lean[WORDS];  /* without tuples that are like an earlier live one under the variables of all other members */
     uint64_t near, far; /* the variables of the other members, in two sides that share none */
     unsigned places;    /* which members are on the far side */
     uint16_t sought[PLACES]; /* by the hash of its values, the first tuple that was sought in the visit */
@@ -56,6 +61,9 @@ typedef struct {
     columns shared[MAX_MEMBERS][MAX_MEMBERS];
     int steps, nearer[MAX_MEMBERS], farther[MAX_MEMBERS]; /* which members are spread to, through which */
     uint16_t low[MAX_MEMBERS];                            /* where the search resumes */
+    long together;           /* steps of searches for all that seek, */
+    uint64_t pending[WORDS]; /* which are these; */
+    bool settled;            /* those left of them have no support */
     bool noted;              /* a long search has ended: */
     uint64_t fresh[WORDS];   /* every support has one of these beside the member's own tuple */
 } visit;
@@ -136,8 +144,8 @@ static uint64_t divide_rows(value_index *index, unsigned digits) {
     return classes;
 }
 
-/* As few digits as tell all values apart; where fewer make enough classes, or four do not tell them apart, those of products that spread
- * them. Any choice is sound. */
+/* As few digits as tell all values apart; where fewer make enough classes, or four do not tell them apart, those of a product whose bits are
+ * mixed. Any choice is sound. */
 static void choose_digits(value_index *index, const uint32_t *values, size_t count) {
     uint32_t lowest = ANY, most = 0;
     for (size_t i = 0; i < count; i++) {
@@ -160,16 +168,23 @@ static inline unsigned column_row(const filtering *f, const relation *r, int col
     return (unsigned)r->slots[column] * (f->index.rows + 1);
 }
 
+/* A product's upper bits mixed into its lower ones, and back. */
+static inline uint64_t mixed(uint64_t h) {
+    h = (uint32_t)((h ^ h >> 15) * FURTHER);
+    return h ^ h >> 13;
+}
+
 /* The rows that a value has in the relation's column, one for each digit; any has none. */
 static inline unsigned rows_of(const filtering *f, const uint64_t **rows, const relation *r, int column, uint32_t value) {
     const value_index *index = &f->index;
     const unsigned slot = column_row(f, r, column);
     uint64_t h = (uint32_t)(value * index->factor);
     if (value == ANY) return 0;
+    if (index->spread) h = mixed(h);
     for (unsigned i = 0; i < index->digits; i++) {
         uint64_t part = h * index->parts[i];
         rows[i] = index->table + (slot + index->begins[i] + (part >> 32)) * f->words;
-        h = (uint32_t)(index->spread ? h * FURTHER : part);
+        h = (uint32_t)part;
     }
     return index->digits;
 }
@@ -309,7 +324,7 @@ static void find_sides(visit *v) {
 
 static void plan(visit *v, const filtering *f, size_t p) {
     const network *n = f->n;
-    v->f = f, v->m = (int)n->m, v->place = (int)(p % n->m), v->bare = v->noted = false;
+    v->f = f, v->m = (int)n->m, v->place = (int)(p % n->m), v->bare = v->noted = v->settled = false, v->tried = v->together = 0, v->words = f->live;
     for (int j = 0; j < v->m; j++) {
         const relation *r = v->members[j] = f->relations + n->members[p - p % n->m + (size_t)j];
         v->bare |= is_empty(f->live, r);
@@ -424,6 +439,65 @@ static inline int alike_from(uint16_t *table, const relation *r, int x, uint64_t
 
 static int first_alike(uint16_t *table, const relation *r, int x, uint64_t variables) { return alike_from(table, r, x, variables, 0); }
 
+/* ---- Refutation. */
+
+/* Whether a candidate of member j that may agree with tuple x of member i agrees with the seeking tuple. */
+static bool meets(const visit *v, const uint64_t *words, int i, int x, int j) {
+    const relation *s = v->members[j];
+    const uint64_t *rows[MAX_KEPT];
+    unsigned count = rows_of_tuple(v->f, rows, tuple_of(v->members[i], x), s, &v->shared[i][j]);
+    for (int w = s->word; w < s->last; w++) {
+        uint64_t rest = words[w] & inside(s, w);
+        for (unsigned k = 0; k < count && rest; k++) rest &= rows[k][w];
+        for (; rest; rest &= rest - 1)
+            if (agree_at(v->members[v->place], v->own, s, w * 64 + __builtin_ctzll(rest) - s->first)) return true;
+    }
+    return false;
+}
+
+/* Of the members left, one with the fewest candidates. */
+static int fewest(const visit *v, const uint64_t *words, unsigned left) {
+    int best = 0, least = MAX_TUPLES + 1;
+    for (int k = 0; k < v->m; k++) {
+        int count = left >> k & 1 ? count_of(words, v->members[k]) : least;
+        if (count < least) least = count, best = k;
+    }
+    return best;
+}
+
+static bool narrow_left(const visit *v, uint64_t *words, unsigned left, int i, int x) {
+    for (int k = 0; k < v->m; k++)
+        if (left >> k & 1 && v->shared[i][k].count && !narrow(v, words, i, x, k)) return false;
+    return true;
+}
+
+/* Whether no candidates of the members left agree with each other and with the seeking tuple; false also where the steps do not suffice. */
+static bool is_refuted(const visit *v, const uint64_t *words, unsigned left, long *steps) {
+    int i = fewest(v, words, left);
+    const relation *r = v->members[i];
+    unsigned rest = left & ~(1u << i);
+    bool last = !(rest & (rest - 1));
+    for (int g = next_of(words, r, r->first); g < r->end; g = next_of(words, r, g + 1)) {
+        int x = g - r->first;
+        uint64_t fewer[WORDS];
+        if ((*steps -= last ? 1 : 4) < 0) return false;
+        if (!agree_at(v->members[v->place], v->own, r, x)) continue;
+        if (last) {
+            if (!rest || meets(v, words, i, x, __builtin_ctz(rest))) return false;
+            continue;
+        }
+        memcpy(fewer, words, (size_t)v->f->words * sizeof *words);
+        if (narrow_left(v, fewer, rest, i, x) && !is_refuted(v, fewer, rest, steps)) return false;
+    }
+    return true;
+}
+
+/* The same of the members from j on. */
+static bool is_hopeless(const visit *v, const uint64_t *words, int j, long steps) {
+    unsigned others = ((1u << v->m) - 1) & ~(1u << v->place);
+    return is_refuted(v, words, others >> j << j, &steps);
+}
+
 /* ---- A hard search. */
 
 /* The open members from j on, spread to from those that have not half as many candidates as they or as member j. */
@@ -466,12 +540,13 @@ static bool attempt(const visit *v, const uint64_t *words, int j, bool resumes, 
     return narrow_members(v, fewer, j, x, on) && fits(v, j, chosen, x) && search(v, fewer, on, resumes && x == v->low[j], chosen, eager, tried);
 }
 
-/* Member j's candidates from g on, where the search is hard: those are passed over that the sieve stops, or that are like one that failed. */
+/* Member j's candidates from g on, where the search is hard: those are passed over that the sieve stops, or that are like one that failed.
+ * After so many it is tried to show that none leads to a support. */
 static bool comb(const visit *v, const uint64_t *words, int j, bool resumes, uint16_t *chosen, int g, int *tried) {
     const relation *r = v->members[j];
     uint64_t bits, variables = 0;
     uint16_t failed[PLACES];
-    int column = find_sieve(v, words, j, &bits);
+    int column = find_sieve(v, words, j, &bits), patience = PATIENCE;
     for (int k = j + 1; k < v->m; k++)
         if (k != v->place) variables |= v->members[k]->variables;
     memset(failed, 255, sizeof failed);
@@ -480,6 +555,10 @@ static bool comb(const visit *v, const uint64_t *words, int j, bool resumes, uin
         if (column >= 0 && !(bits & bits_of(tuple_of(r, x)[column]))) continue;
         if (!fits(v, j, chosen, x)) continue;
         if (!(resumes && x == v->low[j]) && first_alike(failed, r, x, variables) != x) continue;
+        if (*tried >= patience) {
+            if (is_hopeless(v, words, j, 32 * (long)*tried)) return false;
+            patience *= 4;
+        }
         int behind = 0;
         bool found = attempt(v, words, j, resumes, chosen, x, true, &behind);
         *tried += 1 + behind;
@@ -557,12 +636,13 @@ static bool first_support(visit *v, uint16_t *chosen) {
     uint64_t candidates[WORDS];
     int tried = 0;
     if (v->bare) return false;
-    memcpy(candidates, v->f->live, (size_t)v->f->words * sizeof *candidates);
+    memcpy(candidates, v->words, (size_t)v->f->words * sizeof *candidates);
     if (!narrow_members(v, candidates, v->place, v->own, 0)) return false;
     for (int i = 0; i < v->steps; i++)
         if (!spread(v, candidates, v->nearer[i], v->farther[i], FEW)) return false;
     chosen[v->place] = (uint16_t)v->own;
     bool found = search_fresh(v, candidates, chosen, &tried);
+    v->tried += tried;
     if (tried >= LONG) note(v, candidates, found, chosen);
     return found;
 }
@@ -595,6 +675,25 @@ static twin take_twin(visit *v, uint16_t *held) {
 
 /* ---- The filter. */
 
+/* Of a member but the seeking tuples', the tuples fall that are like an earlier live one. */
+static void drop_doubles(visit *v, int j) {
+    const relation *r = v->members[j];
+    uint16_t table[PLACES];
+    uint64_t variables = 0;
+    for (int k = 0; k < v->m; k++)
+        if (k != j) variables |= v->members[k]->variables;
+    memset(table, 255, sizeof table);
+    for (int g = next_of(v->lean, r, r->first); g < r->end; g = next_of(v->lean, r, g + 1))
+        if (first_alike(table, r, g - r->first, variables) != g - r->first) take(v->lean, g);
+}
+
+static void make_lean(visit *v) {
+    memcpy(v->lean, v->f->live, sizeof v->lean);
+    for (int j = 0; j < v->m; j++)
+        if (j != v->place) drop_doubles(v, j);
+    v->words = v->lean;
+}
+
 static bool all_live(const visit *v, const uint16_t *held) {
     for (int j = 0; j < v->m; j++)
         if (!is_live(v->f->live, v->members[j]->first + held[j])) return false;
@@ -614,6 +713,85 @@ static bool renew(visit *v, uint16_t *held) {
     return true;
 }
 
+/* ---- Supports sought together. */
+
+/* Whether tuple x of member i agrees with all chosen before k. */
+static bool agrees_before(const visit *v, int k, const uint16_t *chosen, int i, int x) {
+    for (int j = 0; j < k; j++)
+        if (j != v->place && !agree_at(v->members[j], chosen[j], v->members[i], x)) return false;
+    return true;
+}
+
+/* The first candidate of member k, which may agree with the seeking tuple, that agrees with it and with all chosen; or the end of its ids. */
+static int first_fitting(const visit *v, const uint64_t *words, int k, const uint16_t *chosen) {
+    const relation *r = v->members[v->place], *s = v->members[k];
+    const uint64_t *rows[MAX_KEPT];
+    unsigned count = rows_of_tuple(v->f, rows, tuple_of(r, v->own), s, &v->shared[v->place][k]);
+    for (int w = s->word; w < s->last; w++) {
+        uint64_t rest = words[w] & inside(s, w);
+        for (unsigned i = 0; i < count && rest; i++) rest &= rows[i][w];
+        for (; rest; rest &= rest - 1) {
+            int g = w * 64 + __builtin_ctzll(rest);
+            if (fits(v, k, chosen, g - s->first)) return g;
+        }
+    }
+    return s->end;
+}
+
+/* Each tuple that still seeks takes the first support with the tuples chosen and one of member k, the last. */
+static void take_last(visit *v, const uint64_t *words, int k, uint16_t *chosen, uint16_t *numbers, long *steps) {
+    const relation *r = v->members[v->place], *s = v->members[k];
+    for (int h = next_of(words, r, r->first); h < r->end && --*steps >= 0; h = next_of(words, r, h + 1)) {
+        v->own = h - r->first;
+        int g = first_fitting(v, words, k, chosen);
+        if (g == s->end || !agrees_before(v, k, chosen, v->place, v->own)) continue;
+        chosen[k] = (uint16_t)(g - s->first), chosen[v->place] = (uint16_t)v->own;
+        memcpy(numbers + v->own * v->m, chosen, (size_t)v->m * sizeof *numbers);
+        take(v->pending, h);
+    }
+}
+
+/* Tuple x of member k chosen: the candidates of the others, and those that still seek; whether each has some. */
+static bool choose(const visit *v, const uint64_t *words, uint64_t *fewer, int k, const uint16_t *chosen, int x) {
+    int on = k + 1 == v->place ? k + 2 : k + 1;
+    if (!agrees_before(v, k, chosen, k, x)) return false;
+    for (int w = 0; w < v->f->words; w++) fewer[w] = words[w] & v->pending[w];
+    if (is_empty(fewer, v->members[v->place])) return false;
+    if (v->shared[k][v->place].count && !narrow(v, fewer, k, x, v->place)) return false;
+    return narrow_members(v, fewer, k, x, on);
+}
+
+/* The same with the tuples chosen for the members before k. */
+static void seek(visit *v, const uint64_t *words, int k, uint16_t *chosen, uint16_t *numbers, long *steps) {
+    const relation *r = v->members[k];
+    uint64_t fewer[WORDS];
+    int on = k + 1 == v->place ? k + 2 : k + 1;
+    if (on == v->m) return take_last(v, words, k, chosen, numbers, steps);
+    for (int g = next_of(words, r, r->first); g < r->end && --*steps >= 0; g = next_of(words, r, g + 1)) {
+        if (!choose(v, words, fewer, k, chosen, g - r->first)) continue;
+        chosen[k] = (uint16_t)(g - r->first);
+        seek(v, fewer, on, chosen, numbers, steps);
+    }
+}
+
+/* All from id `from` on that have no live support, where the searches so far have tried much and more than this has. */
+static void seek_rest(visit *v, uint16_t *numbers, int from) {
+    const relation *r = v->members[v->place];
+    uint16_t chosen[MAX_MEMBERS] = {0};
+    uint64_t words[WORDS];
+    long steps = 2 * v->tried;
+    if (v->settled || v->tried < MUCH || v->together >= v->tried) return;
+    memset(v->pending, 255, sizeof v->pending);
+    for (int g = r->first; g < r->end; g++) {
+        const uint16_t *held = numbers + (g - r->first) * v->m;
+        if (g < from || !is_live(v->f->live, g) || (held[0] != NO_SUPPORT && all_live(v, held))) take(v->pending, g);
+    }
+    for (int w = 0; w < v->f->words; w++) words[w] = v->words[w] & v->pending[w];
+    seek(v, words, v->place == 0, chosen, numbers, &steps);
+    v->together += 2 * v->tried - steps;
+    v->settled = steps > 0;
+}
+
 static bool holds(const network *n, size_t base, uint16_t r) {
     for (size_t j = 0; j < n->m; j++)
         if (n->members[base + j] == r) return true;
@@ -631,6 +809,7 @@ static void requeue(const network *n, uint64_t *queue, size_t p) {
 
 static void visit_pair(const filtering *f, uint64_t *queue, uint16_t *numbers, size_t p) {
     const relation *r = f->relations + f->n->members[p];
+    uint16_t *held = numbers + f->n->pair_starts[p];
     visit v;
     bool fell = false;
     int g = next_of(f->live, r, r->first);
@@ -638,7 +817,9 @@ static void visit_pair(const filtering *f, uint64_t *queue, uint16_t *numbers, s
     plan(&v, f, p);
     for (; g < r->end; g = next_of(f->live, r, g + 1)) {
         v.own = g - r->first;
-        if (!renew(&v, numbers + f->n->pair_starts[p] + (size_t)(v.own * v.m))) take(f->live, g), fell = true;
+        if ((v.settled && is_live(v.pending, g)) || !renew(&v, held + v.own * v.m)) take(f->live, g), fell = true;
+        if (v.tried >= CHOICES && v.words == f->live) make_lean(&v);
+        seek_rest(&v, held, g + 1);
     }
     if (fell) requeue(f->n, queue, p);
 }
