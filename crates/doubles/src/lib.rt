@@ -97,23 +97,6 @@ fn alike_at(
     y
 }
 
-// The same at the place by the hash of x's values.
-pub fn first_alike(
-    variables: &[u16],
-    values: &[Value],
-    starts: &Starts,
-    table: &mut Table,
-    r: u16,
-    x: u16,
-    common: u64,
-) -> u16
-    requires { ⌜ TupleAt (lists now variables values starts) r x × (length (now table) ≡ places) ⌝ }
-    ensures { λ y. ⌜ FirstAlike (lists entry variables values starts) common r x (entry table) y (exit table) ⌝ }
-{
-    let place = tuple_hash(variables, values, starts, r, x, common, 0);
-    alike_at(variables, values, starts, table, r, x, common, place)
-}
-
 // The same at a place, and if a tuple with other values is there, at the next one.
 fn alike_by(
     variables: &[u16],
@@ -145,6 +128,23 @@ fn alike_by(
         common,
         (place + 1) % PLACES,
     )
+}
+
+// The same by the hash of x's values.
+pub fn first_alike(
+    variables: &[u16],
+    values: &[Value],
+    starts: &Starts,
+    table: &mut Table,
+    r: u16,
+    x: u16,
+    common: u64,
+) -> u16
+    requires { ⌜ TupleAt (lists now variables values starts) r x × (length (now table) ≡ places) ⌝ }
+    ensures { λ y. ⌜ FirstAlike (lists entry variables values starts) common r x (entry table) y (exit table) ⌝ }
+{
+    let place = tuple_hash(variables, values, starts, r, x, common, 0);
+    alike_by(variables, values, starts, table, r, x, common, place)
 }
 
 // The same by a hash that begins with the seed.

@@ -9,4 +9,4 @@ first-alike-spec =
     (tie.spec
     (λ c κs. (c .before .before .pre .0, omega arith))
     (λ c κs. let h = c .before in let s = h .before .before .before in (s .pre .0, s .pre .1, h .tuple-hash .ensures))
-    (λ c. c .alike-at .ensures))
+    (λ c. c .alike-by .ensures))
