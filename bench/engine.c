@@ -557,7 +557,7 @@ static bool comb(const visit *v, const uint64_t *words, int j, bool resumes, uin
         if (!(resumes && x == v->low[j]) && first_alike(failed, r, x, variables) != x) continue;
         if (*tried >= patience) {
             if (is_hopeless(v, words, j, 32 * (long)*tried)) return false;
-            patience *= 4;
+            patience *= 16;
         }
         int behind = 0;
         bool found = attempt(v, words, j, resumes, chosen, x, true, &behind);

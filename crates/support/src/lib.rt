@@ -56,7 +56,7 @@ const FAILURES: u16 = 16;
 // .. and long where so many were tried once it was hard: what it has come to is kept in mind.
 const LONG: u16 = 256;
 
-// Once so many were tried, it is looked whether a hard search is hopeless; and again each time after four times as many.
+// Once so many were tried, it is looked whether a hard search is hopeless; and again each time after sixteen times as many.
 const PATIENCE: u16 = 64;
 
 // More choices than this are not counted.
@@ -501,12 +501,12 @@ fn one_more(tried: u16, behind: u16) -> u16 {
     tried + behind + 1
 }
 
-// Four times as many choices, or more than are counted.
+// Sixteen times as many choices, or more than are counted.
 fn longer(patience: u16) -> u16 {
-    if MOST <= patience {
+    if MOST / 16 < patience {
         return 65535;
     }
-    4 * patience
+    16 * patience
 }
 
 // The kind, FOUND or HARD, after so many choices.
