@@ -20,12 +20,16 @@ pub const PLACES: usize = 2048;
 // By the hash of its values, the index of the first tuple that was entered, or 65,535.
 pub type Table = [u16; PLACES];
 
+// A factor that spreads the multiples of many numbers evenly. Of the golden ratio's factors this is not so: multiples of a Fibonacci number fall
+// together.
+const SPREAD: u64 = 1410414543;
+
 // The hash of the values so far and of one more: the upper half of a product added to its lower one, so that all bits count.
 fn mixed(hash: u64, value: Value) -> u64
     requires { ⌜ hash < hashBound ⌝ }
     ensures { λ h. ⌜ h < hashBound ⌝ }
 {
-    let product = (hash + value as u64) * 1640531527;
+    let product = (hash + value as u64) * SPREAD;
     (product / 4294967296 + product % 4294967296) % 4294967296
 }
 

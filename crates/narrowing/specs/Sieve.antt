@@ -21,7 +21,7 @@ allOr false k = 2 ^ k
 
 -- the number of a value's bit, 0 to 63
 abbrev pub bitOf : ℕ → ℕ
-bitOf v = v * 2654435769 % 4294967296 / 67108864
+bitOf v = v * 1410414543 % 4294967296 / 67108864
 
 -- the bits of a value, as a word: of any all, and otherwise one
 unfoldable pub bitsOf : ℕ → ℕ

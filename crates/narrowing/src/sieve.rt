@@ -32,14 +32,14 @@ struct Shared {
     other: u16,
 }
 
-// The bits of a value.
+// The bits of a value. The factor spreads the multiples of many numbers evenly.
 fn bits_of(value: Value) -> u64
     ensures { λ w. ⌜ w ≡ bitsOf value ⌝ }
 {
     if is_any(value) {
         return !0u64;
     }
-    1u64 << (value as u64 * 2654435769 % 4294967296 / 67108864)
+    1u64 << (value as u64 * 1410414543 % 4294967296 / 67108864)
 }
 
 // The bits of the value that tuple x of relation r has in the column.
