@@ -42,11 +42,15 @@ fn has_support(
     own: u16,
     steps: u64,
     fresh: &mut Words,
+    candidates: &mut Words,
+    spare: &mut Words,
 ) -> u16
     requires { ⌜ Long (now words) × Seeking (searching now variables values starts words members place own (lowest place own)) (now index) ⌝ }
     requires { ⌜ Long (now fresh) × MeetsBeside (searching now variables values starts words members place own (lowest place own)) (now fresh) ⌝ }
+    requires { ⌜ Long (now candidates) × Long (now spare) ⌝ }
     ensures { λ k. ⌜ isFound k ≡ hasSupport (searching entry variables values starts words members place own (lowest place own)) ⌝ }
     ensures { λ _. ⌜ Long (exit fresh) × MeetsBeside (searching entry variables values starts words members place own (lowest place own)) (exit fresh) ⌝ }
+    ensures { λ _. ⌜ Long (exit candidates) × Long (exit spare) ⌝ }
 {
     let mut low = [0u16; MAX_MEMBERS];
     low[place] = own;
@@ -62,6 +66,8 @@ fn has_support(
         low,
         steps,
         fresh,
+        candidates,
+        spare,
     );
     found.kind
 }
@@ -89,6 +95,8 @@ fn pair_supported(
     let mut lean = *words;
     let mut tried = 0;
     let mut fresh = [!0u64; WORDS];
+    let mut candidates = [0u64; WORDS];
+    let mut spare = [0u64; WORDS];
     let mut g = next(words, first, end);
     while g < end {
         let kind = has_support(
@@ -102,6 +110,8 @@ fn pair_supported(
             g - first,
             steps,
             &mut fresh,
+            &mut candidates,
+            &mut spare,
         );
         if kind % 2 != FOUND {
             return false;

@@ -54,7 +54,7 @@ fn steps_at(index: &Index, members: &[u16], m: u16, p: u16) -> u64
 }
 
 // What the search of tuple x of pair p's member came to, from the bound that the list holds and over the lean words: its first support is in
-// the list, or the tuple is dead.
+// the list, or the tuple is dead. Two rooms are lent for words that are narrowed on the way.
 fn seek(
     variables: &[u16],
     values: &[Value],
@@ -70,11 +70,15 @@ fn seek(
     steps: u64,
     lean: &Words,
     fresh: &mut Words,
+    candidates: &mut Words,
+    spare: &mut Words,
 ) -> u16
     requires { ⌜ Long (now words) × SeekAt (setting now variables values starts members m) (now index) (now words) (now numbers) p x at ⌝ }
     requires { ⌜ Beside (setting now variables values starts members m) p (now lean) (now fresh) × LeanIn (setting now variables values starts members m) p (now words) (now lean) ⌝ }
+    requires { ⌜ Long (now candidates) × Long (now spare) ⌝ }
     ensures { λ r. ⌜ Renewed (setting entry variables values starts members m) p x (entry words) (entry numbers) (isFound r) (exit words) (exit numbers) ⌝ }
     ensures { λ _. ⌜ Beside (setting entry variables values starts members m) p (entry lean) (exit fresh) ⌝ }
+    ensures { λ _. ⌜ Long (exit candidates) × Long (exit spare) ⌝ }
 {
     let each = wide(m);
     let pair = wide(p);
@@ -97,6 +101,8 @@ fn seek(
         low,
         steps,
         fresh,
+        candidates,
+        spare,
     );
     let kind = found.kind;
     if kind % 2 == FOUND {
@@ -126,12 +132,16 @@ fn replace(
     steps: u64,
     lean: &Words,
     fresh: &mut Words,
+    candidates: &mut Words,
+    spare: &mut Words,
 ) -> u16
     requires { ⌜ Long (now words) × Beside (setting now variables values starts members m) p (now lean) (now fresh) × LeanIn (setting now variables values starts members m) p (now words) (now lean) ⌝ }
     requires { ⌜ RenewAt (setting now variables values starts members m) (now index) (now words) (now numbers) (now sought) p x at sides ⌝ }
+    requires { ⌜ Long (now candidates) × Long (now spare) ⌝ }
     ensures { λ r. ⌜ Renewed (setting entry variables values starts members m) p x (entry words) (entry numbers) (isFound r) (exit words) (exit numbers) ⌝ }
     ensures { λ _. ⌜ Entered x (entry sought) (exit sought) ⌝ }
     ensures { λ _. ⌜ Beside (setting entry variables values starts members m) p (entry lean) (exit fresh) ⌝ }
+    ensures { λ _. ⌜ Long (exit candidates) × Long (exit spare) ⌝ }
 {
     let twin = take_twin(
         variables,
@@ -168,6 +178,8 @@ fn replace(
             steps,
             lean,
             fresh,
+            candidates,
+            spare,
         ),
     }
 }
@@ -190,12 +202,16 @@ pub fn renew(
     steps: u64,
     lean: &Words,
     fresh: &mut Words,
+    candidates: &mut Words,
+    spare: &mut Words,
 ) -> u16
     requires { ⌜ Long (now words) × Beside (setting now variables values starts members m) p (now lean) (now fresh) × LeanIn (setting now variables values starts members m) p (now words) (now lean) ⌝ }
     requires { ⌜ RenewAt (setting now variables values starts members m) (now index) (now words) (now numbers) (now sought) p x at sides ⌝ }
+    requires { ⌜ Long (now candidates) × Long (now spare) ⌝ }
     ensures { λ r. ⌜ Renewed (setting entry variables values starts members m) p x (entry words) (entry numbers) (isFound r) (exit words) (exit numbers) ⌝ }
     ensures { λ _. ⌜ Entered x (entry sought) (exit sought) ⌝ }
     ensures { λ _. ⌜ Beside (setting entry variables values starts members m) p (entry lean) (exit fresh) ⌝ }
+    ensures { λ _. ⌜ Long (exit candidates) × Long (exit spare) ⌝ }
 {
     let each = wide(m);
     if numbers[at] != NO_SUPPORT {
@@ -221,6 +237,8 @@ pub fn renew(
         steps,
         lean,
         fresh,
+        candidates,
+        spare,
     )
 }
 
@@ -243,13 +261,17 @@ fn renew_or_fall(
     lean: &Words,
     fresh: &mut Words,
     doomed: &Words,
+    candidates: &mut Words,
+    spare: &mut Words,
 ) -> u16
     requires { ⌜ Long (now words) × Beside (setting now variables values starts members m) p (now lean) (now fresh) × LeanIn (setting now variables values starts members m) p (now words) (now lean) ⌝ }
     requires { ⌜ RenewAt (setting now variables values starts members m) (now index) (now words) (now numbers) (now sought) p x at sides ⌝ }
     requires { ⌜ Long (now doomed) × Doomed (setting now variables values starts members m) p (now words) (now doomed) ⌝ }
+    requires { ⌜ Long (now candidates) × Long (now spare) ⌝ }
     ensures { λ r. ⌜ Renewed (setting entry variables values starts members m) p x (entry words) (entry numbers) (isFound r) (exit words) (exit numbers) ⌝ }
     ensures { λ _. ⌜ Entered x (entry sought) (exit sought) ⌝ }
     ensures { λ _. ⌜ Beside (setting entry variables values starts members m) p (entry lean) (exit fresh) ⌝ }
+    ensures { λ _. ⌜ Long (exit candidates) × Long (exit spare) ⌝ }
 {
     let id = tuple_start(starts, members[wide(p)]) + x;
     if is_live(doomed, id) {
@@ -273,6 +295,8 @@ fn renew_or_fall(
         steps,
         lean,
         fresh,
+        candidates,
+        spare,
     )
 }
 
@@ -337,6 +361,8 @@ pub fn visit(
     let mut tried = 0;
     let mut fresh = [!0u64; WORDS];
     let mut doomed = [0u64; WORDS];
+    let mut candidates = [0u64; WORDS];
+    let mut spare = [0u64; WORDS];
     let mut effort = Effort {
         tried: 0,
         due: MANY,
@@ -365,6 +391,8 @@ pub fn visit(
             &lean,
             &mut fresh,
             &doomed,
+            &mut candidates,
+            &mut spare,
         );
         if kind % 2 != FOUND {
             if !shrunk {

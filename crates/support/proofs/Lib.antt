@@ -10,3 +10,4 @@ pub mod Narrow
 pub mod Alone
 pub mod Failed
 pub mod Spent
+pub mod Behind

@@ -3,29 +3,32 @@
 use mathlib.Core.Path.{_≡_, refl, sym, _∙_, ap, subst}
 use mathlib.Core.Bool.{Bool, true, false}
 use mathlib.Core.Option.{none}
-use mathlib.Core.List.{List, [], _∷_, _++_, map, List·Memᴰ}
-use mathlib.Core.Logic.{inl, inr}
-use Prim.Native.Nat.{ℕ, suc, _+_, _-_, _≤_, _<_}
+use mathlib.Core.List.{List, [], _∷_, _++_, map, List·Memᴰ, List·Memᴰ·not-nil, List·Memᴰ·cases-cons}
+use mathlib.Core.Logic.{inl, inr, ⊎-elim}
+use Prim.Native.Nat.{ℕ, suc, _+_, _-_, _*_, _/_, _%_, _≤_, _<_}
 use native.Mathlib.Omega.{arith}
-use lib.ListN.{length, getD, drop, length-map, length-drop}
-use lib.Seq.{getD-drop, drop-cons}
+use lib.ListN.{length, getD, take, drop, length-map, length-drop, List·getD-append}
+use lib.Seq.{getD-drop, getD-take, drop-cons, length-take-le, length-front}
 use Rattle.model.specs.Lists.{from}
 use Rattle.model.specs.Network.{Network, size, total, firstId, idsOf, relationOf}
 use Rattle.model.specs.Agreement.{agree}
 use Rattle.model.specs.TupleSet.{has}
-use Rattle.model.specs.LiveWords.{living, isLive}
+use Rattle.model.specs.LiveWords.{wordsFor, living, isSet, isLive}
 use Rattle.model.specs.Combination.{Combination}
 use Rattle.model.specs.Support.{candidates, supportFrom}
-use Rattle.model.proofs.Lists.{all-at, all-intro, from-mem, mem-from, getD-map-in, Picks, pick}
+use Rattle.model.proofs.Lists.{all-at, all-intro, from-mem, mem-from, getD-map-in, Picks, pick, done}
 use Rattle.model.proofs.TupleSet.{has-below}
 use Rattle.model.proofs.Network.{index-bounds, ids-below}
 use Rattle.model.proofs.LiveWords.{living-length, living-has}
 use Rattle.model.proofs.Search.{completion-bare}
+use Rattle.model.proofs.Support.{candidates-picks}
 use Rattle.model.proofs.Narrowing.{Narrower, narrow-all, completion-narrow, supportFrom-narrow, Enough, completion-enough, supportFrom-enough}
-use Rattle.layout.proofs.SoundStarts.{tuples-few}
+use Rattle.layout.specs.Starts.{tupleStart}
+use Rattle.layout.proofs.SoundStarts.{tuple-count, tuples-few}
 use Rattle.narrowing.specs.Narrows.{Later, Others, Narrowed, Bare}
 use Rattle.spreading.specs.Spread.{Held, KeepsSupports}
 use Rattle.support.specs.Search.{Search, netOf, liveOf, idAt, seeker, SoundSearch, chosenIds, Prefix, span, left, sought}
+use Rattle.support.specs.Spent.{MeetsIn}
 use Rattle.support.proofs.Chosen.{chosen-of, chosen-candidate}
 use Rattle.support.proofs.Walking.{members-apart, few-tuples, member-below, span-inside}
 use Rattle.support.proofs.Ends.{sought-first}
@@ -50,9 +53,14 @@ pub record Fewer (Q : Search) (y : ℕ) (words : List ℕ) : Type 0 where
 
 -- ---- Its own words narrowed
 
-module _ (Q : Search) (R : SoundSearch Q) (y : ℕ) (after : List ℕ) (W : Narrowed (netOf Q) y (Q .words) after) where
+-- .. or others, among which the same tuples are live
+module _ (Q : Search) (R : SoundSearch Q) (y : ℕ) (before after : List ℕ) (same : (g : ℕ) → g < total (netOf Q) → isLive before g ≡ isLive (Q .words) g) (W : Narrowed (netOf Q) y before after) where
   id-below : (ws : List ℕ) (g : ℕ) → has (living (total (netOf Q)) ws) g ≡ true → g < total (netOf Q)
   id-below ws g e = subst (λ (n : ℕ). g < n) (living-length (total (netOf Q)) ws) (has-below (living (total (netOf Q)) ws) g e)
+
+  -- an id of the search is live as among these
+  lives-as : (g : ℕ) → g < total (netOf Q) → has (liveOf Q) g ≡ isLive before g
+  lives-as g b = living-has (total (netOf Q)) (Q .words) g b ∙ sym (same g b)
 
   keeps : (g : ℕ) → has (liveOf Q) g ≡ true → agree (netOf Q) y g ≡ true → has (liveOf (onWords Q after)) g ≡ true
   keeps g e a =
@@ -64,21 +72,47 @@ module _ (Q : Search) (R : SoundSearch Q) (y : ℕ) (after : List ℕ) (W : Narr
       living-has (total N) after g b
       ∙ subst (λ (h : ℕ). isLive after h ≡ true) is-g
       (W .keeps (relationOf N g) (g - first) (omega (arith, i .0, i .1)) (ap (agree N y) is-g ∙ a)
-      (ap (isLive (Q .words)) is-g ∙ sym (living-has (total N) (Q .words) g b) ∙ e))
+      (ap (isLive before) is-g ∙ sym (lives-as g b) ∙ e))
 
-  pub fewer-words : length after ≡ 64 → Fewer Q y after
-  fewer-words sized =
+  pub fewer-alike : length after ≡ 64 → Fewer Q y after
+  fewer-alike sized =
       let n = total (netOf Q) in
       record {
         ready = R;
         sized = sized;
         narrower =
             record {
-              inside = λ g e. let b = id-below after g e in living-has n (Q .words) g b ∙ W .inside g (sym (living-has n after g b) ∙ e);
+              inside = λ g e. let b = id-below after g e in lives-as g b ∙ W .inside g (sym (living-has n after g b) ∙ e);
               keeps = keeps;
-              itself = λ e. let b = id-below (Q .words) y e in living-has n after y b ∙ W .itself ∙ sym (living-has n (Q .words) y b) ∙ e;
+              itself = λ e. let b = id-below (Q .words) y e in living-has n after y b ∙ W .itself ∙ sym (lives-as y b) ∙ e;
             };
       }
+
+pub fewer-words : (Q : Search) → SoundSearch Q → (y : ℕ) (after : List ℕ) → Narrowed (netOf Q) y (Q .words) after → length after ≡ 64 → Fewer Q y after
+fewer-words Q R y after = fewer-alike Q R y (Q .words) after (λ g b. refl)
+
+-- the words of all tuples put into a room
+module _ (Q : Search) (R : SoundSearch Q) (n : ℕ) (is-n : n ≡ wordsFor (tupleStart (Q .lists .starts) 64)) where
+  -- they are no more than there are, and have the bits of all tuples
+  pub put-few : (n ≤ 64) × (total (netOf Q) ≤ 64 * n)
+  put-few = let t = tuple-count (R .laid .framed) in let f = few-tuples Q R in (omega arith, omega arith)
+
+  -- .. the same of which are live there
+  pub put-alike : (spare : List ℕ) → length (Q .words) ≡ 64 → (g : ℕ) → g < total (netOf Q) → isLive (take n (Q .words) ++ drop n spare) g ≡ isLive (Q .words) g
+  unfolding isLive
+  put-alike spare long g b =
+      let few = put-few in
+      let t : length (take n (Q .words)) ≡ n = length-take-le n (Q .words) (omega (arith, few .0, long)) in
+      let i : g / 64 < n = omega (arith, few .1) in
+      ap (λ (w : ℕ). isSet w (g % 64)) (List·getD-append (take n (Q .words)) (drop n spare) 0 (g / 64) (omega (arith, t, i)) ∙ getD-take n (Q .words) (g / 64) 0 i)
+
+  -- narrowed there, they are fewer
+  pub fewer-put : (y : ℕ) (spare after : List ℕ) → length (Q .words) ≡ 64 → Narrowed (netOf Q) y (take n (Q .words) ++ drop n spare) after → length after ≡ 64 → Fewer Q y after
+  fewer-put y spare after long = fewer-alike Q R y (take n (Q .words) ++ drop n spare) after (put-alike spare long)
+
+  -- the room stays as long
+  pub put-long : (spare : List ℕ) → length (Q .words) ≡ 64 → length spare ≡ 64 → length (take n (Q .words) ++ drop n spare) ≡ 64
+  put-long spare long room = length-front spare (take n (Q .words)) n (length-take-le n (Q .words) (omega (arith, put-few .0, long)) ∙ sym (length-take-le n spare (omega (arith, put-few .0, room)))) ∙ room
 
 -- where a member has no live tuple left, there is nothing to find
 pub sought-none : (Q : Search) (words : List ℕ) (k : ℕ) (chosen : List ℕ) → Bare (netOf Q) (Q .members) (Q .place) k words → sought (onWords Q words) k chosen ≡ none
@@ -271,6 +305,20 @@ module _ (Q : Search) (after : List ℕ) (k : ℕ) (long : length after ≡ 64) 
           let b = from-mem g (span Q k resumes .end - g) x m in
           let r = getD c k 0 in
           goes-on t (rw (drop-cons c k 0 inside) (pick (mem-from (firstId N r) (size N r) x (omega (arith, i .from-first, l, b .0)) (omega (arith, i .end-is, b .1))) p))
+
+-- ---- Fresh tuples
+
+candidate-below : (N : Network) (c : Combination) {t : List ℕ} {g : ℕ} → Picks (map (idsOf N) c) t → List·Memᴰ g t → g < total N
+candidate-below N [] done m = absurd (List·Memᴰ·not-nil m)
+candidate-below N (r ∷ c) (pick k p) m =
+    ⊎-elim
+    (λ e. subst (λ (g : ℕ). g < total N) (sym e) (ids-below N r k))
+    (λ h. candidate-below N c p h)
+    (List·Memᴰ·cases-cons m)
+
+-- among fewer tuples too, every support has a fresh one
+pub meets-narrowed : (Q : Search) (words fresh : List ℕ) → ((g : ℕ) → g < total (netOf Q) → isLive words g ≡ true → isLive (Q .words) g ≡ true) → MeetsIn Q fresh → MeetsIn (onWords Q words) fresh
+meets-narrowed Q words fresh inside M t m a l = M t m a (λ g k. inside g (candidate-below (netOf Q) (Q .members) (candidates-picks (netOf Q) (Q .members) m) k) (l g k))
 
 -- what there is to find with nothing chosen yet is the first support
 pub root-all : (Q : Search) (words : List ℕ) → Root Q words → (chosen : List ℕ) → sought (onWords Q words) 0 chosen ≡ supportFrom (netOf Q) (liveOf Q) (Q .members) (seeker Q) (Q .low)

@@ -2,14 +2,14 @@
 -- From the laws of the walk, of the tuples chosen and of the search, and the law of one tuple more.
 use mathlib.Core.Path.{_≡_, refl, sym, _∙_, ap, subst}
 use mathlib.Core.Bool.{Bool, true, false, _&&_}
-use mathlib.Core.Logic.{_⊎_}
+use mathlib.Core.Logic.{_⊎_, inl, inr}
 use mathlib.Core.Option.{Option, none, some, orElse}
 use mathlib.Core.List.{List, [], _∷_, _++_, map, List·Memᴰ, List·Memᴰ·tail, Memᴰ·append-right}
 use Prim.Native.Nat.{ℕ, suc, _+_, _-_, _*_, _≤_, _<_}
 use native.Mathlib.Numerals.{add-one}
 use native.Mathlib.Omega.{arith}
 use lib.Dec.{eqb}
-use lib.ListN.{length, getD, drop, set}
+use lib.ListN.{length, getD, take, drop, set}
 use Rattle.model.specs.Lists.{all}
 use Rattle.model.specs.Network.{size, total, firstId, idsOf, relationOf}
 use Rattle.model.specs.Agreement.{agree}
@@ -24,7 +24,8 @@ use Rattle.model.proofs.Search.{completion-dead, completion-clash, reach, reach
 use Rattle.layout.specs.Starts.{tupleStart}
 use Rattle.value_index.specs.Index.{Indexed}
 use Rattle.support.specs.declared.Span.{Span}
-use Rattle.support.specs.Search.{Search, netOf, liveOf, idAt, seeker, SoundSearch, chosenIds, Prefix, SearchAt, fits, Trial, Trials, FittingAt, FirstFitting, onward, span, left, WalkAt, sought}
+use Rattle.support.specs.declared.Walked.{Walked}
+use Rattle.support.specs.Search.{Search, netOf, liveOf, idAt, seeker, SoundSearch, chosenIds, Prefix, SearchAt, fits, Trial, Trials, FittingAt, FirstFitting, onward, span, left, WalkAt, Walks, isFound, answer, sought}
 use Rattle.support.proofs.Chosen.{fits-each, fits-none}
 use Rattle.support.proofs.Prefix.{ids-more, prefix-next}
 use Rattle.support.proofs.Walking.{members-apart, few-tuples, member-below, member-start, member-within, span-inside, walk-whole}
@@ -116,6 +117,11 @@ module _ {Q : Search} {k : ℕ} {resumes : Bool} {chosen : List ℕ} {first begi
 
   pub come-none : (g : ℕ) → WalkAt Q k resumes chosen g → end ≤ g → sought Q k chosen ≡ none
   come-none g C h = sym (C .rest) ∙ reach-none (netOf Q) (liveOf Q) (seeker Q) (Q .low) ids later g stop (omega arith)
+
+  -- a walk that found something, or came to its end, found what there is to find
+  pub come-walked : (w : Walked) → Walks Q k resumes chosen w → (isFound (w .kind) ≡ true) ⊎ ((isFound (w .kind) ≡ false) × (end ≤ w .at)) → answer (isFound (w .kind)) (take (length (Q .members)) (w .tuples)) ≡ sought Q k chosen
+  come-walked w W (inl e) = ap (λ (b : Bool). answer b (take (length (Q .members)) (w .tuples))) e ∙ sym (W .found e)
+  come-walked w W (inr h) = ap (λ (b : Bool). answer b (take (length (Q .members)) (w .tuples))) (h .0) ∙ sym (come-none (w .at) (W .on (h .0)) (h .1))
 
   module _ (g : ℕ) (C : WalkAt Q k resumes chosen g) (h : g < end) where
     before-stop : g < stop

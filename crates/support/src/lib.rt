@@ -19,6 +19,7 @@ use doubles::alike::variables_from;
 use doubles::first_alike;
 use layout::Starts;
 use layout::put;
+use layout::tuple_count;
 use layout::tuple_start;
 use live::WORDS;
 use live::Words;
@@ -26,6 +27,7 @@ use live::clear;
 use live::is_live;
 use live::next;
 use live::put_back;
+use live::words_for;
 use model::MAX_MEMBERS;
 use model::MAX_WIDTH;
 use model::NO_SUPPORT;
@@ -49,6 +51,9 @@ const FEW: u16 = 8;
 
 // .. and in a hard one.
 const MANY: u16 = 128;
+
+// .. and through fresh tuples, where there are at most so many.
+const FRESH: u16 = 32;
 
 // A search is hard where so many choices of one member have failed.
 const FAILURES: u16 = 16;
@@ -280,6 +285,8 @@ fn attempt_last(
     Found { tuples, kind: NONE }
 }
 
+// ---- The hard search
+
 // The first support at or after `low` that has the tuples chosen for the members before k, and tuple x for member k, which is not the last.
 fn attempt(
     variables: &[u16],
@@ -295,7 +302,6 @@ fn attempt(
     resumes: bool,
     chosen: Indices,
     x: u16,
-    eager: bool,
 ) -> Found
     requires { ⌜ Long (now words) × AttemptAt (searching now variables values starts words members place own low) (now index) k resumes chosen x ⌝ }
     ensures { λ f. ⌜ Attempts (searching entry variables values starts words members place own low) k chosen x f ⌝ }
@@ -336,7 +342,7 @@ fn attempt(
     ) {
         if fits(variables, values, starts, members, place, own, k, chosen, x) {
             let resuming = resumes && x == low[k];
-            return search(
+            return comb_all(
                 variables,
                 values,
                 starts,
@@ -349,79 +355,10 @@ fn attempt(
                 on,
                 resuming,
                 tuples,
-                eager,
             );
         }
     }
     Found { tuples, kind: NONE }
-}
-
-// The walk over member k's live tuples from id `from` on, at the turn that `search` is called for. It stops where the search is hard.
-fn walk(
-    variables: &[u16],
-    values: &[Value],
-    starts: &Starts,
-    index: &Index,
-    words: &Words,
-    members: &[u16],
-    place: usize,
-    own: u16,
-    low: Indices,
-    k: usize,
-    resumes: bool,
-    chosen: Indices,
-    from: u16,
-) -> Walked
-    requires { ⌜ Long (now words) × SearchAt (searching now variables values starts words members place own low) (now index) k resumes chosen ⌝ }
-    requires { ⌜ WalkAt (searching now variables values starts words members place own low) k resumes chosen from × (placeBehind place k < length (now members)) ⌝ }
-    ensures { λ w. ⌜ Walks (searching entry variables values starts words members place own low) k resumes chosen w ⌝ }
-{
-    let r = members[k];
-    let first = tuple_start(starts, r);
-    let end = tuple_start(starts, r + 1);
-    let mut failures: u16 = 0;
-    let mut g = from;
-    while g < end {
-        let found = attempt(
-            variables,
-            values,
-            starts,
-            index,
-            words,
-            members,
-            place,
-            own,
-            low,
-            k,
-            resumes,
-            chosen,
-            g - first,
-            false,
-        );
-        let kind = found.kind;
-        if kind % 2 == FOUND {
-            let tuples = found.tuples;
-            return Walked {
-                tuples,
-                kind,
-                at: g,
-            };
-        }
-        g = next(words, g + 1, end);
-        failures += 1;
-        if HARD <= kind || failures == FAILURES {
-            return Walked {
-                tuples: chosen,
-                kind: HARD,
-                at: g,
-            };
-        }
-    }
-    Walked {
-        tuples: chosen,
-        kind: NONE,
-        at: g,
-    }
 }
 
 // The last of so many places but this one.
@@ -603,7 +540,6 @@ fn comb(
                 resumes,
                 chosen,
                 x,
-                true,
             );
             let kind = found.kind;
             tried = one_more(tried, kind / 2);
@@ -623,9 +559,9 @@ fn comb(
     }
 }
 
-// The first support at or after `low` that has the tuples chosen for the members before k, which is not the last. Where it is hard to
-// find, the members from k on are narrowed through each other. An eager search takes it for hard.
-fn search(
+// The same with the tuples chosen for the members before k alone: what `comb` is called for, from the first tuple of member k on, or from where
+// the search resumes.
+fn comb_all(
     variables: &[u16],
     values: &[Value],
     starts: &Starts,
@@ -638,7 +574,6 @@ fn search(
     k: usize,
     resumes: bool,
     chosen: Indices,
-    eager: bool,
 ) -> Found
     requires { ⌜ Long (now words) × SearchAt (searching now variables values starts words members place own low) (now index) k resumes chosen ⌝ }
     requires { ⌜ placeBehind place k < length (now members) ⌝ }
@@ -647,8 +582,111 @@ fn search(
     let span = span_of(starts, members[k], resumes, low[k]);
     let end = span.end;
     let from = next(words, span.start, end);
-    if eager {
-        return comb(
+    comb(
+        variables,
+        values,
+        starts,
+        index,
+        words,
+        members,
+        place,
+        own,
+        low,
+        k,
+        resumes,
+        chosen,
+        from,
+    )
+}
+
+// What `comb` is called for, where the members from k on are narrowed through each other first.
+fn search_hard(
+    variables: &[u16],
+    values: &[Value],
+    starts: &Starts,
+    index: &Index,
+    words: &Words,
+    members: &[u16],
+    place: usize,
+    own: u16,
+    low: Indices,
+    k: usize,
+    resumes: bool,
+    chosen: Indices,
+    from: u16,
+) -> Found
+    requires { ⌜ Long (now words) × SearchAt (searching now variables values starts words members place own low) (now index) k resumes chosen ⌝ }
+    requires { ⌜ WalkAt (searching now variables values starts words members place own low) k resumes chosen from × (placeBehind place k < length (now members)) ⌝ }
+    ensures { λ f. ⌜ Finds (searching entry variables values starts words members place own low) k chosen f ⌝ }
+{
+    let end = tuple_start(starts, members[k] + 1);
+    let mut fewer = *words;
+    let steps = steps_between(index, starts, words, members, place, k);
+    if !spread_members(
+        variables,
+        values,
+        starts,
+        index,
+        &mut fewer,
+        members,
+        place,
+        k,
+        steps,
+        MANY,
+    ) {
+        return Found {
+            tuples: chosen,
+            kind: HARD,
+        };
+    }
+    let again = next(&fewer, from, end);
+    comb(
+        variables,
+        values,
+        starts,
+        index,
+        &fewer,
+        members,
+        place,
+        own,
+        low,
+        k,
+        resumes,
+        chosen,
+        again,
+    )
+}
+
+// ---- The search
+
+// The walk over member k's live tuples from id `from` on, at the turn that `search_two` is called for. It stops where the search is hard.
+fn walk_last(
+    variables: &[u16],
+    values: &[Value],
+    starts: &Starts,
+    index: &Index,
+    words: &Words,
+    members: &[u16],
+    place: usize,
+    own: u16,
+    low: Indices,
+    k: usize,
+    resumes: bool,
+    chosen: Indices,
+    from: u16,
+) -> Walked
+    requires { ⌜ Long (now words) × SearchAt (searching now variables values starts words members place own low) (now index) k resumes chosen ⌝ }
+    requires { ⌜ WalkAt (searching now variables values starts words members place own low) k resumes chosen from × (placeBehind place k < length (now members)) ⌝ }
+    requires { ⌜ placeBehind place (placeBehind place k) ≡ length (now members) ⌝ }
+    ensures { λ w. ⌜ Walks (searching entry variables values starts words members place own low) k resumes chosen w ⌝ }
+{
+    let r = members[k];
+    let first = tuple_start(starts, r);
+    let end = tuple_start(starts, r + 1);
+    let mut failures: u16 = 0;
+    let mut g = from;
+    while g < end {
+        let found = attempt_last(
             variables,
             values,
             starts,
@@ -661,10 +699,57 @@ fn search(
             k,
             resumes,
             chosen,
-            from,
+            g - first,
         );
+        let kind = found.kind;
+        if kind % 2 == FOUND {
+            let tuples = found.tuples;
+            return Walked {
+                tuples,
+                kind,
+                at: g,
+            };
+        }
+        g = next(words, g + 1, end);
+        failures += 1;
+        if failures == FAILURES {
+            return Walked {
+                tuples: chosen,
+                kind: HARD,
+                at: g,
+            };
+        }
     }
-    let walked = walk(
+    Walked {
+        tuples: chosen,
+        kind: NONE,
+        at: g,
+    }
+}
+
+// What `search` is called for, where one member is left behind k.
+fn search_two(
+    variables: &[u16],
+    values: &[Value],
+    starts: &Starts,
+    index: &Index,
+    words: &Words,
+    members: &[u16],
+    place: usize,
+    own: u16,
+    low: Indices,
+    k: usize,
+    resumes: bool,
+    chosen: Indices,
+) -> Found
+    requires { ⌜ Long (now words) × SearchAt (searching now variables values starts words members place own low) (now index) k resumes chosen ⌝ }
+    requires { ⌜ (placeBehind place k < length (now members)) × (placeBehind place (placeBehind place k) ≡ length (now members)) ⌝ }
+    ensures { λ f. ⌜ Finds (searching entry variables values starts words members place own low) k chosen f ⌝ }
+{
+    let span = span_of(starts, members[k], resumes, low[k]);
+    let end = span.end;
+    let from = next(words, span.start, end);
+    let walked = walk_last(
         variables,
         values,
         starts,
@@ -685,29 +770,12 @@ fn search(
     if kind % 2 == FOUND || end <= at {
         return Found { tuples, kind };
     }
-    let mut fewer = *words;
-    let steps = steps_between(index, starts, words, members, place, k);
-    if !spread_members(
+    search_hard(
         variables,
         values,
         starts,
         index,
-        &mut fewer,
-        members,
-        place,
-        k,
-        steps,
-        MANY,
-    ) {
-        return Found { tuples, kind };
-    }
-    let again = next(&fewer, at, end);
-    comb(
-        variables,
-        values,
-        starts,
-        index,
-        &fewer,
+        words,
         members,
         place,
         own,
@@ -715,7 +783,235 @@ fn search(
         k,
         resumes,
         chosen,
-        again,
+        at,
+    )
+}
+
+// What `attempt` is called for, where two members or more are left behind k and the search is not hard yet. They are narrowed in a room lent
+// for it, of which only the words of the network's tuples are written.
+fn attempt_first(
+    variables: &[u16],
+    values: &[Value],
+    starts: &Starts,
+    index: &Index,
+    words: &Words,
+    members: &[u16],
+    place: usize,
+    own: u16,
+    low: Indices,
+    k: usize,
+    resumes: bool,
+    chosen: Indices,
+    x: u16,
+    spare: &mut Words,
+) -> Found
+    requires { ⌜ Long (now words) × AttemptAt (searching now variables values starts words members place own low) (now index) k resumes chosen x ⌝ }
+    requires { ⌜ Long (now spare) × (placeBehind place (placeBehind place k) < length (now members)) ⌝ }
+    ensures { λ f. ⌜ Attempts (searching entry variables values starts words members place own low) k chosen x f ⌝ }
+    ensures { λ _. ⌜ Long (exit spare) ⌝ }
+{
+    let r = members[k];
+    let stage = past_own(place, own, k + 1, put(chosen, k, x));
+    let on = stage.k;
+    let tuples = stage.chosen;
+    put_back(words, spare, words_for(tuple_count(starts)));
+    if narrow_members(
+        variables,
+        values,
+        starts,
+        index,
+        spare,
+        members,
+        place,
+        on,
+        r,
+        x,
+    ) {
+        if fits(variables, values, starts, members, place, own, k, chosen, x) {
+            let resuming = resumes && x == low[k];
+            if place_behind(place, place_behind(place, on)) == members.len() {
+                return search_two(
+                    variables,
+                    values,
+                    starts,
+                    index,
+                    spare,
+                    members,
+                    place,
+                    own,
+                    low,
+                    on,
+                    resuming,
+                    tuples,
+                );
+            }
+            return comb_all(
+                variables,
+                values,
+                starts,
+                index,
+                spare,
+                members,
+                place,
+                own,
+                low,
+                on,
+                resuming,
+                tuples,
+            );
+        }
+    }
+    Found { tuples, kind: NONE }
+}
+
+// The walk over member k's live tuples from id `from` on, at the turn that `search` is called for. It stops where the search is hard.
+fn walk(
+    variables: &[u16],
+    values: &[Value],
+    starts: &Starts,
+    index: &Index,
+    words: &Words,
+    members: &[u16],
+    place: usize,
+    own: u16,
+    low: Indices,
+    k: usize,
+    resumes: bool,
+    chosen: Indices,
+    from: u16,
+    spare: &mut Words,
+) -> Walked
+    requires { ⌜ Long (now words) × SearchAt (searching now variables values starts words members place own low) (now index) k resumes chosen ⌝ }
+    requires { ⌜ WalkAt (searching now variables values starts words members place own low) k resumes chosen from × (placeBehind place k < length (now members)) ⌝ }
+    requires { ⌜ Long (now spare) × (placeBehind place (placeBehind place k) < length (now members)) ⌝ }
+    ensures { λ w. ⌜ Walks (searching entry variables values starts words members place own low) k resumes chosen w ⌝ }
+    ensures { λ _. ⌜ Long (exit spare) ⌝ }
+{
+    let r = members[k];
+    let first = tuple_start(starts, r);
+    let end = tuple_start(starts, r + 1);
+    let mut failures: u16 = 0;
+    let mut g = from;
+    while g < end {
+        let found = attempt_first(
+            variables,
+            values,
+            starts,
+            index,
+            words,
+            members,
+            place,
+            own,
+            low,
+            k,
+            resumes,
+            chosen,
+            g - first,
+            spare,
+        );
+        let kind = found.kind;
+        if kind % 2 == FOUND {
+            let tuples = found.tuples;
+            return Walked {
+                tuples,
+                kind,
+                at: g,
+            };
+        }
+        g = next(words, g + 1, end);
+        failures += 1;
+        if HARD <= kind || failures == FAILURES {
+            return Walked {
+                tuples: chosen,
+                kind: HARD,
+                at: g,
+            };
+        }
+    }
+    Walked {
+        tuples: chosen,
+        kind: NONE,
+        at: g,
+    }
+}
+
+// The first support at or after `low` that has the tuples chosen for the members before k, which is not the last. Where it is hard to find, it is
+// sought by `comb`.
+fn search(
+    variables: &[u16],
+    values: &[Value],
+    starts: &Starts,
+    index: &Index,
+    words: &Words,
+    members: &[u16],
+    place: usize,
+    own: u16,
+    low: Indices,
+    k: usize,
+    resumes: bool,
+    chosen: Indices,
+    spare: &mut Words,
+) -> Found
+    requires { ⌜ Long (now words) × SearchAt (searching now variables values starts words members place own low) (now index) k resumes chosen ⌝ }
+    requires { ⌜ Long (now spare) × (placeBehind place k < length (now members)) ⌝ }
+    ensures { λ f. ⌜ Finds (searching entry variables values starts words members place own low) k chosen f ⌝ }
+    ensures { λ _. ⌜ Long (exit spare) ⌝ }
+{
+    if place_behind(place, place_behind(place, k)) == members.len() {
+        return search_two(
+            variables,
+            values,
+            starts,
+            index,
+            words,
+            members,
+            place,
+            own,
+            low,
+            k,
+            resumes,
+            chosen,
+        );
+    }
+    let span = span_of(starts, members[k], resumes, low[k]);
+    let end = span.end;
+    let from = next(words, span.start, end);
+    let walked = walk(
+        variables,
+        values,
+        starts,
+        index,
+        words,
+        members,
+        place,
+        own,
+        low,
+        k,
+        resumes,
+        chosen,
+        from,
+        spare,
+    );
+    let tuples = walked.tuples;
+    let kind = walked.kind;
+    let at = walked.at;
+    if kind % 2 == FOUND || end <= at {
+        return Found { tuples, kind };
+    }
+    search_hard(
+        variables,
+        values,
+        starts,
+        index,
+        words,
+        members,
+        place,
+        own,
+        low,
+        k,
+        resumes,
+        chosen,
+        at,
     )
 }
 
@@ -890,9 +1186,12 @@ fn search_all(
     place: usize,
     own: u16,
     low: Indices,
+    spare: &mut Words,
 ) -> Found
     requires { ⌜ Long (now words) × Rooted (searching now variables values starts words members place own low) (now index) ⌝ }
+    requires { ⌜ Long (now spare) ⌝ }
     ensures { λ f. ⌜ FindsFirst (searching entry variables values starts words members place own low) f ⌝ }
+    ensures { λ _. ⌜ Long (exit spare) ⌝ }
 {
     let begun = past_own(place, own, 0, low);
     let tuples = begun.chosen;
@@ -909,7 +1208,7 @@ fn search_all(
         begun.k,
         true,
         tuples,
-        false,
+        spare,
     )
 }
 
@@ -925,10 +1224,13 @@ fn search_fresh(
     own: u16,
     low: Indices,
     fresh: &Words,
+    spare: &mut Words,
 ) -> Found
     requires { ⌜ Long (now words) × Rooted (searching now variables values starts words members place own low) (now index) ⌝ }
     requires { ⌜ Long (now fresh) × MeetsIn (searching now variables values starts words members place own low) (now fresh) ⌝ }
+    requires { ⌜ Long (now spare) ⌝ }
     ensures { λ f. ⌜ FindsFirst (searching entry variables values starts words members place own low) f ⌝ }
+    ensures { λ _. ⌜ Long (exit spare) ⌝ }
 {
     let mut fewer = *words;
     if !narrow_to_fresh(
@@ -940,7 +1242,7 @@ fn search_fresh(
         members,
         place,
         fresh,
-        MANY,
+        FRESH,
     ) {
         return Found {
             tuples: low,
@@ -957,6 +1259,7 @@ fn search_fresh(
         place,
         own,
         low,
+        spare,
     )
 }
 
@@ -974,11 +1277,15 @@ pub fn first_support(
     low: Indices,
     steps: u64,
     fresh: &mut Words,
+    candidates: &mut Words,
+    spare: &mut Words,
 ) -> Found
     requires { ⌜ Long (now words) × Seeking (searching now variables values starts words members place own low) (now index) ⌝ }
     requires { ⌜ Long (now fresh) × FreshFrom (searching now variables values starts words members place own low) (now fresh) ⌝ }
+    requires { ⌜ Long (now candidates) × Long (now spare) ⌝ }
     ensures { λ f. ⌜ FindsFirst (searching entry variables values starts words members place own low) f ⌝ }
     ensures { λ _. ⌜ Long (exit fresh) × MeetsBeside (searching entry variables values starts words members place own low) (exit fresh) ⌝ }
+    ensures { λ _. ⌜ Long (exit candidates) × Long (exit spare) ⌝ }
 {
     let none = Found {
         tuples: low,
@@ -1012,13 +1319,13 @@ pub fn first_support(
             tuples,
         );
     }
-    let mut candidates = *words;
+    put_back(words, candidates, words_for(tuple_count(starts)));
     if !narrow_members(
         variables,
         values,
         starts,
         index,
-        &mut candidates,
+        candidates,
         members,
         place,
         0,
@@ -1032,7 +1339,7 @@ pub fn first_support(
         values,
         starts,
         index,
-        &mut candidates,
+        candidates,
         members,
         place,
         0,
@@ -1047,7 +1354,7 @@ pub fn first_support(
             values,
             starts,
             index,
-            &candidates,
+            candidates,
             members,
             place,
             own,
@@ -1055,7 +1362,7 @@ pub fn first_support(
             k,
             true,
             tuples,
-            false,
+            spare,
         )
     } else {
         search_fresh(
@@ -1063,12 +1370,13 @@ pub fn first_support(
             values,
             starts,
             index,
-            &candidates,
+            candidates,
             members,
             place,
             own,
             low,
             fresh,
+            spare,
         )
     };
     if 2 * LONG <= found.kind {
@@ -1077,7 +1385,7 @@ pub fn first_support(
             variables,
             values,
             starts,
-            &candidates,
+            candidates,
             members,
             place,
             own,

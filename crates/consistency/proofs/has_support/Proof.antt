@@ -36,7 +36,7 @@ none-earlier a =
 
 returns : tie.Need-returns
 returns c =
-    let a = c .before .before .before .before .before in
+    let a = c .before .before .before .before .before .before .before in
     let Q = searchOf a in (
       supportFrom-any (netOf Q) (liveOf Q) (seeker Q) (Q .low) (Q .members) (none-earlier a) (isFound (c .first-support .result .kind)) (take (length (Q .members)) (c .first-support .result .tuples)) (c .first-support .ensures .0),
       c .first-support .ensures .1,
@@ -47,5 +47,5 @@ has-support-spec =
     tie.close
     (tie.spec
     (λ c. search needs) (λ c. search needs)
-    (λ c κs. let a = c .before .before .before .before in (a .pre .0, (a .pre .1 .0, record { meets = a .pre .1 .1; lowest = none-earlier a })))
+    (λ c κs. let a = c .before .before .before .before .before .before in (a .pre .0, ((a .pre .1 .0 .0, record { meets = a .pre .1 .0 .1; lowest = none-earlier a }), a .pre .1 .1)))
     returns)

@@ -36,13 +36,15 @@ abbrev LeanIn : Setting → ℕ → List ℕ → List ℕ → Type 0
 LeanIn G p words lean = Lean (G .lists) (combinationOf G p) (p % G .m) words lean
 
 abbrev Inv-loop : tie.InvT-loop
-Inv-loop variables values starts index words members m p steps base stop r first end lean₀ tried₀ fresh₀ g₀ lean tried fresh g =
+Inv-loop variables values starts index words members m p steps base stop r first end lean₀ tried₀ fresh₀ candidates₀ spare₀ g₀ lean tried fresh candidates spare g =
     WalkAt (setting (λ xs. xs) variables values starts members m) words p first end g
     × FreshIn (setting (λ xs. xs) variables values starts members m) p lean fresh
     × LeanIn (setting (λ xs. xs) variables values starts members m) p words lean
+    × Long candidates
+    × Long spare
 
 abbrev μ-loop : tie.MeasureT-loop
-μ-loop variables values starts index words members m p steps base stop r first end lean₀ tried₀ fresh₀ g₀ lean tried fresh g = end - g
+μ-loop variables values starts index words members m p steps base stop r first end lean₀ tried₀ fresh₀ candidates₀ spare₀ g₀ lean tried fresh candidates spare g = end - g
 
 -- ---- What it is called on
 
@@ -90,7 +92,7 @@ begun c = c .before .before .before .before .before
 
 has-support-requires : tie.Need-has-support-requires Inv-loop μ-loop
 has-support-requires c κs =
-    let turn = c .before .before .before in
+    let turn = c .before .before .before .before .before in
     let b = begun turn in
     let a = entry b in
     let l = turn .before .loop in (
@@ -101,11 +103,11 @@ has-support-requires c κs =
           indexed = asked a .indexed;
         },
       ),
-      (l .inv .1 .0, rw add-sub-cancel-left (l .inv .1 .1)),
+      ((l .inv .1 .0, rw add-sub-cancel-left (l .inv .1 .1)), (l .inv .3, l .inv .4)),
     )
 
 abbrev turning : tie.After-has-support Inv-loop μ-loop → tie.In-loop Inv-loop μ-loop
-turning c = c .before .before .before .before
+turning c = c .before .before .before .before .before .before
 
 -- what is answered of the tuple at g
 decided : (c : tie.After-has-support Inv-loop μ-loop) → (let turn = turning c in let b = begun turn in isFound (c .has-support .result) ≡ hasSupport (searched (words-of b) (long b) (row b) (turn .before .loop .inv .0) (turn .loop-test .taken) (words-of b)))
@@ -146,8 +148,8 @@ beside c =
     let turn = turning h in
     let a = entry (begun turn) in
     let fresh = h .has-support .last .1 .1 .1 .1 .1 .1 .1 .1 .1 .0 in
-    let met : 1 < length (combinationOf (G a) (a .args .p)) → Meets (network (G a)) (combinationOf (G a) (a .args .p)) (a .args .p % a .args .m) (turn .before .loop .lean) fresh = rw add-sub-cancel-left at (h .has-support .ensures .1 .1) in
-    (h .has-support .ensures .1 .0, λ two. meets-fewer (network (G a)) (combinationOf (G a) (a .args .p)) (a .args .p % a .args .m) (turn .before .loop .lean) (lean-after c) fresh (leaner c .1) (met two))
+    let met : 1 < length (combinationOf (G a) (a .args .p)) → Meets (network (G a)) (combinationOf (G a) (a .args .p)) (a .args .p % a .args .m) (turn .before .loop .lean) fresh = rw add-sub-cancel-left at (h .has-support .ensures .1 .0 .1) in
+    (h .has-support .ensures .1 .0 .0, λ two. meets-fewer (network (G a)) (combinationOf (G a) (a .args .p)) (a .args .p % a .args .m) (turn .before .loop .lean) (lean-after c) fresh (leaner c .1) (met two))
 
 lean : (c : tie.After-lean-once-hard Inv-loop μ-loop) → (let a = entry (begun (turning (sought c))) in LeanIn (G a) (a .args .p) (a .args .words .now) (lean-after c))
 lean c =
@@ -172,6 +174,8 @@ loop-again c =
           (walk-goes (words-of b) (long b) (row b) (turn .before .loop .inv .0) (turn .loop-test .taken) (sym (eq-eqb (h .has-support .result % 2) 1 (k .before .before .before .if1 .left)) ∙ decided h)),
       beside k,
       lean k,
+      h .has-support .ensures .1 .1 .0,
+      h .has-support .ensures .1 .1 .1,
     )
 
 pub pair-supported-spec : {M : Type 1} → statement M
@@ -189,7 +193,7 @@ pair-supported-spec =
     (λ c. omega (arith, few (c .before .before .before .before .before .before)))
     (λ c κs. omega (arith, few (c .before .before .before .before .before .before)))
     (λ c κs. let b = c .before .before in asks b (first b) (omega (arith, row b .is-end)))
-    (λ c. let b = c .before .before .before in let a = entry b in (subst (WalkAt (G a) (a .args .words .now) (a .args .p) (first b) (b .tuple-start2 .result)) (sym (c .next .ensures)) (walk-starts (words-of b) (long b) (row b)), (refl, meets-ones (network (G a)) (tuples-few (asked a .sound .laid .framed)) (combinationOf (G a) (a .args .p)) (a .args .p % a .args .m) (a .args .words .now)), lean-same (G a .lists) (combinationOf (G a) (a .args .p)) (a .args .p % a .args .m) (a .args .words .now) (a .pre .0) .0))
+    (λ c. let b = c .before .before .before in let a = entry b in (subst (WalkAt (G a) (a .args .words .now) (a .args .p) (first b) (b .tuple-start2 .result)) (sym (c .next .ensures)) (walk-starts (words-of b) (long b) (row b)), (refl, meets-ones (network (G a)) (tuples-few (asked a .sound .laid .framed)) (combinationOf (G a) (a .args .p)) (a .args .p % a .args .m) (a .args .words .now)), lean-same (G a .lists) (combinationOf (G a) (a .args .p)) (a .args .p % a .args .m) (a .args .words .now) (a .pre .0) .0, refl, refl))
     (λ c. omega (arith, within (entry (begun (c .before)))))
     (λ c. omega (arith, within (entry (begun (c .before)))))
     (λ c. omega (arith, within (entry (begun (c .before)))))

@@ -2,12 +2,12 @@
 -- search came to is noted. From the laws of members, of narrowed words, of the search's two ends, and of what is spent.
 use mathlib.Core.Path.{_≡_, refl, sym, _∙_, ap, subst}
 use mathlib.Core.Bool.{true}
-use mathlib.Core.List.{List}
+use mathlib.Core.List.{List, _++_}
 use mathlib.Core.Logic.{⊎-elim}
 use Prim.Native.Nat.{ℕ, _+_, _<_}
 use native.Mathlib.Omega.{arith}
 use lib.Dec.{ltb}
-use lib.ListN.{length, getD}
+use lib.ListN.{length, getD, take, drop}
 use lib.Seq.{getD-take}
 use borrow.Kind.Array.{eInt, good-length}
 use mir.Syntax.{w16}
@@ -16,17 +16,18 @@ use borrow.Author.Tests.{not-true, not-false}
 use Rattle.model.specs.Lists.{all, pairwise}
 use Rattle.model.specs.Network.{size, total}
 use Rattle.model.specs.TupleSet.{has}
-use Rattle.model.specs.LiveWords.{isLive}
+use Rattle.model.specs.LiveWords.{wordsFor, isLive}
 use Rattle.model.specs.Support.{supportFrom}
 use Rattle.model.proofs.Bools.{and-right}
 use Rattle.model.proofs.LiveWords.{living-has}
-use Rattle.spreading.proofs.Meeting.{meets-fewer}
+use Rattle.layout.specs.Starts.{tupleStart}
+use Rattle.narrowing.specs.Narrows.{Long, Narrowed}
 use Rattle.support.specs.declared.Found.{Found}
 use Rattle.support.specs.declared.Stage.{Stage}
 use Rattle.support.specs.Search.{Search, netOf, liveOf, seeker, SoundSearch, placeBehind, isFound, sought, FindsFirst}
 use Rattle.support.specs.Spent.{Notes, MeetsIn}
 use Rattle.support.proofs.Walking.{few-tuples, member-below, member-start}
-use Rattle.support.proofs.Narrow.{others, onWords, Fewer, fewer-words, sought-none, Root, root-narrowed, root-spread, root-all}
+use Rattle.support.proofs.Narrow.{others, onWords, Fewer, put-few, put-alike, fewer-put, put-long, meets-narrowed, sought-none, Root, root-narrowed, root-spread, root-all}
 use Rattle.support.proofs.Ends.{prefix-none, sought-first, turn-done, seeker-below, sought-dead}
 use Rattle.support.proofs.Own.{NextStage, next-stage, behind-within}
 use Rattle.support.proofs.Spent.{two-open, first-open, found-within, notes-meet}
@@ -94,23 +95,44 @@ turn-inside c = omega (arith, stage (staged c) .prefix .depth, c .before .if2 .l
 
 -- ---- The words, narrowed
 
-abbrev placed : tie.After-narrow-members → tie.After-past-own
-placed n = n .before .before .before .before .before .before .before
+-- before they are put into the room lent
+abbrev entered : tie.After-words-for → tie.Else3
+entered w = w .before .before .before
+
+abbrev placed : tie.After-words-for → tie.After-past-own
+placed w = staged (entered w .before)
+
+-- how many words the tuples have
+count-is : (w : tie.After-words-for) → w .words-for .result ≡ wordsFor (tupleStart (begun (placed w) .args .starts .now) 64)
+count-is w = w .words-for .ensures ∙ ap wordsFor (w .before .tuple-count .ensures)
+
+abbrev put : tie.After-narrow-members → tie.After-words-for
+put n = n .before .before .before
+
+-- the room as it is then
+abbrev room : tie.After-words-for → List ℕ
+room w = take (w .words-for .result) (begun (placed w) .args .words .now) ++ drop (w .words-for .result) (begun (placed w) .args .candidates .now)
 
 abbrev start : tie.After-narrow-members → tie.Start
-start n = begun (placed n)
+start n = begun (placed (put n))
 
 abbrev fewer : tie.After-narrow-members → List ℕ
 fewer n = n .narrow-members .last .1 .1 .1 .1 .0
 
+-- the words of the room, narrowed
+narrowed-room : (n : tie.After-narrow-members) → Narrowed (netOf (searchOf (start n))) (seeker (searchOf (start n))) (room (put n)) (fewer n)
+narrowed-room n =
+    let a = start n in
+    subst (λ (ws : List ℕ). Narrowed (netOf (searchOf a)) (seeker (searchOf a)) ws (fewer n)) (n .before .before .put-back .ensures) (n .narrow-members .ensures .1 .0)
+
 over : (n : tie.After-narrow-members) → Fewer (searchOf (start n)) (seeker (searchOf (start n))) (fewer n)
 over n =
     let a = start n in
-    fewer-words (searchOf a) (a .pre .0 .1 .sound) (seeker (searchOf a)) (fewer n) (n .narrow-members .ensures .1 .0) (n .narrow-members .ensures .0)
+    fewer-put (searchOf a) (a .pre .0 .1 .sound) (put n .words-for .result) (count-is (put n)) (seeker (searchOf a)) (a .args .candidates .now) (fewer n) (a .pre .0 .0) (narrowed-room n) (n .narrow-members .ensures .0)
 
 -- the search may begin over them
 root : (n : tie.After-narrow-members) → Root (searchOf (start n)) (fewer n)
-root n = root-narrowed (searchOf (start n)) (fewer n) (over n) (lives (placed n))
+root n = root-narrowed (searchOf (start n)) (fewer n) (over n) (lives (placed (put n)))
 
 -- ---- .. and members through others
 
@@ -139,9 +161,10 @@ module _ (c : tie.After-spread-members) where
 
 narrow-members-requires : tie.Need-narrow-members-requires
 narrow-members-requires c κs =
-    let a = begun (c .before .before .before .before .before .before) in
+    let w = c .before .before in
+    let a = begun (placed w) in
     let R = a .pre .0 .1 .sound in
-    (a .pre .0 .0, (record { laid = R .laid; indexed = a .pre .0 .1 .indexed; own = R .own }, others (searchOf a) R (a .args .place) 0 (R .place) (λ j l e. l .other (sym e))))
+    (subst Long (sym (c .before .put-back .ensures)) (put-long (searchOf a) R (w .words-for .result) (count-is w) (a .args .candidates .now) (a .pre .0 .0) (a .pre .1 .1 .0)), (record { laid = R .laid; indexed = a .pre .0 .1 .indexed; own = R .own }, others (searchOf a) R (a .args .place) 0 (R .place) (λ j l e. l .other (sym e))))
 
 -- the only member is the seeking tuple's
 returns-2 : tie.Need-returns-2
@@ -153,7 +176,7 @@ returns-2 c =
           (sym (sought-first (sent p) (a .args .low))
           ∙ sym (S .same)
           ∙ turn-done (sent p) (a .pre .0 .1 .sound) true (p .past-own .result .chosen) (S .sized) (p .past-own .result .k) (c .if2 .taken) (S .prefix)),
-      (a .pre .1 .0, a .pre .1 .1 .meets),
+      ((a .pre .1 .0 .0, a .pre .1 .0 .1 .meets), a .pre .1 .1),
     )
 
 search-last-requires : tie.Need-search-last-requires
@@ -166,14 +189,14 @@ search-last-requires c κs =
     )
 
 returns-3 : tie.Need-returns-3
-returns-3 c = let p = staged (c .before .before) in let a = begun p in (c .search-last .ensures ∙ stage p .same ∙ sought-first (sent p) (a .args .low), (a .pre .1 .0, a .pre .1 .1 .meets))
+returns-3 c = let p = staged (c .before .before) in let a = begun p in (c .search-last .ensures ∙ stage p .same ∙ sought-first (sent p) (a .args .low), ((a .pre .1 .0 .0, a .pre .1 .0 .1 .meets), a .pre .1 .1))
 
 returns-4 : tie.Need-returns-4
 returns-4 c =
     let n = c .before in
     let Q = searchOf (start n) in
     let a = start n in
-    (sym (sym (root-all Q (fewer n) (root n) (a .args .low)) ∙ sought-none Q (fewer n) 0 (a .args .low) (n .narrow-members .ensures .1 .1 (not-true _ (c .if4 .taken)))), (a .pre .1 .0, a .pre .1 .1 .meets))
+    (sym (sym (root-all Q (fewer n) (root n) (a .args .low)) ∙ sought-none Q (fewer n) 0 (a .args .low) (n .narrow-members .ensures .1 .1 (not-true _ (c .if4 .taken)))), ((a .pre .1 .0 .0, a .pre .1 .0 .1 .meets), (n .narrow-members .ensures .0, a .pre .1 .1 .1)))
 
 spread-members-requires : tie.Need-spread-members-requires
 spread-members-requires c κs =
@@ -186,30 +209,30 @@ returns-5 : tie.Need-returns-5
 returns-5 c =
     let n = c .before in
     let a = start (before n) in
-    (sym (sym (all-there n) ∙ sought-none (given n) (fewest n) 0 (a .args .low) (n .spread-members .ensures .1 .1 (not-true _ (c .if5 .taken)))), (a .pre .1 .0, a .pre .1 .1 .meets))
+    (sym (sym (all-there n) ∙ sought-none (given n) (fewest n) 0 (a .args .low) (n .spread-members .ensures .1 .1 (not-true _ (c .if5 .taken)))), ((a .pre .1 .0 .0, a .pre .1 .0 .1 .meets), (n .spread-members .ensures .0, a .pre .1 .1 .1)))
 
 abbrev ahead : tie.After-spread-members → tie.Else3
-ahead n = before n .before .before .before
+ahead n = entered (put (before n))
 
 -- two other members or more
 further : (n : tie.After-spread-members) →
-    let p = placed (before n) in
+    let p = placed (put (before n)) in
     placeBehind (begun p .args .place) (p .past-own .result .k) < length (begun p .args .members .now)
 further n =
-    let p = placed (before n) in
+    let p = placed (put (before n)) in
     let a = begun p in
     let e = ahead n in
     omega (arith, behind-within (a .args .place) (p .past-own .result .k) (length (a .args .members .now)) (turn-inside (e .before)) (a .pre .0 .1 .sound .place), e .before .place-behind .ensures, e .if3 .left)
 
 -- the search's first stage
 open-stage : (n : tie.After-spread-members) →
-    let p = placed (before n) in
+    let p = placed (put (before n)) in
     NextStage (narrowed n) true 0 (begun p .args .low) (p .past-own .result)
-open-stage n = stage-over (placed (before n)) (fewest n) (begins n)
+open-stage n = stage-over (placed (put (before n))) (fewest n) (begins n)
 
 search-requires : tie.Need-search-requires
 search-requires c κs =
-    let n = c .before .before .before .before .before .before .before in
+    let n = c .before .before .before .before .before .before .before .before in
     let S = open-stage n in (
       (
         n .spread-members .ensures .0,
@@ -221,13 +244,13 @@ search-requires c κs =
           other = S .other;
         },
       ),
-      further n,
+      (start (before n) .pre .1 .1 .1, further n),
     )
 
 search-fresh-requires : tie.Need-search-fresh-requires
 search-fresh-requires c κs =
-    let n = c .before .before .before .before .before .before .before .before in
-    let p = placed (before n) in
+    let n = c .before .before .before .before .before .before .before .before .before in
+    let p = placed (put (before n)) in
     let a = begun p in (
       (
         n .spread-members .ensures .0,
@@ -238,10 +261,15 @@ search-fresh-requires c κs =
         },
       ),
       (
-        a .pre .1 .0,
-        meets-fewer (netOf (given n)) (a .args .members .now) (a .args .place) (a .args .words .now) (fewest n) (a .args .fresh .now)
-            (λ g l. before n .narrow-members .ensures .1 .0 .inside g (n .spread-members .ensures .1 .0 .inside g l))
-            (a .pre .1 .1 .meets (two-open (a .args .place) (p .past-own .result .k) (length (a .args .members .now)) (further n))),
+        (
+          a .pre .1 .0 .0,
+          meets-narrowed (given n) (fewest n) (a .args .fresh .now)
+              (λ g b l.
+              sym (put-alike (given n) (a .pre .0 .1 .sound) (put (before n) .words-for .result) (count-is (put (before n))) (a .args .candidates .now) (a .pre .0 .0) g b)
+              ∙ narrowed-room (before n) .inside g (n .spread-members .ensures .1 .0 .inside g l))
+              (a .pre .1 .0 .1 .meets (two-open (a .args .place) (p .past-own .result .k) (length (a .args .members .now)) (further n))),
+        ),
+        a .pre .1 .1 .1,
       ),
     )
 
@@ -263,30 +291,34 @@ module _ (c : tie.Joined6) where
   finds : FindsFirst whole result
   finds =
       ⊎-elim
-      (λ w. subst (FindsFirst whole) (sym (w .3)) (w .2 .ensures ∙ open-stage spread .same ∙ all-there spread))
-      (λ w. subst (FindsFirst whole) (sym (w .4)) (w .3 .ensures ∙ begins spread .same))
+      (λ w. subst (FindsFirst whole) (sym (w .5)) (w .3 .ensures .0 ∙ open-stage spread .same ∙ all-there spread))
+      (λ w. subst (FindsFirst whole) (sym (w .6)) (w .4 .ensures .0 ∙ begins spread .same))
       (c .if6 .came)
+
+  -- the rooms are as long as before
+  rooms : Long (fewest spread) × Long (c .if6 .spare)
+  rooms = (spread .spread-members .ensures .0, ⊎-elim (λ w. subst Long (sym (w .4)) (w .3 .ensures .1)) (λ w. subst Long (sym (w .5)) (w .4 .ensures .1)) (c .if6 .came))
 
   rises : pairwise ltb (asked .args .members .now) ≡ true
   rises = and-right (all (λ (r : ℕ). ltb r (length (netOf whole .relations))) (asked .args .members .now)) (pairwise ltb (asked .args .members .now)) (asked .pre .0 .1 .sound .members)
 
   abbrev at : ℕ
-  at = placed (before spread) .past-own .result .k
+  at = placed (put (before spread)) .past-own .result .k
 
   at-inside : at < length (asked .args .members .now)
   at-inside = turn-inside (ahead spread .before)
 
   within : isFound (result .kind) ≡ true → getD (result .tuples) at 0 < size (netOf whole) (getD (asked .args .members .now) at 0)
   within e =
-      let f = found-within whole (asked .pre .0 .1 .sound) (lives (placed (before spread))) (asked .pre .1 .1 .lowest) rises (isFound (result .kind)) (result .tuples) finds e at at-inside in
+      let f = found-within whole (asked .pre .0 .1 .sound) (lives (placed (put (before spread)))) (asked .pre .1 .0 .1 .lowest) rises (isFound (result .kind)) (result .tuples) finds e at at-inside in
       omega (arith, f, getD-take (length (asked .args .members .now)) (result .tuples) at 0 at-inside)
 
   -- every support has a fresh tuple afterwards
   meets : (fresh : List ℕ) → Notes (netOf whole) (asked .args .members .now) (asked .args .place) (asked .args .own) at (isFound (result .kind)) (getD (result .tuples) at 0) fresh → MeetsIn whole fresh
   meets fresh K =
-      notes-meet whole (asked .pre .0 .1 .sound) (lives (placed (before spread))) (asked .pre .1 .1 .lowest) rises (isFound (result .kind)) (result .tuples) finds at at-inside
-      (stage (placed (before spread)) .other)
-      (first-open (asked .args .place) (asked .args .own) (asked .args .low) (placed (before spread) .past-own .result) (placed (before spread) .past-own .ensures))
+      notes-meet whole (asked .pre .0 .1 .sound) (lives (placed (put (before spread)))) (asked .pre .1 .0 .1 .lowest) rises (isFound (result .kind)) (result .tuples) finds at at-inside
+      (stage (placed (put (before spread))) .other)
+      (first-open (asked .args .place) (asked .args .own) (asked .args .low) (placed (put (before spread)) .past-own .result) (placed (put (before spread)) .past-own .ensures))
       fresh
       (subst (λ (t : ℕ). Notes (netOf whole) (asked .args .members .now) (asked .args .place) (asked .args .own) at (isFound (result .kind)) t fresh) (sym (getD-take (length (asked .args .members .now)) (result .tuples) at 0 at-inside)) K)
 
@@ -294,17 +326,17 @@ note-requires : tie.Need-note-requires
 note-requires c κs =
     let f = c .before .before .before .before .before .before in
     let n = spread f in
-    ((n .spread-members .ensures .0, asked f .pre .1 .0), record { low = asked f .args .low; sound = begins n .sound; inside = at-inside f; index = within f })
+    ((n .spread-members .ensures .0, asked f .pre .1 .0 .0), record { low = asked f .args .low; sound = begins n .sound; inside = at-inside f; index = within f })
 
 returns-6 : tie.Need-returns-6
 returns-6 c =
     let f = c .before .before .before .before .before .before .before in
-    (finds f, (c .note .ensures .long, λ _. meets f _ (c .note .ensures)))
+    (finds f, ((c .note .ensures .long, λ _. meets f _ (c .note .ensures)), rooms f))
 
 returns-7 : tie.Need-returns-7
 returns-7 c =
     let f = c .before .before in
-    (finds f, (asked f .pre .1 .0, asked f .pre .1 .1 .meets))
+    (finds f, ((asked f .pre .1 .0 .0, asked f .pre .1 .0 .1 .meets), rooms f))
 
 pub first-support-spec : {M : Type 1} → statement M
 first-support-spec =
@@ -315,12 +347,15 @@ first-support-spec =
     (λ c κs. let a = c .before .before .before .before .before in omega (arith, member-below (searchOf a) (a .pre .0 .1 .sound) (a .args .place) (a .pre .0 .1 .sound .place)))
     (λ c. let a = c .before .before .before .before .before .before in omega (arith, own-below c, few-tuples (searchOf a) (a .pre .0 .1 .sound)))
     (λ c κs. let a = c .before .before .before .before .before .before in omega (arith, own-below c, a .pre .0 .1 .sound .words))
-    (λ c. let a = c .before .before .before .before .before .before .before .before in (sym (sought-dead (searchOf a) (own-lives (c .before) ∙ not-true _ (c .if1 .taken))), (a .pre .1 .0, a .pre .1 .1 .meets)))
+    (λ c. let a = c .before .before .before .before .before .before .before .before in (sym (sought-dead (searchOf a) (own-lives (c .before) ∙ not-true _ (c .if1 .taken))), ((a .pre .1 .0 .0, a .pre .1 .0 .1 .meets), a .pre .1 .1)))
     (λ c κs. let R = c .before .before .before .before .before .before .before .before .pre .0 .1 .sound in omega (arith, R .place, R .few))
     returns-2
     (λ c κs. let p = c .before .before in omega (arith, stage p .prefix .depth, c .if2 .left, begun p .pre .0 .1 .sound .few))
     search-last-requires
     returns-3
+    (λ c κs. search needs)
+    (λ c κs. search needs)
+    (λ w κs. let a = begun (placed w) in let few = put-few (searchOf a) (a .pre .0 .1 .sound) (w .words-for .result) (count-is w) .0 in (a .pre .0 .0, (few, omega (arith, few, a .pre .1 .1 .0))))
     narrow-members-requires
     returns-4
     spread-members-requires
@@ -329,7 +364,7 @@ first-support-spec =
     (λ c κs.
     let a = start (before (c .before .before .before .before)) in
     let R = a .pre .0 .1 .sound in
-    omega (arith, c .tuple-start2 .ensures, member-start (searchOf a) R (a .args .place) (R .place), seeker-below (searchOf a) R, few-tuples (searchOf a) R, a .pre .1 .0))
+    omega (arith, c .tuple-start2 .ensures, member-start (searchOf a) R (a .args .place) (R .place), seeker-below (searchOf a) R, few-tuples (searchOf a) R, a .pre .1 .0 .0))
     search-requires
     search-fresh-requires
     (λ c. search needs)

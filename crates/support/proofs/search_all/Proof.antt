@@ -32,7 +32,7 @@ module _ (c : tie.After-past-own) where
   start = c .before .before .before .before
 
   abbrev rooted : Rooted (searchOf start) (start .args .index .now)
-  rooted = start .pre .1
+  rooted = start .pre .0 .1
 
   low-length : length (start .args .low) ≡ 4
   low-length = good-length (eInt w16) 4 (start .args .low) _ (start .good .1 .1 .1 .1 .1 .1 .1 .1 .0)
@@ -45,11 +45,11 @@ module _ (c : tie.After-past-own) where
 
 search-requires : tie.Need-search-requires
 search-requires c κs =
-    let p = c .before in
+    let p = c .before .before in
     let a = start p in
     let S = stage p in (
-      (a .pre .0, record { seeking = rooted p .seeking; prefix = S .prefix; lives = rooted p .lives; inside = before-behind (a .args .place) (p .past-own .result .k) (length (a .args .members .now)) (further p); other = S .other }),
-      further p,
+      (a .pre .0 .0, record { seeking = rooted p .seeking; prefix = S .prefix; lives = rooted p .lives; inside = before-behind (a .args .place) (p .past-own .result .k) (length (a .args .members .now)) (further p); other = S .other }),
+      (a .pre .1, further p),
     )
 
 pub search-all-spec : {M : Type 1} → statement M
@@ -58,4 +58,4 @@ search-all-spec =
     (tie.spec
     (λ c κs. search needs)
     search-requires
-    (λ c. let p = c .before .before in c .search .ensures ∙ stage p .same ∙ sought-first (searchOf (start p)) (start p .args .low)))
+    (λ c. let p = c .before .before .before in (c .search .ensures .0 ∙ stage p .same ∙ sought-first (searchOf (start p)) (start p .args .low), c .search .ensures .1)))

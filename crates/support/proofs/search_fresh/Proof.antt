@@ -48,7 +48,7 @@ narrow-to-fresh-requires : tie.Need-narrow-to-fresh-requires
 narrow-to-fresh-requires c κs =
     let a = c .before .before .before .before .before in
     let R = rooted a .seeking .sound in
-    ((a .pre .0 .0, a .pre .1 .0), (((record { laid = R .laid; indexed = rooted a .seeking .indexed }, record { proper = R .members; few = R .few }), R .place), a .pre .1 .1))
+    ((a .pre .0 .0, a .pre .1 .0 .0), (((record { laid = R .laid; indexed = rooted a .seeking .indexed }, record { proper = R .members; few = R .few }), R .place), a .pre .1 .0 .1))
 
 pub search-fresh-spec : {M : Type 1} → statement M
 search-fresh-spec =
@@ -58,6 +58,6 @@ search-fresh-spec =
     (λ c.
     let n = c .before in
     let Q = searchOf (start n) in
-    sym (sym (root-all Q (fewest n) (begins n) (start n .args .low)) ∙ sought-none Q (fewest n) 0 (start n .args .low) (n .narrow-to-fresh .ensures .1 .1 (not-true _ (c .if1 .taken)))))
-    (λ c κs. let n = c .before .before in (n .narrow-to-fresh .ensures .0, record { seeking = record { sound = begins n .sound; indexed = rooted (start n) .seeking .indexed }; lives = begins n .lives; further = rooted (start n) .further }))
-    (λ c. let n = c .before .before .before in c .search-all .ensures ∙ begins n .same))
+    (sym (sym (root-all Q (fewest n) (begins n) (start n .args .low)) ∙ sought-none Q (fewest n) 0 (start n .args .low) (n .narrow-to-fresh .ensures .1 .1 (not-true _ (c .if1 .taken)))), start n .pre .1 .1))
+    (λ c κs. let n = c .before .before .before in ((n .narrow-to-fresh .ensures .0, record { seeking = record { sound = begins n .sound; indexed = rooted (start n) .seeking .indexed }; lives = begins n .lives; further = rooted (start n) .further }), start n .pre .1 .1))
+    (λ c. let n = c .before .before .before .before in (c .search-all .ensures .0 ∙ begins n .same, c .search-all .ensures .1)))

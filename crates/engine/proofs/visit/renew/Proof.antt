@@ -29,13 +29,13 @@ module _ (a : tie.Start) where
       }
 
   abbrev seeker : Seeker G (a .args .words .now) (a .args .numbers .now) (a .args .p) (a .args .x)
-  seeker = a .pre .1 .seek .seeker
+  seeker = a .pre .1 .0 .seek .seeker
 
   abbrev sound : Sound G
   sound = seeker .sound
 
   inside : a .args .at + a .args .m ≤ length (a .args .numbers .now)
-  inside = omega (arith, a .pre .1 .seek .place, held-inside seeker)
+  inside = omega (arith, a .pre .1 .0 .seek .place, held-inside seeker)
 
 abbrev entry : tie.After-wide → tie.Start
 entry c = c .before .before .before .before .before
@@ -56,13 +56,13 @@ loaded-is c =
     let w = c .before .before .before .before in
     let a = entry w in
     c .load .ensures
-    ∙ ap₂ (λ (n at : ℕ). take n (drop at (a .args .numbers .now)) ++ replicate (maxMembers - n) 0) (each-is w) (a .pre .1 .seek .place)
+    ∙ ap₂ (λ (n at : ℕ). take n (drop at (a .args .numbers .now)) ++ replicate (maxMembers - n) 0) (each-is w) (a .pre .1 .0 .seek .place)
 
 -- the first number is an index
 is-index : (c : tie.Then1) → lead (seeker (entry (c .before .before))) ≡ noSupport → ⊥
 is-index c e =
     let a = entry (c .before .before) in
-    c .if1 .taken (ap (λ (i : ℕ). getD (a .args .numbers .now) i 0) (a .pre .1 .seek .place) ∙ e)
+    c .if1 .taken (ap (λ (i : ℕ). getD (a .args .numbers .now) i 0) (a .pre .1 .0 .seek .place) ∙ e)
 
 load-requires : tie.Need-load-requires
 load-requires c κs =
@@ -97,7 +97,7 @@ returns c =
           ∙ ap₂ (λ (b n : ℕ). live b n (l .load .result)) (base-is q) (each-is w)
           ∙ ap (live (a .args .p / a .args .m * a .args .m) (a .args .m)) (loaded-is l))
           ∙ c .if2 .taken),
-      (entered-none (a .args .x) (a .args .sought .now), a .pre .0 .1),
+      (entered-none (a .args .x) (a .args .sought .now), (a .pre .0 .1, a .pre .1 .1)),
     )
 
 pub renew-spec : {M : Type 1} → statement M
@@ -113,6 +113,6 @@ renew-spec =
     all-live-requires
     (λ c. search needs)
     returns
-    (λ c κs. entry (c .before .before .before .before .before .before) .pre)
+    (λ c κs. entry (c .before .before .before .before .before .before .before .before) .pre)
     (λ c. search needs)
     (λ c. c .before .before .replace .ensures))

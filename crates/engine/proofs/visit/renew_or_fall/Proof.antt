@@ -68,7 +68,7 @@ is-live-requires : tie.Need-is-live-requires
 is-live-requires c κs =
     let t = c .before in
     let a = start t in
-    omega (arith, id-below t, tuples-few (sound a .laid .framed), a .pre .1 .1 .0)
+    omega (arith, id-below t, tuples-few (sound a .laid .framed), a .pre .1 .1 .0 .0)
 
 clear-requires : tie.Need-clear-requires
 clear-requires c κs =
@@ -85,10 +85,10 @@ returns c =
         removed = λ _. (
           c .clear .ensures ∙ ap (λ (g : ℕ). cleared g (a .args .words .now)) (id-is t),
           refl,
-          a .pre .1 .1 .1 (a .args .x) (seeker a .index) (ap (isLive (a .args .doomed .now)) (sym (id-is t)) ∙ sym (h .before .is-live .ensures) ∙ h .if1 .taken),
+          a .pre .1 .1 .0 .1 (a .args .x) (seeker a .index) (ap (isLive (a .args .doomed .now)) (sym (id-is t)) ∙ sym (h .before .is-live .ensures) ∙ h .if1 .taken),
         );
       },
-      (entered-none (a .args .x) (a .args .sought .now), a .pre .0 .1),
+      (entered-none (a .args .x) (a .args .sought .now), (a .pre .0 .1, a .pre .1 .1 .1)),
     )
 
 pub renew-or-fall-spec : {M : Type 1} → statement M
@@ -103,6 +103,6 @@ renew-or-fall-spec =
     is-live-requires
     clear-requires
     returns
-    (λ c κs. let a = start (c .before .before .before .before .before .before .before) in (a .pre .0, a .pre .1 .0))
+    (λ c κs. let a = start (c .before .before .before .before .before .before .before .before .before) in (a .pre .0, (a .pre .1 .0, a .pre .1 .1 .1)))
     (λ c. search needs)
     (λ c. c .before .before .renew .ensures))

@@ -35,7 +35,7 @@ module _ (a : tie.Start) where
       }
 
   abbrev seeker : Seeker G (a .args .words .now) (a .args .numbers .now) (a .args .p) (a .args .x)
-  seeker = a .pre .1 .seek .seeker
+  seeker = a .pre .1 .0 .seek .seeker
 
   abbrev sound : Sound G
   sound = seeker .sound
@@ -55,10 +55,10 @@ take-twin-requires c κs =
         lives = s .lives;
         enough = s .working .space .enough;
         room = s .working .space .room;
-        done = a .pre .1 .done;
-        begins = a .pre .1 .seek .place;
+        done = a .pre .1 .0 .done;
+        begins = a .pre .1 .0 .seek .place;
       },
-      (a .pre .1 .noted, a .pre .1 .sided),
+      (a .pre .1 .0 .noted, a .pre .1 .0 .sided),
     )
 
 abbrev start : tie.After-slice-known2 → tie.Start
@@ -80,7 +80,7 @@ returns : tie.Need-returns
 returns c =
     let k = c .before .before in
     let t = came k twin.Taken (c .enum-told .given .1) in
-    (record { kept = λ _. (refl, t .0, t .1); removed = λ q. absurd (true≢false q) }, (k .before .before .take-twin .ensures .1, start k .pre .0 .1))
+    (record { kept = λ _. (refl, t .0, t .1); removed = λ q. absurd (true≢false q) }, (k .before .before .take-twin .ensures .1, (start k .pre .0 .1, start k .pre .1 .1)))
 
 -- ---- It fell
 
@@ -115,7 +115,7 @@ returns-2 c =
         kept = λ q. absurd (true≢false (sym q));
         removed = λ _. (c .clear .ensures ∙ ap (λ (g : ℕ). cleared g (a .args .words .now)) (id-is l), t .0, t .1);
       },
-      (k .before .before .take-twin .ensures .1, a .pre .0 .1),
+      (k .before .before .take-twin .ensures .1, (a .pre .0 .1, a .pre .1 .1)),
     )
 
 -- ---- There is none
@@ -126,14 +126,14 @@ same c = came (c .before .before) twin.None (c .enum-told3 .given .1)
 
 seek-requires : tie.Need-seek-requires
 seek-requires c κs =
-    let e = c .before .before .before in
+    let e = c .before .before .before .before .before in
     let a = start (e .before .before) in
-    ((a .pre .0 .0, subst (λ (ns : List ℕ). SeekAt (G a) (a .args .index .now) (a .args .words .now) ns (a .args .p) (a .args .x) (a .args .at)) (sym (same e)) (a .pre .1 .seek)), (a .pre .0 .1, a .pre .0 .2))
+    ((a .pre .0 .0, subst (λ (ns : List ℕ). SeekAt (G a) (a .args .index .now) (a .args .words .now) ns (a .args .p) (a .args .x) (a .args .at)) (sym (same e)) (a .pre .1 .0 .seek)), ((a .pre .0 .1, a .pre .0 .2), a .pre .1 .1))
 
 returns-3 : tie.Need-returns-3
 returns-3 c =
     let s = c .before .before in
-    let e = s .before .before .before .before in
+    let e = s .before .before .before .before .before .before in
     let k = e .before .before in
     let a = start k in (
       subst (λ (ns : List ℕ). Renewed (G a) (a .args .p) (a .args .x) (a .args .words .now) ns (isFound (s .seek .result)) (s .seek .last .1 .1 .1 .1 .1 .1 .0) (s .seek .last .1 .1 .1 .1 .1 .1 .1 .0)) (same e) (s .seek .ensures .0),

@@ -50,7 +50,7 @@ module _ (a : tie.Start) where
   is-at = a .pre .0 .1 .place
 
   abbrev lean : LeanIn G (a .args .p) (a .args .words .now) (a .args .lean .now)
-  lean = a .pre .1 .1
+  lean = a .pre .1 .0 .1
 
   inside : a .args .at + a .args .m ≤ length (a .args .numbers .now)
   inside = omega (arith, is-at, held-inside seeker)
@@ -122,23 +122,23 @@ search-is c =
     ∙ ap (searchOf a (combinationOf (G a) (a .args .p)) (a .args .p % a .args .m)) (low-is c)
 
 -- what it answers
-answer-is : (c : tie.After-first-support) → (let a = entry (c .before .before .before .before .before .before) in let Q = searched (seeker a) (a .args .words .now) in answer (isFound (c .first-support .result .kind)) (take (length (Q .members)) (c .first-support .result .tuples)) ≡ supportFrom (netOf Q) (liveOf Q) (Q .members) (support.seeker Q) (Q .low))
+answer-is : (c : tie.After-first-support) → (let a = entry (c .before .before .before .before .before .before .before .before) in let Q = searched (seeker a) (a .args .words .now) in answer (isFound (c .first-support .result .kind)) (take (length (Q .members)) (c .first-support .result .tuples)) ≡ supportFrom (netOf Q) (liveOf Q) (Q .members) (support.seeker Q) (Q .low))
 answer-is c =
-    let a = entry (c .before .before .before .before .before .before) in
+    let a = entry (c .before .before .before .before .before .before .before .before) in
     subst (λ (Q : Search). answer (isFound (c .first-support .result .kind)) (take (length (Q .members)) (c .first-support .result .tuples)) ≡ supportFrom (netOf Q) (liveOf Q) (Q .members) (support.seeker Q) (Q .low))
-    (search-is (c .before .before .before))
+    (search-is (c .before .before .before .before .before))
     (c .first-support .ensures .0)
     ∙ lean-searched (seeker a) (lean a)
 
 -- what is known of fresh tuples afterwards
-beside : (c : tie.After-first-support) → (let a = entry (c .before .before .before .before .before .before) in Beside (G a) (a .args .p) (a .args .lean .now) (c .first-support .last .1 .1 .1 .1 .1 .1 .1 .1 .1 .1 .0))
+beside : (c : tie.After-first-support) → (let a = entry (c .before .before .before .before .before .before .before .before) in Beside (G a) (a .args .p) (a .args .lean .now) (c .first-support .last .1 .1 .1 .1 .1 .1 .1 .1 .1 .1 .0))
 beside c =
-    (c .first-support .ensures .1 .0, subst (λ (Q : Search). MeetsBeside Q (c .first-support .last .1 .1 .1 .1 .1 .1 .1 .1 .1 .1 .0)) (search-is (c .before .before .before)) (c .first-support .ensures .1 .1))
+    (c .first-support .ensures .1 .0 .0, subst (λ (Q : Search). MeetsBeside Q (c .first-support .last .1 .1 .1 .1 .1 .1 .1 .1 .1 .1 .0)) (search-is (c .before .before .before .before .before)) (c .first-support .ensures .1 .0 .1))
 
 -- ---- The tuple's id
 
 abbrev looked : tie.After-tuple-start → tie.After-wide2
-looked c = c .before .before .before .before .before .before .before .before .before .before
+looked c = c .before .before .before .before .before .before .before .before .before .before .before .before
 
 id-is : (c : tie.After-tuple-start) → (let a = entry (looked c) in c .tuple-start .result + a .args .x ≡ tupleId (G a) (a .args .p) (a .args .x))
 id-is c =
@@ -162,23 +162,23 @@ load-requires c κs =
 
 first-support-requires : tie.Need-first-support-requires
 first-support-requires c κs =
-    let b = c .before .before in
+    let b = c .before .before .before .before in
     let w = b .before .before .before in
     let a = entry w in (
       (lean a .long, record { sound = subst SoundSearch (sym (search-is b)) (ready (seeker a) (lean a .long)); indexed = a .pre .0 .1 .indexed }),
-      (a .pre .1 .0 .0, subst (λ (Q : Search). FreshFrom Q (a .args .fresh .now)) (sym (search-is b)) (record { meets = a .pre .1 .0 .1; lowest = lean-searched-lowest (seeker a) (lean a) })),
+      ((a .pre .1 .0 .0 .0, subst (λ (Q : Search). FreshFrom Q (a .args .fresh .now)) (sym (search-is b)) (record { meets = a .pre .1 .0 .0 .1; lowest = lean-searched-lowest (seeker a) (lean a) })), a .pre .1 .1),
     )
 
 store-requires : tie.Need-store-requires
 store-requires c κs =
-    let w = c .before .before .before .before .before .before .before .before .before in
+    let w = c .before .before .before .before .before .before .before .before .before .before .before in
     let a = entry w in
     (omega (arith, each-is w, inside a), omega (arith, each-is w, sound a .paired .list .few))
 
 returns : tie.Need-returns
 returns c =
     let f = c .before .before .before .before .before .before in
-    let w = f .before .before .before .before .before .before in
+    let w = f .before .before .before .before .before .before .before .before in
     let a = entry w in (
       subst (Renewed (G a) (a .args .p) (a .args .x) (a .args .words .now) (a .args .numbers .now) (isFound (f .first-support .result .kind)) (a .args .words .now))
           (sym
@@ -186,7 +186,7 @@ returns c =
           ∙ ap₂ (λ (at n : ℕ). take at (a .args .numbers .now) ++ take n (f .first-support .result .tuples) ++ drop (at + n) (a .args .numbers .now)) (is-at a) (each-is w)))
           (renewed-found (seeker a)
           (isFound (f .first-support .result .kind)) (f .first-support .result .tuples) (answer-is f) (eq-eqb (f .first-support .result .kind % 2) 1 (c .before .before .before .before .before .if2 .taken))),
-      beside f,
+      (beside f, f .first-support .ensures .1 .1),
     )
 
 returns-2 : tie.Need-returns-2
@@ -198,7 +198,7 @@ returns-2 c =
           (sym (c .clear .ensures ∙ ap (λ (g : ℕ). cleared g (a .args .words .now)) (id-is l)))
           (renewed-none (seeker a)
           (isFound (f .first-support .result .kind)) (f .first-support .result .tuples) (answer-is f) (ne-eqb (f .first-support .result .kind % 2) 1 (l .before .before .before .if2 .left))),
-      beside f,
+      (beside f, f .first-support .ensures .1 .1),
     )
 
 pub seek-spec : {M : Type 1} → statement M
@@ -221,8 +221,8 @@ seek-spec =
     (λ c. search needs)
     returns
     (λ c. search needs)
-    (λ c. let w = c .before .before .before .before .before .before .before .before .before in omega (arith, pair-is w, in-members (entry w)))
-    (λ c κs. let w = c .before .before .before .before .before .before .before .before .before in let a = entry w in let h = member-below (sound a .laid .framed) (sound a .paired) (a .args .p) (in-members a) in subst (λ (q : ℕ). getD (a .args .members .now) q 0 < 65) (sym (pair-is w)) (omega arith))
+    (λ c. let w = c .before .before .before .before .before .before .before .before .before .before .before in omega (arith, pair-is w, in-members (entry w)))
+    (λ c κs. let w = c .before .before .before .before .before .before .before .before .before .before .before in let a = entry w in let h = member-below (sound a .laid .framed) (sound a .paired) (a .args .p) (in-members a) in subst (λ (q : ℕ). getD (a .args .members .now) q 0 < 65) (sym (pair-is w)) (omega arith))
     (λ c. let a = entry (looked c) in omega (arith, id-below c, tuples-few (sound a .laid .framed)))
     (λ c κs. let a = entry (looked c) in omega (arith, id-below c, seeker a .working .space .enough))
     returns-2)

@@ -44,16 +44,18 @@ settingOf variables values starts members m =
     record { lists = record { variables = variables; values = values; starts = starts }; members = members; m = m }
 
 abbrev Inv-loop : tie.InvT-loop
-Inv-loop variables values starts index members m pair-starts words₀ numbers₀ p sides steps r first end start sought₀ lean₀ tried₀ fresh₀ doomed₀ effort₀ waiting₀ shrunk₀ g₀ words numbers sought lean tried fresh doomed effort waiting shrunk g =
+Inv-loop variables values starts index members m pair-starts words₀ numbers₀ p sides steps r first end start sought₀ lean₀ tried₀ fresh₀ doomed₀ candidates₀ spare₀ effort₀ waiting₀ shrunk₀ g₀ words numbers sought lean tried fresh doomed candidates spare effort waiting shrunk g =
     WalkAt (settingOf variables values starts members m) p first end (waiting₀ .words) words₀ numbers₀ (waiting .words) words numbers shrunk g
     × Noted (settingOf variables values starts members m) words p (g - first) sought
     × Beside (settingOf variables values starts members m) p lean fresh
     × LeanIn (settingOf variables values starts members m) p words lean
     × Long doomed
     × Doomed (settingOf variables values starts members m) p words doomed
+    × Long candidates
+    × Long spare
 
 abbrev μ-loop : tie.MeasureT-loop
-μ-loop variables values starts index members m pair-starts words₀ numbers₀ p sides steps r first end start sought₀ lean₀ tried₀ fresh₀ doomed₀ effort₀ waiting₀ shrunk₀ g₀ words numbers sought lean tried fresh doomed effort waiting shrunk g = end - g
+μ-loop variables values starts index members m pair-starts words₀ numbers₀ p sides steps r first end start sought₀ lean₀ tried₀ fresh₀ doomed₀ candidates₀ spare₀ effort₀ waiting₀ shrunk₀ g₀ words numbers sought lean tried fresh doomed candidates spare effort waiting shrunk g = end - g
 
 -- ---- What it is called on
 
@@ -132,7 +134,7 @@ place-small c =
 -- ---- After the tuple's renewal
 
 abbrev turning : tie.After-renew-or-fall Inv-loop μ-loop → tie.In-loop Inv-loop μ-loop
-turning c = c .before .before .before .before .before .before .before .before .before
+turning c = c .before .before .before .before .before .before .before .before .before .before .before
 
 abbrev words-after : tie.After-renew-or-fall Inv-loop μ-loop → List ℕ
 words-after c = c .renew-or-fall .last .1 .1 .1 .1 .1 .1 .0
@@ -225,7 +227,7 @@ beside c =
     let n = renewed (joined c) in
     let i = turning n in
     let a = entry (begun i) in
-    let E = n .renew-or-fall .ensures .1 .1 in
+    let E = n .renew-or-fall .ensures .1 .1 .0 in
     (E .0, λ two. meets-fewer (network (G a)) (combinationOf (G a) (a .args .p)) (a .args .p % a .args .m) (i .before .loop .lean) (lean-after c) (fresh-after n) (c .lean-at .ensures .1) (E .1 two))
 
 lean : (c : tie.After-lean-at Inv-loop μ-loop) → (let n = renewed (joined c) in let a = entry (begun (turning n)) in LeanIn (G a) (a .args .p) (words-after n) (lean-after c))
@@ -283,11 +285,11 @@ loop-holds : tie.Need-loop-holds Inv-loop μ-loop
 loop-holds c =
     let b = c .before .before .before .before in
     let a = entry b in
-    (subst (WalkAt (G a) (a .args .p) (first b) (end b) (a .args .queue .words) (a .args .words .now) (a .args .numbers .now) (a .args .queue .words) (a .args .words .now) (a .args .numbers .now) false) (sym (c .next .ensures)) (come-first (row b) (a .pre .0 .small) (work a)), noted-none (a .args .words .now) (c .next .result - first b), (refl, meets-ones (network (G a)) (tuples-few (sound a .laid .framed)) (combinationOf (G a) (a .args .p)) (a .args .p % a .args .m) (a .args .words .now)), lean-same (G a .lists) (combinationOf (G a) (a .args .p)) (a .args .p % a .args .m) (a .args .words .now) (a .pre .0 .long) .0, refl, λ x h e s. absurd (not-both e (none-isLive 64 (tupleId (G a) (a .args .p) x))))
+    (subst (WalkAt (G a) (a .args .p) (first b) (end b) (a .args .queue .words) (a .args .words .now) (a .args .numbers .now) (a .args .queue .words) (a .args .words .now) (a .args .numbers .now) false) (sym (c .next .ensures)) (come-first (row b) (a .pre .0 .small) (work a)), noted-none (a .args .words .now) (c .next .result - first b), (refl, meets-ones (network (G a)) (tuples-few (sound a .laid .framed)) (combinationOf (G a) (a .args .p)) (a .args .p % a .args .m) (a .args .words .now)), lean-same (G a .lists) (combinationOf (G a) (a .args .p)) (a .args .p % a .args .m) (a .args .words .now) (a .pre .0 .long) .0, refl, λ x h e s. absurd (not-both e (none-isLive 64 (tupleId (G a) (a .args .p) x))), refl, refl)
 
 renew-or-fall-requires : tie.Need-renew-or-fall-requires Inv-loop μ-loop
 renew-or-fall-requires c κs =
-    let w = c .before .before .before .before .before .before in
+    let w = c .before .before .before .before .before .before .before .before in
     let i = w .before .before in
     let b = begun i in
     let a = entry b in
@@ -310,7 +312,7 @@ renew-or-fall-requires c κs =
           noted = l .inv .1;
           sided = b .before .before .before .before .before .before .before .before .sides-of .ensures;
         },
-        (l .inv .4, l .inv .5),
+        ((l .inv .4, l .inv .5), (l .inv .6, l .inv .7)),
       ),
     )
 
@@ -393,6 +395,8 @@ loop-again c =
       lean k,
       r .seek-rest-once-due .ensures .long,
       r .seek-rest-once-due .ensures .none (doomed n),
+      n .renew-or-fall .ensures .1 .1 .1 .0,
+      n .renew-or-fall .ensures .1 .1 .1 .1,
     )
 
 returns : tie.Need-returns Inv-loop μ-loop
