@@ -7,9 +7,10 @@
 #include "leaves.h"
 #include <string.h>
 
-enum { TABLE = 9216, MAX_DIGITS = 4, MAX_ROWS = 1024, MAX_SWEEPS = 2, FEW = 8, MANY = 128, FAILURES = 16, PATIENCE = 64, CHOICES = 32, LONG = 256, MUCH = 16384, PLACES = 2048, SAMPLE = 32 };
-/* Hashes lie below; so many classes of them are enough; and factors that spread them. */
+enum { TABLE = 9216, MAX_DIGITS = 4, MAX_ROWS = 1024, MAX_SWEEPS = 2, FEW = 8, MANY = 128, FAILURES = 16, FRESH = 32, PATIENCE = 64, CHOICES = 32, LONG = 256, MUCH = 16384, PLACES = 2048, SAMPLE = 32 };
+/* Hashes lie below; so many classes of them are enough; and factors that spread them, the last without mixing. */
 static const uint64_t HASHES = 1ull << 32, ENOUGH = 65536, SPREAD = 2654435769, FURTHER = 2246822507, FAR = 1 << 30;
+static const uint32_t EVEN = 1410414543;
 enum { MAX_SHARED = MAX_WIDTH, MAX_KEPT = MAX_SHARED * MAX_DIGITS };
 
 /* A relation: its tuples have the ids from first on and below end; these are in the words from word on and below last. */
@@ -431,7 +432,7 @@ static inline int alike_at(uint16_t *entry, const relation *r, int x, uint64_t v
 static inline int alike_from(uint16_t *table, const relation *r, int x, uint64_t variables, uint64_t hash) {
     const uint32_t *tuple = tuple_of(r, x);
     for (int c = 0; c < r->width; c++)
-        if (variables >> r->scope[c] & 1) hash = (hash + tuple[c]) * 1640531527u, hash = (uint32_t)((hash >> 32) + (uint32_t)hash);
+        if (variables >> r->scope[c] & 1) hash = (hash + tuple[c]) * EVEN, hash = (uint32_t)((hash >> 32) + (uint32_t)hash);
     int y = alike_at(table + (hash >> 21), r, x, variables);
     if (y < x || table[hash >> 21] == x) return y;
     return alike_at(table + ((hash >> 21) + 1) % PLACES, r, x, variables);
@@ -514,7 +515,7 @@ static bool spread_open(const visit *v, uint64_t *words, int j) {
 }
 
 /* The bits of a value in a sieve: one, and of any all. */
-static inline uint64_t bits_of(uint32_t value) { return value == ANY ? ~0ull : 1ull << (value * (uint32_t)SPREAD >> 26); }
+static inline uint64_t bits_of(uint32_t value) { return value == ANY ? ~0ull : 1ull << (value * EVEN >> 26); }
 
 /* The column in which member j's tuples are sieved by the values of the last member's candidates; none sieves nothing. */
 static int find_sieve(const visit *v, const uint64_t *words, int j, uint64_t *bits) {
@@ -605,7 +606,7 @@ static bool narrow_fresh(const visit *v, uint64_t *words, const uint64_t *fresh,
     const uint64_t *rows[MAX_KEPT], *outside = v->outside[j];
     uint64_t sum[WORDS], any = 0;
     for (int i = 0; i < v->m; i++)
-        if (i != j && i != v->place && count_of(fresh, v->members[i]) > MANY) return true;
+        if (i != j && i != v->place && count_of(fresh, v->members[i]) > FRESH) return true;
     for (int w = s->word; w < s->last; w++) sum[w] = fresh[w] | outside[w];
     for (int i = 0; i < v->m; i++) {
         const relation *r = v->members[i];
