@@ -22,6 +22,7 @@ use Rattle.layout.specs.Places.{placeAt}
 use Rattle.layout.specs.Setting.{Lists, networkIn, SoundLists}
 use Rattle.layout.proofs.SoundStarts.{width-in}
 use Rattle.layout.proofs.Places.{below-limit, scope-length, values-length, value-at, place-within}
+use Rattle.value_index.proofs.ValueRows.{mixed-below}
 use Rattle.narrowing.specs.declared.sieve.Shared.{Shared}
 use Rattle.narrowing.specs.declared.sieve.Sieve.{Sieve}
 use Rattle.narrowing.specs.Sieve.{allOr, bitOf, bitsOf, bitsAt, passesSieve, Sieves, Shares, Masks}
@@ -44,7 +45,7 @@ bits-some v = go (isAny v) refl
     go true e = (0, omega arith, bits-any v 0 e (omega arith))
     go false e =
         let k = bitOf v in
-        (k, omega arith, ap (λ (b : Bool). isSet (allOr b k) k) e ∙ isSet-pow k k ∙ eq-eqb k k refl)
+        (k, omega (arith, mixed-below v), ap (λ (b : Bool). isSet (allOr b k) k) e ∙ isSet-pow k k ∙ eq-eqb k k refl)
 
 -- values that fit have one in common
 pub bits-meet : (v w : ℕ) → fit v w ≡ true → (k : ℕ) × (isSet (bitsOf v) k ≡ true) × (isSet (bitsOf w) k ≡ true)

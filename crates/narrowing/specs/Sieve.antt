@@ -11,6 +11,7 @@ use Rattle.model.specs.Network.{Network, width, size, firstId, valuesAt}
 use Rattle.model.specs.Agreement.{isAny, agree}
 use Rattle.model.specs.LiveWords.{isSet, isLive}
 use Rattle.layout.specs.Setting.{Lists, networkIn, SoundLists}
+use Rattle.value_index.specs.Plan.{mixed}
 use Rattle.narrowing.specs.declared.sieve.Shared.{Shared}
 use Rattle.narrowing.specs.declared.sieve.Sieve.{Sieve}
 
@@ -21,7 +22,7 @@ allOr false k = 2 ^ k
 
 -- the number of a value's bit, 0 to 63
 abbrev pub bitOf : ℕ → ℕ
-bitOf v = v * 1410414543 % 4294967296 / 67108864
+bitOf v = mixed v / 67108864
 
 -- the bits of a value, as a word: of any all, and otherwise one
 unfoldable pub bitsOf : ℕ → ℕ

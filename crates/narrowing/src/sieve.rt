@@ -19,6 +19,7 @@ use layout::wide;
 use live::Words;
 use live::next;
 use model::Value;
+use value_index::digits::mix;
 
 // A column of the relation that is sieved, and the bits of the values there. Past the relation's columns nothing is sieved.
 pub struct Sieve {
@@ -32,14 +33,14 @@ struct Shared {
     other: u16,
 }
 
-// The bits of a value. The factor spreads the multiples of many numbers evenly.
+// The bits of a value.
 fn bits_of(value: Value) -> u64
     ensures { λ w. ⌜ w ≡ bitsOf value ⌝ }
 {
     if is_any(value) {
         return !0u64;
     }
-    1u64 << (value as u64 * 1410414543 % 4294967296 / 67108864)
+    1u64 << (mix(value as u64) / 67108864)
 }
 
 // The bits of the value that tuple x of relation r has in the column.

@@ -14,7 +14,7 @@ pub mixed-is : (hash : ℕ) → mixed hash ≡ folded 8192 (folded 32768 hash * 
 unfolding mixed
 mixed-is hash = refl
 
-mixed-below : (hash : ℕ) → mixed hash < hashes
+pub mixed-below : (hash : ℕ) → mixed hash < hashes
 unfolding mixed
 mixed-below hash = omega arith
 

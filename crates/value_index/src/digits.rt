@@ -40,7 +40,7 @@ pub fn row_plan(index: &Index) -> RowPlan
 }
 
 // A hash mixed: its high bits go into the low ones, the factor takes those up again, and the high ones go into the low once more.
-fn mix(hash: u64) -> u64
+pub fn mix(hash: u64) -> u64
     ensures { λ h. ⌜ h ≡ mixed hash ⌝ }
 {
     let folded = (hash ^ (hash / 32768)) % HASHES;
