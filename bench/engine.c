@@ -8,7 +8,7 @@
 #include <string.h>
 
 enum { TABLE = 9216, MAX_DIGITS = 4, MAX_ROWS = 1024, MAX_SWEEPS = 2, FEW = 8, MANY = 128, FAILURES = 16, FRESH = 32, PATIENCE = 64, CHOICES = 32, LONG = 256, MUCH = 16384, PLACES = 2048, SAMPLE = 32 };
-/* Hashes lie below; so many classes of them are enough; and factors that spread them, the last without mixing. */
+/* Hashes lie below; so many classes of them are enough; and factors that spread them, the last for tables of tuples. */
 static const uint64_t HASHES = 1ull << 32, ENOUGH = 65536, SPREAD = 2654435769, FURTHER = 2246822507, FAR = 1 << 30;
 static const uint32_t EVEN = 1410414543;
 enum { MAX_SHARED = MAX_WIDTH, MAX_KEPT = MAX_SHARED * MAX_DIGITS };
@@ -515,7 +515,7 @@ static bool spread_open(const visit *v, uint64_t *words, int j) {
 }
 
 /* The bits of a value in a sieve: one, and of any all. */
-static inline uint64_t bits_of(uint32_t value) { return value == ANY ? ~0ull : 1ull << (value * EVEN >> 26); }
+static inline uint64_t bits_of(uint32_t value) { return value == ANY ? ~0ull : 1ull << (mixed(value) >> 26); }
 
 /* The column in which member j's tuples are sieved by the values of the last member's candidates; none sieves nothing. */
 static int find_sieve(const visit *v, const uint64_t *words, int j, uint64_t *bits) {
