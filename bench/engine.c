@@ -7,7 +7,7 @@
 #include "leaves.h"
 #include <string.h>
 
-enum { TABLE = 9216, MAX_DIGITS = 4, MAX_ROWS = 1024, MAX_SWEEPS = 2, FEW = 8, MANY = 128, FAILURES = 16, FRESH = 32, PATIENCE = 64, CHOICES = 32, LONG = 256, MUCH = 16384, PLACES = 2048, SAMPLE = 32 };
+enum { TABLE = 9216, MAX_DIGITS = 4, MAX_ROWS = 1024, MAX_SWEEPS = 2, FEW = 8, MANY = 128, FAILURES = 16, FRESH = 32, PATIENCE = 64, CHOICES = 512, LONG = 256, MUCH = 16384, PLACES = 2048, SAMPLE = 32 };
 /* Hashes lie below; so many classes of them are enough; and factors that spread them, the last for tables of tuples. */
 static const uint64_t HASHES = 1ull << 32, ENOUGH = 65536, SPREAD = 2654435769, FURTHER = 2246822507, FAR = 1 << 30;
 static const uint32_t EVEN = 1410414543;

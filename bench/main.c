@@ -13,7 +13,7 @@
 
 enum { ROUNDS = 21, FILTERINGS = 15, TUPLES = 1000 };
 /* Seconds after which a network is filtered no more; and, once it was filtered as often as others, no more. */
-static const double ENOUGH = 0.5, SHORT = 0.02;
+static const double ENOUGH = 0.5, SHORT = 0.1;
 
 static uint16_t scope_a[MAX_WIDTH], scope_b[MAX_WIDTH];
 static uint32_t a[TUPLES * MAX_WIDTH], b[TUPLES * MAX_WIDTH];

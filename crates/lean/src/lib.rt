@@ -18,7 +18,7 @@ use model::NO_SUPPORT;
 use model::Value;
 
 // The words become lean once the hard searches have tried so many choices: what it costs is won back then.
-const CHOICES: u16 = 32;
+const CHOICES: u16 = 512;
 
 // Of relation r, each live tuple falls that has the values of an earlier one under the variables of the set.
 fn thin(
