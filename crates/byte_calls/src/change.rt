@@ -26,7 +26,7 @@ use request::plan::{Plan, plan_choose, plan_choose_several, plan_filter, plan_wi
 use wire::{load16, load32, load64, store16, store64};
 
 // Which change call it is; choose with its variable and its value.
-#[derive(Drop)]
+#[derive(Clone, Copy)]
 pub enum Call {
     Filter,
     Withdraw,

@@ -119,7 +119,7 @@ pub fn seek_rest(
 const MOST: u32 = 1073741824;
 
 // The choices that the searches of a visit have tried, and how many make a search together due.
-#[derive(Drop)]
+#[derive(Clone, Copy)]
 pub struct Effort {
     pub tried: u32,
     pub due: u32,

@@ -12,7 +12,7 @@ ghost use Rattle.layout.specs.Columns.{column_of};
 use model::{ANY_VALUE, MAX_MEMBERS, MAX_RELATIONS, Value};
 
 // The relation records taken apart: how many there are, and of the first 64 the widths and the tuple counts.
-#[derive(Drop)]
+#[derive(Clone, Copy)]
 pub struct Shape {
     pub count: usize,
     pub widths: [u16; 64],
@@ -31,7 +31,7 @@ pub type Starts = [u16; STARTS];
 pub type Members = [u16; MAX_MEMBERS];
 
 // Where a relation's scope lies in the variable list, and one of its tuples in the value list.
-#[derive(Drop)]
+#[derive(Clone, Copy)]
 pub struct Place {
     pub scope: usize,
     pub scope_end: usize,

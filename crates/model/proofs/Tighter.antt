@@ -56,6 +56,7 @@ module _ (N : Network) where
   -- a choice of a tuple of each member has one of member r
   picks_of : (d : Combination) {t : List ℕ} {r : ℕ} → Picks (map (ids_of N) d) t → Memᴰ r d → (x : ℕ) × Memᴰ x t × Memᴰ x (ids_of N r)
   picks_of [] done m = absurd (Memᴰ.not-nil m)
+  picks_of (s ∷ d) {t = []} {r = r} x3 m = elim x3 [ ]
   picks_of (s ∷ d) {t = x ∷ t} (pick k p) m =
       ⊎_elim
       (λ e. (x, here, subst (λ (s : ℕ). Memᴰ x (ids_of N s)) (sym e) k))
@@ -73,6 +74,7 @@ module _ (N : Network) where
   -- every two tuples of a choice pass a test that different ones pass, if the members rise
   picks-pairwise : (test : ℕ → ℕ → Bool) (c : Combination) {t : List ℕ} → pairwise ltb c ≡ true → Picks (map (ids_of N) c) t → ((x y : ℕ) → Memᴰ x t → Memᴰ y t → (x ≡ y → ⊥) → test x y ≡ true) → pairwise test t ≡ true
   picks-pairwise test [] rises done f = refl
+  picks-pairwise test (r ∷ c) {t = []} rises x4 f = elim x4 [ ]
   picks-pairwise test (r ∷ c) {t = x ∷ t} rises (pick k p) f =
       and_intro
       (all-intro (test x) t

@@ -32,7 +32,7 @@ pub const NO_SUPPORT: u16 = 65535;
 pub const WORD_BITS: usize = 64;
 
 // A relation: how many variables its scope has, and how many tuples it holds.
-#[derive(Drop)]
+#[derive(Clone, Copy)]
 pub struct Relation {
     pub width: u16,
     pub tuples: u16,
@@ -41,7 +41,7 @@ pub struct Relation {
 // A relation record as it is lent (document 01: sheet record): how many variables its scope has, how many tuples it holds, and how
 // many of its tuples live (card 6). A C program may lend a list of them.
 #[repr(C)]
-#[derive(Drop)]
+#[derive(Clone, Copy)]
 pub struct Record {
     pub width: u16,
     pub tuples: u16,
@@ -49,7 +49,7 @@ pub struct Record {
 }
 
 // How many tuples are left, were withdrawn by the call, and were deleted by the filter.
-#[derive(Drop)]
+#[derive(Clone, Copy)]
 pub struct Counts {
     pub left: u16,
     pub withdrawn: u16,
@@ -57,7 +57,7 @@ pub struct Counts {
 }
 
 // What the change calls answer: Emptied names the lowest relation that has no live tuple.
-#[derive(Drop)]
+#[derive(Clone, Copy)]
 pub enum Answer {
     Settled(Counts),
     Emptied(u16, Counts),
@@ -65,7 +65,7 @@ pub enum Answer {
 }
 
 // What test answers.
-#[derive(Drop)]
+#[derive(Clone, Copy)]
 pub enum Verdict {
     Yes,
     No,
@@ -73,7 +73,7 @@ pub enum Verdict {
 }
 
 // What compare answers: Differ names the lowest variable under which the tuples clash.
-#[derive(Drop)]
+#[derive(Clone, Copy)]
 pub enum Comparison {
     Agree,
     Differ(u16),
@@ -81,14 +81,14 @@ pub enum Comparison {
 }
 
 // What the listing of connected combinations answers (card 1): how many are listed.
-#[derive(Drop)]
+#[derive(Clone, Copy)]
 pub enum Enumeration {
     Listed(u16),
     Refused(u8),
 }
 
 // What a move answers (card 9).
-#[derive(Drop)]
+#[derive(Clone, Copy)]
 pub enum Moved {
     Done,
     Refused(u8),

@@ -23,7 +23,7 @@ pub const TUPLE_ROWS: usize = MAX_WIDTH * MAX_DIGITS;
 pub type Rows = [u16; TUPLE_ROWS];
 
 // Where four rows begin.
-#[derive(Drop)]
+#[derive(Clone, Copy)]
 pub struct Four {
     pub a: usize,
     pub b: usize,

@@ -14,14 +14,14 @@ use model::{MAX_WIDTH, Value};
 use value_index::digits::mix;
 
 // A column of the relation that is sieved, and the bits of the values there. Past the relation's columns nothing is sieved.
-#[derive(Drop)]
+#[derive(Clone, Copy)]
 pub struct Sieve {
     pub column: u16,
     pub bits: u64,
 }
 
 // A column of each of two relations.
-#[derive(Drop)]
+#[derive(Clone, Copy)]
 pub struct Shared {
     pub own: u16,
     pub other: u16,

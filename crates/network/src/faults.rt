@@ -12,7 +12,7 @@ use layout::{Shape, wide};
 use model::{MAX_RELATIONS, MAX_TUPLES, MAX_WIDTH, VARIABLES, Value, refusal};
 
 // How many variables, tuples and values the records call for.
-#[derive(Drop)]
+#[derive(Clone, Copy)]
 pub struct Totals {
     pub variables: usize,
     pub tuples: usize,

@@ -19,7 +19,7 @@ pub const MAX_FIELD: u32 = 65535;
 pub const MAX_CODE: u32 = 4294967295;
 
 // A number, and the position behind the byte that ends it; 0 if there is no field.
-#[derive(Drop)]
+#[derive(Clone, Copy)]
 pub struct Decimal {
     pub value: u32,
     pub next: usize,

@@ -27,7 +27,7 @@ pub const MAX_VALUES: usize = MAX_TUPLES * MAX_WIDTH;
 pub const MAX_MEMBER_LIST: usize = MAX_COMBINATIONS * MAX_MEMBERS;
 
 // The numbers of the first line, and the position behind it; 0 if it is not in the form.
-#[derive(Drop)]
+#[derive(Clone, Copy)]
 pub struct Heading {
     pub next: usize,
     pub relations: usize,
@@ -36,7 +36,7 @@ pub struct Heading {
 }
 
 // What was read of a text: the records, m, and how many entries of each list were filled; not ok if the text is not in the form.
-#[derive(Drop)]
+#[derive(Clone, Copy)]
 pub struct Book {
     pub ok: bool,
     pub shape: Shape,

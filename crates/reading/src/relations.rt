@@ -11,7 +11,7 @@ use layout::Shape;
 use model::{MAX_RELATIONS, MAX_TUPLES, MAX_WIDTH, Value};
 
 // How many variables and tuples a relation has, and the position behind what was read; 0 if it is not in the form.
-#[derive(Drop)]
+#[derive(Clone, Copy)]
 pub struct Record {
     pub next: usize,
     pub width: usize,
@@ -85,7 +85,7 @@ fn relation_at(
 
 // The relations' records, how many entries of each list were filled, and the position behind what was read; 0 if it is not in the
 // form.
-#[derive(Drop)]
+#[derive(Clone, Copy)]
 pub struct Listed {
     pub next: usize,
     pub shape: Shape,

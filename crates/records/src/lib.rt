@@ -16,14 +16,14 @@ use model::{MAX_RELATIONS, Record, Value};
 pub mod packed; // the calls on the records' parts, their answers packed
 
 // Relation records taken apart: their shape, and the live counts of the first 64.
-#[derive(Drop)]
+#[derive(Clone, Copy)]
 pub struct Parts {
     pub shape: Shape,
     pub live: [u16; 64],
 }
 
 // What a change call on parts gives: its answer, packed, and of how many relations the live counts are to be written.
-#[derive(Drop)]
+#[derive(Clone, Copy)]
 pub struct Done {
     pub answer: u64,
     pub written: usize,

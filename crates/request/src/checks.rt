@@ -10,7 +10,7 @@ use layout::{STARTS, Shape, Starts, starts_of, tuple_count, wide};
 use model::{VARIABLES, Value, refusal};
 
 // The number of the first fault, or 0; and if it is 0, where each relation begins in the lists.
-#[derive(Drop)]
+#[derive(Clone, Copy)]
 pub struct Opening {
     pub fault: u8,
     pub starts: Starts,

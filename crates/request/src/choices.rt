@@ -15,7 +15,7 @@ pub type Chosen = [Value; VARIABLES];
 
 // The pairs of a list of variables and a list of values: how long the lists are, the least number above all variables, and for each
 // variable two values. What fits both fits all that the pairs give the variable: of values that do not fit each other two are enough.
-#[derive(Drop)]
+#[derive(Clone, Copy)]
 pub struct Choices {
     pub variables: usize,
     pub values: usize,
@@ -25,7 +25,7 @@ pub struct Choices {
 }
 
 // Two values.
-#[derive(Drop)]
+#[derive(Clone, Copy)]
 pub struct Both {
     pub first: Value,
     pub second: Value,

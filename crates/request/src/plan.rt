@@ -13,7 +13,7 @@ use live::{WORDS, Words};
 use model::Value;
 
 // The number of the call's first fault, or 0; and if it is 0, where each relation begins, and the ids that the change removes.
-#[derive(Drop)]
+#[derive(Clone, Copy)]
 pub struct Plan {
     pub fault: u8,
     pub starts: Starts,

@@ -15,7 +15,7 @@ use live::{WORDS, Words, set, words_for};
 use model::{MAX_TUPLES, Value};
 
 // The ids of a list: those below 4,096 as words, and the least number above all.
-#[derive(Drop)]
+#[derive(Clone, Copy)]
 pub struct Ids {
     pub words: Words,
     pub bound: usize,

@@ -59,14 +59,14 @@ pub const HARD: u16 = 2;
 
 // The indices of a support, one for each member, if the kind is odd; half of the kind is how many choices a hard search has tried, if they are
 // fewer than MOST. Its fields are of one width and are read back as they are written: a word made of two flags would be waited for.
-#[derive(Drop)]
+#[derive(Clone, Copy)]
 pub struct Found {
     pub tuples: Indices,
     pub kind: u16,
 }
 
 // How a walk over a member's tuples ended: with a support, or at an id before which no tuple leads to one.
-#[derive(Drop)]
+#[derive(Clone, Copy)]
 struct Walked {
     tuples: Indices,
     kind: u16,
@@ -74,7 +74,7 @@ struct Walked {
 }
 
 // The id of a relation's first tuple, and the ids that a walk goes over: from start on and below end.
-#[derive(Drop)]
+#[derive(Clone, Copy)]
 struct Span {
     first: u16,
     start: u16,
@@ -82,7 +82,7 @@ struct Span {
 }
 
 // Where a search stands: the member whose turn it is, and the tuples chosen for those before it.
-#[derive(Drop)]
+#[derive(Clone, Copy)]
 struct Stage {
     k: usize,
     chosen: Indices,

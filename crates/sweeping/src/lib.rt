@@ -24,7 +24,7 @@ const LEAST: u32 = 8;
 const MOST: u32 = 32;
 
 // How many tuples were tested, and how many of them fell.
-#[derive(Drop)]
+#[derive(Clone, Copy)]
 pub struct Swept {
     pub tested: u32,
     pub fell: u32,

@@ -24,7 +24,7 @@ pub mod sides; // the sides of a combination without one member
 const FAR: u64 = 1073741824;
 
 // What comes of a twin: its support is taken, or it fell and so does the tuple, or there is none.
-#[derive(Drop)]
+#[derive(Clone, Copy)]
 pub enum Twin {
     Taken,
     Fallen,

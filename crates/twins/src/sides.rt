@@ -12,7 +12,7 @@ use layout::{Starts, wide};
 use model::Value;
 
 // Two sides: the variables that the members of either have, and the places of those of the far one, which may be none.
-#[derive(Drop)]
+#[derive(Clone, Copy)]
 pub struct Sides {
     pub near: u64,
     pub far: u64,

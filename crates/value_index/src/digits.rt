@@ -12,7 +12,7 @@ const FURTHER: u64 = 2246822507;
 
 // How many words a row has, how many digits a value has, how many rows a digit has, what a value is multiplied by, and whether the product
 // is mixed, which is 0 if it is not.
-#[derive(Drop)]
+#[derive(Clone, Copy)]
 pub struct RowPlan {
     pub words: u64,
     pub digits: u64,

@@ -28,7 +28,7 @@ const ENOUGH: u64 = 65536;
 const SPREAD: u64 = 2654435769;
 
 // How many digits a value has, how many rows each, what a value is multiplied by, and whether the product is mixed.
-#[derive(Drop)]
+#[derive(Clone, Copy)]
 struct Digits {
     count: u64,
     rows: u64,

@@ -13,13 +13,13 @@ use model::MAX_PAIRS;
 pub const QUEUE_WORDS: usize = 16;
 
 // A bit for each pair: 1 if it waits.
-#[derive(Drop)]
+#[derive(Clone, Copy)]
 pub struct Queue {
     pub words: [u64; QUEUE_WORDS],
 }
 
 // The lowest pair that waits, or 1,024 if there is none, and the queue without that pair.
-#[derive(Drop)]
+#[derive(Clone, Copy)]
 pub struct Taken {
     pub pair: u16,
     pub rest: Queue,
