@@ -3,7 +3,7 @@
 // the classes of the values that it shares with the other.
 ghost use Rattle.std.specs.Prelude.{◌≡◌, true, ◌≤◌, ◌<◌, length};
 ghost use Rattle.model.specs.Limits.{max_relations};
-ghost use Rattle.layout.specs.Loan.{entry, exit};
+ghost use Rattle.layout.specs.Loan.{entry};
 ghost use Rattle.layout.specs.Setting.{lists, network_in, SoundLists};
 ghost use Rattle.narrowing.specs.Narrows.{Long};
 ghost use Rattle.narrowing.specs.Sieve.{TupleIn};
@@ -60,7 +60,7 @@ pub fn class_at(
 // More bits in a word.
 fn raise(reached: &mut Reached, word: usize, bits: u64)
     requires { (length reached.old ≡ cells) × (word < cells) }
-    ensures { exit reached ≡ raised word bits (entry reached) }
+    ensures { reached.new ≡ raised word bits reached.old }
 {
     reached[word] = reached[word] | bits;
 }
@@ -68,7 +68,7 @@ fn raise(reached: &mut Reached, word: usize, bits: u64)
 // A class more in a row; of any all classes.
 fn add(reached: &mut Reached, row: usize, class: usize)
     requires { (length reached.old ≡ cells) × ((row ≤ of_all) × (class ≤ of_any)) }
-    ensures { Adds row class (entry reached) (exit reached) }
+    ensures { Adds row class reached.old reached.new }
 {
     let at = ROW * row;
     if class < OF_ANY {
@@ -94,7 +94,7 @@ fn reached_by(
 ) -> Reached
     requires long { Long words.now × (SoundLists (lists (λ x. x.now) variables values starts) × (s < max_relations)) }
     requires column_or { ColumnOr (network_in (lists (λ x. x.now) variables values starts)) s key × ColumnOr (network_in (lists (λ x. x.now) variables values starts)) s over }
-    ensures { Reaches (network_in (lists entry variables values starts)) s key over factor (entry words) result }
+    ensures { Reaches (network_in (lists entry variables values starts)) s key over factor words.now result }
 {
     let first = tuple_start(starts, s);
     let end = tuple_start(starts, s + 1);
@@ -124,7 +124,7 @@ fn sought_row(class: usize) -> usize
 // Whether a class is in row a of the one table, or that of any, and in row b of the other.
 fn meet(near: &Reached, far: &Reached, a: usize, b: usize) -> bool
     requires { ((length near.now ≡ cells) × (length far.now ≡ cells)) × ((a ≤ of_all) × (b ≤ of_all)) }
-    ensures { Meets (entry near) (entry far) a b result }
+    ensures { Meets near.now far.now a b result }
 {
     let mut i = 0;
     while i < ROW {
@@ -151,7 +151,7 @@ fn passes(
     factor: u64,
 ) -> bool
     requires { TupleIn (lists (λ x. x.now) variables values starts) r x × PassesAt (network_in (lists (λ x. x.now) variables values starts)) r a b near.now far.now }
-    ensures { Passes (network_in (lists entry variables values starts)) r a b factor (entry near) (entry far) x → result ≡ true }
+    ensures { Passes (network_in (lists entry variables values starts)) r a b factor near.now far.now x → result ≡ true }
 {
     let first = sought_row(class_at(variables, values, starts, r, x, a, factor));
     let second = sought_row(class_at(variables, values, starts, r, x, b, factor));
@@ -173,7 +173,7 @@ fn keep_passing(
 ) -> bool
     requires long { Long words.old × (SoundLists (lists (λ x. x.now) variables values starts) × (r < max_relations)) }
     requires passes_at { PassesAt (network_in (lists (λ x. x.now) variables values starts)) r a b near.now far.now }
-    ensures { Narrows (network_in (lists entry variables values starts)) r (Passes (network_in (lists entry variables values starts)) r a b factor (entry near) (entry far)) (entry words) (exit words) result }
+    ensures { Narrows (network_in (lists entry variables values starts)) r (Passes (network_in (lists entry variables values starts)) r a b factor near.now far.now) words.old words.new result }
 {
     let first = tuple_start(starts, r);
     let end = tuple_start(starts, r + 1);
@@ -213,7 +213,7 @@ pub fn bridge(
     factor: u64,
 ) -> bool
     requires { Long words.old × (SoundLists (lists (λ x. x.now) variables values starts) × Three r s t) }
-    ensures { Bridged (network_in (lists entry variables values starts)) r s t (entry words) (exit words) result }
+    ensures { Bridged (network_in (lists entry variables values starts)) r s t words.old words.new result }
 {
     let over = shared_of(variables, values, starts, s, t, both);
     if over.own == MAX_WIDTH as u16 {

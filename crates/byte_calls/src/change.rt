@@ -45,7 +45,7 @@ fn plan(
     chosen: &[u8],
 ) -> Plan
     requires { opening.fault ≡ 0 → SoundLists (lists_from opening variables.now values.now) }
-    ensures { PlansOn result opening (entry variables) (entry values) (decoded_change (change_in call (entry listed) (entry chosen))) }
+    ensures { PlansOn result opening variables.now values.now (decoded_change (change_in call listed.now chosen.now)) }
 {
     match call {
         Call::Filter => plan_filter(opening),
@@ -75,7 +75,7 @@ fn write_change(
     plan: Plan,
 ) -> u64
     requires { Writable (setting_for plan variables.now values.now m members.now) words.old numbers.old counts.old plan.removed sheets.old marks.old supports.old }
-    ensures { WritesChange result (setting_for plan (entry variables) (entry values) m (entry members)) words numbers plan.removed sheets marks supports }
+    ensures { WritesChange result (setting_for plan variables.now values.now m members.now) words numbers plan.removed sheets marks supports }
 {
     let starts = plan.starts;
     let removed = plan.removed;
@@ -102,7 +102,7 @@ fn make(
     plan: Plan,
 ) -> u64
     requires { PlansBytes plan variables.now values.now m members.now words.old counts.old sheets.old marks.old supports.old }
-    ensures { LeavesPlanned result plan (entry variables) (entry values) m (entry members) sheets marks supports }
+    ensures { LeavesPlanned result plan variables.now values.now m members.now sheets marks supports }
 {
     let starts = plan.starts;
     let number_count = needed(&starts, members, m);
@@ -139,7 +139,7 @@ fn change_counted(
     chosen: &[u8],
 ) -> u64
     requires { OpensBytes opening variables.now values.now m members.now words.old counts.old sheets.old marks.old supports.old }
-    ensures { AnswersOpened result opening (entry variables) (entry values) m (entry members) sheets marks supports (change_in call (entry listed) (entry chosen)) }
+    ensures { AnswersOpened result opening variables.now values.now m members.now sheets marks supports (change_in call listed.now chosen.now) }
 {
     let opened = counted(opening, words, counts);
     let plan = plan(call, opened, variables, values, listed, chosen);
@@ -167,7 +167,7 @@ fn change_opened(
     chosen: &[u8],
 ) -> u64
     requires { Readable opening shape.count (instance_of shape variables.now values.now m members.now) sheets.old marks.old supports.old }
-    ensures { AnswersOn result (instance_of shape (entry variables) (entry values) m (entry members)) sheets marks supports (change_in call (entry listed) (entry chosen)) }
+    ensures { AnswersOn result (instance_of shape variables.now values.now m members.now) sheets marks supports (change_in call listed.now chosen.now) }
 {
     let starts = opening.starts;
     let word_count = words_for(tuple_count(&starts));
@@ -207,7 +207,7 @@ fn change_decoded(
     chosen: &[u8],
 ) -> u64
     requires { (shape.count ≡ length sheets.old / 6) × WholeBytes marks.old supports.old }
-    ensures { AnswersOn result (instance_of shape (entry variables) (entry values) m (entry members)) sheets marks supports (change_in call (entry listed) (entry chosen)) }
+    ensures { AnswersOn result (instance_of shape variables.now values.now m members.now) sheets marks supports (change_in call listed.now chosen.now) }
 {
     let words = marks.len() / 8;
     let numbers = supports.len() / 2;
@@ -235,7 +235,7 @@ fn change_many(
     chosen: &[u8],
 ) -> u64
     requires { WholeBytes marks.old supports.old }
-    ensures { AnswersOn result (byte_instance (byte_book entry sheets questions codes m combinations)) sheets marks supports (change_in call (entry listed) (entry chosen)) }
+    ensures { AnswersOn result (byte_instance (byte_book entry sheets questions codes m combinations)) sheets marks supports (change_in call listed.now chosen.now) }
 {
     let mut variables = [0u16; 513];
     let mut values = [0u32; 32769];
@@ -273,7 +273,7 @@ fn change_few(
     chosen: &[u8],
 ) -> u64
     requires { WholeBytes marks.old supports.old × (length codes.now ≤ 4 * few_values) }
-    ensures { AnswersOn result (byte_instance (byte_book entry sheets questions codes m combinations)) sheets marks supports (change_in call (entry listed) (entry chosen)) }
+    ensures { AnswersOn result (byte_instance (byte_book entry sheets questions codes m combinations)) sheets marks supports (change_in call listed.now chosen.now) }
 {
     let mut variables = [0u16; 513];
     let mut values = [0u32; FEW_VALUES];
@@ -311,7 +311,7 @@ fn change_bytes(
     chosen: &[u8],
 ) -> u64
     requires { WholeBytes marks.old supports.old }
-    ensures { AnswersOn result (byte_instance (byte_book entry sheets questions codes m combinations)) sheets marks supports (change_in call (entry listed) (entry chosen)) }
+    ensures { AnswersOn result (byte_instance (byte_book entry sheets questions codes m combinations)) sheets marks supports (change_in call listed.now chosen.now) }
 {
     if codes.len() <= 4 * FEW_VALUES {
         return change_few(
@@ -355,7 +355,7 @@ pub fn change_call(
     chosen: &[u8],
 ) -> u64
     requires { whole_own (change_in call listed.now chosen.now) ≡ true }
-    ensures { KeepsBytes (byte_request (byte_book entry sheets questions codes m combinations) (entry marks) (entry supports) (change_in call (entry listed) (entry chosen))) (left result sheets marks supports) }
+    ensures { KeepsBytes (byte_request (byte_book entry sheets questions codes m combinations) marks.old supports.old (change_in call listed.now chosen.now)) (left result sheets marks supports) }
 {
     if !change_whole(
         sheets.len(),

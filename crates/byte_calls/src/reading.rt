@@ -28,7 +28,7 @@ fn test_decoded(
     members: &[u16],
     marks: &[u8],
 ) -> u64
-    ensures { result ≡ packed_pair (test_reply (instance_of shape (entry variables) (entry values) m (entry members)) (entries64 (entry marks))) }
+    ensures { result ≡ packed_pair (test_reply (instance_of shape variables.now values.now m members.now) (entries64 marks.now)) }
 {
     let opening = test_checked(shape, variables, values, m, members, marks.len() / 8);
     if opening.fault != 0 {
@@ -52,7 +52,7 @@ fn test_many(
     combinations: &[u8],
     marks: &[u8],
 ) -> u64
-    ensures { result ≡ packed_pair (test_reply (byte_instance (byte_book entry sheets questions codes m combinations)) (entries64 (entry marks))) }
+    ensures { result ≡ packed_pair (test_reply (byte_instance (byte_book entry sheets questions codes m combinations)) (entries64 marks.now)) }
 {
     let mut variables = [0u16; 513];
     let mut values = [0u32; 32769];
@@ -81,7 +81,7 @@ fn test_few(
     marks: &[u8],
 ) -> u64
     requires { length codes.now ≤ 4 * few_values }
-    ensures { result ≡ packed_pair (test_reply (byte_instance (byte_book entry sheets questions codes m combinations)) (entries64 (entry marks))) }
+    ensures { result ≡ packed_pair (test_reply (byte_instance (byte_book entry sheets questions codes m combinations)) (entries64 marks.now)) }
 {
     let mut variables = [0u16; 513];
     let mut values = [0u32; FEW_VALUES];
@@ -109,7 +109,7 @@ pub fn test_bytes(
     combinations: &[u8],
     marks: &[u8],
 ) -> u64
-    ensures { result ≡ packed_pair (test_reply (byte_instance (byte_book entry sheets questions codes m combinations)) (entries64 (entry marks))) }
+    ensures { result ≡ packed_pair (test_reply (byte_instance (byte_book entry sheets questions codes m combinations)) (entries64 marks.now)) }
 {
     if codes.len() <= 4 * FEW_VALUES {
         return test_few(sheets, questions, codes, m, combinations, marks);
@@ -119,7 +119,7 @@ pub fn test_bytes(
 
 // Compare, with room for one entry more than any accepted list has.
 fn compare_many(sheets: &[u8], questions: &[u8], codes: &[u8], a: u16, b: u16) -> u64
-    ensures { result ≡ packed_pair (compare_reply (byte_network (entry sheets) (entry questions) (entry codes)) a b) }
+    ensures { result ≡ packed_pair (compare_reply (byte_network sheets.now questions.now codes.now) a b) }
 {
     let mut variables = [0u16; 513];
     let mut values = [0u32; 32769];
@@ -138,7 +138,7 @@ fn compare_many(sheets: &[u8], questions: &[u8], codes: &[u8], a: u16, b: u16) -
 // The same where there are few values, with room for these alone.
 fn compare_few(sheets: &[u8], questions: &[u8], codes: &[u8], a: u16, b: u16) -> u64
     requires { length codes.now ≤ 4 * few_values }
-    ensures { result ≡ packed_pair (compare_reply (byte_network (entry sheets) (entry questions) (entry codes)) a b) }
+    ensures { result ≡ packed_pair (compare_reply (byte_network sheets.now questions.now codes.now) a b) }
 {
     let mut variables = [0u16; 513];
     let mut values = [0u32; FEW_VALUES];
@@ -156,7 +156,7 @@ fn compare_few(sheets: &[u8], questions: &[u8], codes: &[u8], a: u16, b: u16) ->
 
 // Compare, on lists that are whole.
 pub fn compare_bytes(sheets: &[u8], questions: &[u8], codes: &[u8], a: u16, b: u16) -> u64
-    ensures { result ≡ packed_pair (compare_reply (byte_network (entry sheets) (entry questions) (entry codes)) a b) }
+    ensures { result ≡ packed_pair (compare_reply (byte_network sheets.now questions.now codes.now) a b) }
 {
     if codes.len() <= 4 * FEW_VALUES {
         return compare_few(sheets, questions, codes, a, b);

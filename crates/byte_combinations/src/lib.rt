@@ -1,6 +1,5 @@
 // The listing of connected combinations on lists of bytes that are whole: decode the book, find what there is to list, and write it in front
 // of the bytes lent.
-ghost use Rattle.layout.specs.Loan.{entry};
 ghost use Rattle.layout.specs.Shape.{network_of};
 ghost use Rattle.encoding.specs.Call.{byte_network};
 ghost use Rattle.byte_combinations.specs.Listed.{Lists};
@@ -20,7 +19,7 @@ fn combinations_decoded(
     m: u16,
     combinations: &mut [u8],
 ) -> u64
-    ensures { Lists result (network_of shape (entry variables) (entry values)) m combinations }
+    ensures { Lists result (network_of shape variables.now values.now) m combinations }
 {
     let mut found = [0u16; MEMBER_LIST];
     let a = enumerate(
@@ -44,7 +43,7 @@ pub fn combinations_bytes(
     m: u16,
     combinations: &mut [u8],
 ) -> u64
-    ensures { Lists result (byte_network (entry sheets) (entry questions) (entry codes)) m combinations }
+    ensures { Lists result (byte_network sheets.now questions.now codes.now) m combinations }
 {
     let mut variables = [0u16; 513];
     let mut values = [0u32; 32769];

@@ -1,7 +1,6 @@
 // The moves on lists of bytes that are whole: decode, move to an array with room for every network, and encode the values moved.
 ghost use Rattle.std.specs.Prelude.{◌≡◌};
 ghost use Rattle.model.specs.Moves.{widen, narrow, moved_numbers};
-ghost use Rattle.layout.specs.Loan.{entry, exit};
 ghost use Rattle.encoding.specs.Packed.{packed_pair};
 ghost use Rattle.byte_moves.specs.Moves.{whole_moved};
 
@@ -25,7 +24,7 @@ fn pack_moved(a: Moved) -> u64
 
 // To the new form.
 pub fn widen_bytes(sheets: &[u8], questions: &[u8], codes: &[u8], target: &mut [u8]) -> u64
-    ensures { record { answer = result; target = exit target } ≡ whole_moved widen (entry sheets) (entry questions) (entry codes) (entry target) }
+    ensures { record { answer = result; target = target.new } ≡ whole_moved widen sheets.now questions.now codes.now target.old }
 {
     let mut variables = [0u16; 513];
     let mut values = [0u16; 32769];
@@ -51,7 +50,7 @@ pub fn widen_bytes(sheets: &[u8], questions: &[u8], codes: &[u8], target: &mut [
 
 // Back to the old form.
 pub fn narrow_bytes(sheets: &[u8], questions: &[u8], codes: &[u8], target: &mut [u8]) -> u64
-    ensures { record { answer = result; target = exit target } ≡ whole_moved narrow (entry sheets) (entry questions) (entry codes) (entry target) }
+    ensures { record { answer = result; target = target.new } ≡ whole_moved narrow sheets.now questions.now codes.now target.old }
 {
     let mut variables = [0u16; 513];
     let mut values = [0u32; 32769];

@@ -1,7 +1,7 @@
 // The calls from C: numbers and lists of bytes. include/wakhvosi.h says what each byte means.
 ghost use Rattle.model.specs.Request.{filter, withdraw, choose, choose_several};
 ghost use Rattle.model.specs.Moves.{widen, narrow};
-ghost use Rattle.layout.specs.Loan.{entry, exit};
+ghost use Rattle.layout.specs.Loan.{entry};
 ghost use Rattle.encoding.specs.Call.{byte_book, byte_request, left, KeepsBytes, TestedBytes, ComparedBytes, listing, EnumeratesBytes};
 ghost use Rattle.byte_moves.specs.Moves.{KeepsMoveBytes};
 
@@ -24,7 +24,7 @@ pub extern "C" fn wakhvosi_filter(
     marks: &mut [u8],
     supports: &mut [u8],
 ) -> u64
-    ensures { KeepsBytes (byte_request (byte_book entry sheets questions codes m combinations) (entry marks) (entry supports) filter) (left result sheets marks supports) }
+    ensures { KeepsBytes (byte_request (byte_book entry sheets questions codes m combinations) marks.old supports.old filter) (left result sheets marks supports) }
 {
     change_call(
         Call::Filter,
@@ -52,7 +52,7 @@ pub extern "C" fn wakhvosi_withdraw(
     supports: &mut [u8],
     ids: &[u8],
 ) -> u64
-    ensures { KeepsBytes (byte_request (byte_book entry sheets questions codes m combinations) (entry marks) (entry supports) (withdraw (entry ids))) (left result sheets marks supports) }
+    ensures { KeepsBytes (byte_request (byte_book entry sheets questions codes m combinations) marks.old supports.old (withdraw ids.now)) (left result sheets marks supports) }
 {
     if ids.len() % 2 != 0 {
         return NOT_WHOLE;
@@ -84,7 +84,7 @@ pub extern "C" fn wakhvosi_choose(
     question: u16,
     code: Value,
 ) -> u64
-    ensures { KeepsBytes (byte_request (byte_book entry sheets questions codes m combinations) (entry marks) (entry supports) (choose question code)) (left result sheets marks supports) }
+    ensures { KeepsBytes (byte_request (byte_book entry sheets questions codes m combinations) marks.old supports.old (choose question code)) (left result sheets marks supports) }
 {
     change_call(
         Call::Choose(question, code),
@@ -114,7 +114,7 @@ pub extern "C" fn wakhvosi_choose_several(
     chosen_questions: &[u8],
     chosen_codes: &[u8],
 ) -> u64
-    ensures { KeepsBytes (byte_request (byte_book entry sheets questions codes m combinations) (entry marks) (entry supports) (choose_several (entry chosen_questions) (entry chosen_codes))) (left result sheets marks supports) }
+    ensures { KeepsBytes (byte_request (byte_book entry sheets questions codes m combinations) marks.old supports.old (choose_several chosen_questions.now chosen_codes.now)) (left result sheets marks supports) }
 {
     if !cells_whole(chosen_questions.len(), chosen_codes.len()) {
         return NOT_WHOLE;
@@ -143,7 +143,7 @@ pub extern "C" fn wakhvosi_test(
     combinations: &[u8],
     marks: &[u8],
 ) -> u64
-    ensures { TestedBytes (byte_book entry sheets questions codes m combinations) (entry marks) result }
+    ensures { TestedBytes (byte_book entry sheets questions codes m combinations) marks.now result }
 {
     if !instance_whole(
         sheets.len(),
@@ -168,7 +168,7 @@ pub extern "C" fn wakhvosi_compare(
     a: u16,
     b: u16,
 ) -> u64
-    ensures { ComparedBytes (entry sheets) (entry questions) (entry codes) a b result }
+    ensures { ComparedBytes sheets.now questions.now codes.now a b result }
 {
     if !network_whole(sheets.len(), questions.len(), codes.len()) {
         return NOT_WHOLE;
@@ -185,7 +185,7 @@ pub extern "C" fn wakhvosi_combinations(
     m: u16,
     combinations: &mut [u8],
 ) -> u64
-    ensures { EnumeratesBytes (byte_book entry sheets questions codes m combinations) (listing result (exit combinations)) }
+    ensures { EnumeratesBytes (byte_book entry sheets questions codes m combinations) (listing result combinations.new) }
 {
     if !instance_whole(
         sheets.len(),
@@ -206,7 +206,7 @@ pub extern "C" fn wakhvosi_widen(
     codes: &[u8],
     target: &mut [u8],
 ) -> u64
-    ensures { KeepsMoveBytes widen (entry sheets) (entry questions) (entry codes) (entry target) result (exit target) }
+    ensures { KeepsMoveBytes widen sheets.now questions.now codes.now target.old result target.new }
 {
     if !instance_whole(sheets.len(), questions.len(), target.len(), codes.len()) {
         return NOT_WHOLE;
@@ -222,7 +222,7 @@ pub extern "C" fn wakhvosi_narrow(
     codes: &[u8],
     target: &mut [u8],
 ) -> u64
-    ensures { KeepsMoveBytes narrow (entry sheets) (entry questions) (entry codes) (entry target) result (exit target) }
+    ensures { KeepsMoveBytes narrow sheets.now questions.now codes.now target.old result target.new }
 {
     if !instance_whole(sheets.len(), questions.len(), codes.len(), target.len()) {
         return NOT_WHOLE;

@@ -28,7 +28,7 @@ pub fn change(
     removed: &Words,
 ) -> Answer
     requires { Ready (setting (λ x. x.now) variables values starts members m) words.old supports.old counts.old removed.now }
-    ensures { Changes result (setting entry variables values starts members m) words supports counts (entry removed) }
+    ensures { Changes result (setting entry variables values starts members m) words supports counts removed.now }
 {
     let total = tuple_count(starts);
     let before = count(words, 0, total);
@@ -51,7 +51,7 @@ fn make(
     plan: Plan,
 ) -> Answer
     requires { Plans plan variables.now values.now m members.now words.old supports.old counts.old }
-    ensures { RepliesPlanned result plan (entry variables) (entry values) m (entry members) words supports counts }
+    ensures { RepliesPlanned result plan variables.now values.now m members.now words supports counts }
 {
     let fault = plan.fault;
     if fault != 0 {
@@ -75,7 +75,7 @@ pub fn filter(
     supports: &mut [u16],
     counts: &mut [u16],
 ) -> Answer
-    ensures { Replies result (instance_of shape (entry variables) (entry values) m (entry members)) words supports counts filter }
+    ensures { Replies result (instance_of shape variables.now values.now m members.now) words supports counts filter }
 {
     let opening = opened(
         shape,
@@ -103,7 +103,7 @@ pub fn withdraw(
     counts: &mut [u16],
     ids: &[u16],
 ) -> Answer
-    ensures { Replies result (instance_of shape (entry variables) (entry values) m (entry members)) words supports counts (withdraw (entry ids)) }
+    ensures { Replies result (instance_of shape variables.now values.now m members.now) words supports counts (withdraw ids.now) }
 {
     let opening = opened(
         shape,
@@ -132,7 +132,7 @@ pub fn choose(
     x: u16,
     v: Value,
 ) -> Answer
-    ensures { Replies result (instance_of shape (entry variables) (entry values) m (entry members)) words supports counts (choose x v) }
+    ensures { Replies result (instance_of shape variables.now values.now m members.now) words supports counts (choose x v) }
 {
     let opening = opened(
         shape,
@@ -161,7 +161,7 @@ pub fn choose_several(
     xs: &[u16],
     vs: &[Value],
 ) -> Answer
-    ensures { Replies result (instance_of shape (entry variables) (entry values) m (entry members)) words supports counts (choose_several (entry xs) (entry vs)) }
+    ensures { Replies result (instance_of shape variables.now values.now m members.now) words supports counts (choose_several xs.now vs.now) }
 {
     let opening = opened(
         shape,

@@ -25,7 +25,7 @@ pub type Masks = [u64; MAX_RELATIONS];
 // The set of a scope's variables: variable x is bit x.
 pub fn mask_of(scope: &[u16]) -> u64
     requires { all (λ (x : ℕ). ltb x variable_count) scope.now ≡ true }
-    ensures { (x : ℕ) → is_set result x ≡ elem x (entry scope) }
+    ensures { (x : ℕ) → is_set result x ≡ elem x scope.now }
 {
     let mut mask: u64 = 0;
     let mut column = 0;
@@ -56,7 +56,7 @@ pub fn masks(variables: &[u16], values: &[Value], starts: &Starts) -> Masks
 // The set with the variables of every member that it meets by the time the pass comes to it.
 fn absorb(masks: &Masks, members: &[u16], set: u64) -> u64
     requires { below max_relations members.now ≡ true }
-    ensures { result ≡ absorbed (entry masks) (entry members) set }
+    ensures { result ≡ absorbed masks.now members.now set }
 {
     let mut grown = set;
     let mut i = 0;
@@ -73,7 +73,7 @@ fn absorb(masks: &Masks, members: &[u16], set: u64) -> u64
 // Whether every member has a variable of the set.
 fn all_meet(masks: &Masks, members: &[u16], set: u64) -> bool
     requires { below max_relations members.now ≡ true }
-    ensures { result ≡ all (meets (entry masks) set) (entry members) }
+    ensures { result ≡ all (meets masks.now set) members.now }
 {
     let mut at = 0;
     while at < members.len() {
@@ -88,7 +88,7 @@ fn all_meet(masks: &Masks, members: &[u16], set: u64) -> bool
 // Whether the combination is connected.
 fn connected(masks: &Masks, members: &[u16]) -> bool
     requires { all (known masks.now) members.now ≡ true }
-    ensures { result ≡ connected_in (entry masks) (entry members) }
+    ensures { result ≡ connected_in masks.now members.now }
 {
     if members.len() == 0 {
         return true;
@@ -105,7 +105,7 @@ fn connected(masks: &Masks, members: &[u16]) -> bool
 
 // Whether every member is below count.
 pub fn all_below(count: usize, members: &[u16]) -> bool
-    ensures { result ≡ below count (entry members) }
+    ensures { result ≡ below count members.now }
 {
     let mut j = 0;
     while j < members.len() {
@@ -119,7 +119,7 @@ pub fn all_below(count: usize, members: &[u16]) -> bool
 
 // Whether the members rise.
 fn rising(members: &[u16]) -> bool
-    ensures { result ≡ pairwise ltb (entry members) }
+    ensures { result ≡ pairwise ltb members.now }
 {
     let mut i = 1;
     while i < members.len() {
@@ -133,7 +133,7 @@ fn rising(members: &[u16]) -> bool
 
 // Whether the members of one combination exist and rise.
 fn proper(count: usize, members: &[u16]) -> bool
-    ensures { result ≡ proper count (entry members) }
+    ensures { result ≡ proper count members.now }
 {
     if !all_below(count, members) {
         return false;
@@ -144,7 +144,7 @@ fn proper(count: usize, members: &[u16]) -> bool
 // Whether the members of every combination exist and rise.
 fn all_proper(count: usize, m: usize, members: &[u16]) -> bool
     requires { 1 ≤ m }
-    ensures { result ≡ all (proper count) (combinations m (entry members)) }
+    ensures { result ≡ all (proper count) (combinations m members.now) }
 {
     let mut start = 0;
     let mut passed = 0;
@@ -163,7 +163,7 @@ fn all_proper(count: usize, m: usize, members: &[u16]) -> bool
 fn all_connected(masks: &Masks, m: usize, members: &[u16]) -> bool
     requires le_m { 1 ≤ m }
     requires members_value { all (all (known masks.now)) (combinations m members.now) ≡ true }
-    ensures { result ≡ all (connected_in (entry masks)) (combinations m (entry members)) }
+    ensures { result ≡ all (connected_in masks.now) (combinations m members.now) }
 {
     let mut start = 0;
     let mut k = 0;
@@ -209,7 +209,7 @@ pub fn fault(variables: &[u16], values: &[Value], starts: &Starts, m: u16, membe
 // How many numbers the supports need.
 pub fn needed(starts: &Starts, members: &[u16], m: u16) -> usize
     requires { SoundStarts starts.now × SoundPairs starts.now m members.now }
-    ensures { result ≡ needed (outline (entry starts)) (combinations m (entry members)) }
+    ensures { result ≡ needed (outline starts.now) (combinations m members.now) }
 {
     let mut tuples = 0;
     let mut place = 0;

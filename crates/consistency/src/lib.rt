@@ -1,7 +1,7 @@
 // The call that tests whether the live tuples are consistent.
 ghost use Rattle.std.specs.Prelude.{◌≡◌};
 ghost use Rattle.model.specs.Reply.{verdict_numbers, Tested};
-ghost use Rattle.layout.specs.Loan.{entry, exit};
+ghost use Rattle.layout.specs.Loan.{entry};
 ghost use Rattle.layout.specs.Shape.{instance_of};
 ghost use Rattle.layout.specs.Setting.{setting, Sound};
 ghost use Rattle.narrowing.specs.Narrows.{Long};
@@ -37,8 +37,8 @@ fn has_support(
     requires long_2 { Long fresh.old × MeetsBeside (searching (λ x. x.now) variables values starts words members place own (lowest place own)) fresh.old }
     requires long_3 { Long candidates.old × Long spare.old }
     ensures result_value { is_found result ≡ has_support (searching entry variables values starts words members place own (lowest place own)) }
-    ensures long_4 { Long (exit fresh) × MeetsBeside (searching entry variables values starts words members place own (lowest place own)) (exit fresh) }
-    ensures long_5 { Long (exit candidates) × Long (exit spare) }
+    ensures long_4 { Long fresh.new × MeetsBeside (searching entry variables values starts words members place own (lowest place own)) fresh.new }
+    ensures long_5 { Long candidates.new × Long spare.new }
 {
     let mut low = [0u16; MAX_MEMBERS];
     low[place] = own;
@@ -61,7 +61,7 @@ fn pair_supported(
     p: usize,
 ) -> bool
     requires { Long words.now × PairAt (setting (λ x. x.now) variables values starts members m) index.now p }
-    ensures { result ≡ pair_consistent (setting entry variables values starts members m) (entry words) p }
+    ensures { result ≡ pair_consistent (setting entry variables values starts members m) words.now p }
 {
     let mut steps = steps_of_pair(index, members, m, p);
     let base = p / m * m;
@@ -129,7 +129,7 @@ pub fn all_supported(
     words: &Words,
 ) -> bool
     requires { Long words.now × Sound (setting (λ x. x.now) variables values starts members m) }
-    ensures { result ≡ all_consistent (setting entry variables values starts members m) (entry words) }
+    ensures { result ≡ all_consistent (setting entry variables values starts members m) words.now }
 {
     let mut index = [0u64; INDEX];
     index_all(variables, values, starts, &mut index);
@@ -152,7 +152,7 @@ pub fn test(
     members: &[u16],
     words: &[u64],
 ) -> Verdict
-    ensures { Tested (instance_of shape (entry variables) (entry values) m (entry members)) (entry words) (verdict_numbers result) }
+    ensures { Tested (instance_of shape variables.now values.now m members.now) words.now (verdict_numbers result) }
 {
     let opening = test_checked(shape, variables, values, m, members, words.len());
     if opening.fault != 0 {

@@ -5,7 +5,6 @@ ghost use Rattle.model.specs.Edges.{max_member_list};
 ghost use Rattle.model.specs.Enumeration.{enumerated, enumeration_reply};
 ghost use Rattle.model.specs.Text.{text_of};
 ghost use Rattle.model.specs.Listing.{enumeration_lines};
-ghost use Rattle.layout.specs.Loan.{entry, exit};
 ghost use Rattle.layout.specs.Shape.{network_of};
 ghost use Rattle.printing.specs.Appended.{Appended};
 
@@ -24,7 +23,7 @@ const REFUSED: u32 = 2;
 // Copies members to the front of a list of fields.
 fn widened(members: &[u16], into: &mut [u32])
     requires { length members.now ≤ length into.old }
-    ensures { take (length (entry members)) (exit into) ≡ entry members }
+    ensures { take (length members.now) into.new ≡ members.now }
 {
     let mut i = 0;
     while i < members.len() {
@@ -36,7 +35,7 @@ fn widened(members: &[u16], into: &mut [u32])
 // Writes that so many combinations of m members are listed, and each of them; the number of bytes written.
 fn print_listed(count: u16, m: u16, members: &[u16], out: &mut [u8; OUTPUT]) -> usize
     requires { (length members.now ≡ max_member_list) × ((0 < m) × (count * m ≤ max_member_list)) }
-    ensures { Appended (text_of (enumeration_lines m (enumerated (Listed count) (entry members)))) (entry out) 0 (exit out) result }
+    ensures { Appended (text_of (enumeration_lines m (enumerated (Listed count) members.now))) out.old 0 out.new result }
 {
     let fields = [LISTED, 0, count as u32, 0];
     let n = line(out, 0, &fields);
@@ -50,7 +49,7 @@ fn print_listed(count: u16, m: u16, members: &[u16], out: &mut [u8; OUTPUT]) -> 
 // Writes an answer, and the combinations that are listed; the number of bytes written.
 fn print(answer: Enumeration, m: u16, members: &[u16], out: &mut [u8; OUTPUT]) -> usize
     requires { (length members.now ≡ max_member_list) × ((n : ℕ) → answer ≡ Listed n → (0 < m) × (n * m ≤ max_member_list)) }
-    ensures { Appended (text_of (enumeration_lines m (enumerated answer (entry members)))) (entry out) 0 (exit out) result }
+    ensures { Appended (text_of (enumeration_lines m (enumerated answer members.now))) out.old 0 out.new result }
 {
     match answer {
         Enumeration::Listed(count) => print_listed(count, m, members, out),
@@ -69,7 +68,7 @@ pub fn listed(
     m: u16,
     out: &mut [u8; OUTPUT],
 ) -> usize
-    ensures { Appended (text_of (enumeration_lines m (enumeration_reply (network_of shape (entry variables) (entry values)) m (replicate max_member_list 0)))) (entry out) 0 (exit out) result }
+    ensures { Appended (text_of (enumeration_lines m (enumeration_reply (network_of shape variables.now values.now) m (replicate max_member_list 0)))) out.old 0 out.new result }
 {
     let mut members = [0u16; MEMBER_LIST];
     let answer = combinations(shape, variables, values, m, &mut members);

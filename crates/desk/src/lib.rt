@@ -3,7 +3,6 @@ ghost use Rattle.std.specs.Prelude.{◌≡◌, true, ◌++◌, ◌≤◌, length
 ghost use Rattle.std.proofs.Math.Option.{none, some};
 ghost use Rattle.model.specs.Text.{max_field, text_of, small, writable};
 ghost use Rattle.model.specs.Listing.{lines_for, listing, combination_listing};
-ghost use Rattle.layout.specs.Loan.{entry, exit};
 ghost use Rattle.layout.specs.Shape.{instance_of};
 ghost use Rattle.printing.specs.Appended.{Appended};
 ghost use Rattle.desk.specs.Opened.{Opened};
@@ -23,7 +22,7 @@ pub mod combinations; // the connected combinations of a network
 
 // Writes that a text is not in the form; the number of bytes written.
 fn refused(out: &mut [u8; OUTPUT]) -> usize
-    ensures { Appended (text_of (lines_for none)) (entry out) 0 (exit out) result }
+    ensures { Appended (text_of (lines_for none)) out.old 0 out.new result }
 {
     let fields = [2u32, 1, 0, 0];
     line(out, 0, &fields)
@@ -39,7 +38,7 @@ fn filtered(
     out: &mut [u8; OUTPUT],
 ) -> usize
     requires { writable (instance_of shape variables.now values.now m members.now) ≡ true }
-    ensures { Appended (text_of (lines_for (some (instance_of shape (entry variables) (entry values) m (entry members))))) (entry out) 0 (exit out) result }
+    ensures { Appended (text_of (lines_for (some (instance_of shape variables.now values.now m members.now)))) out.old 0 out.new result }
 {
     let mut words = [u64::MAX; WORDS];
     let mut supports = [0u16; MAX_SUPPORT_NUMBERS];
@@ -61,7 +60,7 @@ fn filtered(
 // Copies fields that are not codes to the front of a list of 16-bit numbers.
 fn copied(fields: &[u32], into: &mut [u16])
     requires { (small max_field fields.now ≡ true) × (length fields.now ≤ length into.old) }
-    ensures { take (length (entry fields)) (exit into) ≡ entry fields }
+    ensures { take (length fields.now) into.new ≡ fields.now }
 {
     let mut i = 0;
     while i < fields.len() {
@@ -78,7 +77,7 @@ fn opened(
     values: &mut [Value; MAX_VALUES],
     members: &mut [u16; MAX_MEMBER_LIST],
 ) -> Book
-    ensures { Opened (entry text) result (exit variables) (exit values) (exit members) }
+    ensures { Opened text.now result variables.new values.new members.new }
 {
     let mut variable_fields = [0u32; MAX_VARIABLES];
     let mut member_fields = [0u32; MAX_MEMBER_LIST];
@@ -95,8 +94,8 @@ fn opened(
 
 // Writes the listing of a text of any length at the front of the buffer, which behind it stays as lent; the number of bytes written.
 pub fn listing(text: &[u8], out: &mut [u8; OUTPUT]) -> usize
-    ensures room { (result ≤ length (exit out)) × (result ≡ length (take result (exit out))) }
-    ensures text { (result ≡ length (listing (entry text))) × (exit out ≡ listing (entry text) ++ drop result (entry out)) }
+    ensures room { (result ≤ length out.new) × (result ≡ length (take result out.new)) }
+    ensures text { (result ≡ length (listing text.now)) × (out.new ≡ listing text.now ++ drop result out.old) }
 {
     let mut variables = [0u16; MAX_VARIABLES];
     let mut values = [0u32; MAX_VALUES];
@@ -120,8 +119,8 @@ pub fn listing(text: &[u8], out: &mut [u8; OUTPUT]) -> usize
 
 // Writes, as `listing` does, the connected combinations of the m asked, whatever m and combinations stand in the text.
 pub fn combination_listing(asked: u16, text: &[u8], out: &mut [u8; OUTPUT]) -> usize
-    ensures room { (result ≤ length (exit out)) × (result ≡ length (take result (exit out))) }
-    ensures text { (result ≡ length (combination_listing asked (entry text))) × (exit out ≡ combination_listing asked (entry text) ++ drop result (entry out)) }
+    ensures room { (result ≤ length out.new) × (result ≡ length (take result out.new)) }
+    ensures text { (result ≡ length (combination_listing asked text.now)) × (out.new ≡ combination_listing asked text.now ++ drop result out.old) }
 {
     let mut variables = [0u16; MAX_VARIABLES];
     let mut values = [0u32; MAX_VALUES];
@@ -143,8 +142,8 @@ pub fn combination_listing(asked: u16, text: &[u8], out: &mut [u8; OUTPUT]) -> u
 
 // Writes the combinations that are asked for by a line with m and a text behind it.
 pub fn asked_listing(input: &[u8], out: &mut [u8; OUTPUT]) -> usize
-    ensures room { (result ≤ length (exit out)) × (result ≡ length (take result (exit out))) }
-    ensures text { (result ≡ length (asked_listing (entry input))) × (exit out ≡ asked_listing (entry input) ++ drop result (entry out)) }
+    ensures room { (result ≤ length out.new) × (result ≡ length (take result out.new)) }
+    ensures text { (result ≡ length (asked_listing input.now)) × (out.new ≡ asked_listing input.now ++ drop result out.old) }
 {
     let m = field(input, 0, MAX_FIELD, NEWLINE);
     if m.next == 0 {

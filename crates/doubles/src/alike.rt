@@ -45,7 +45,7 @@ pub fn variables_from(
     from: usize,
 ) -> u64
     requires { MembersIn (lists (λ x. x.now) variables values starts) members.now }
-    ensures { CoversFrom (network_in (lists entry variables values starts)) (entry members) place from (is_set result) }
+    ensures { CoversFrom (network_in (lists entry variables values starts)) members.now place from (is_set result) }
 {
     let mut common: u64 = 0;
     let mut j = from;
@@ -63,7 +63,7 @@ pub fn variables_from(
 // Whether two tuples have equal values in every column whose variable is in the set.
 fn equal_in(scope: &[u16], a: &[Value], b: &[Value], common: u64) -> bool
     requires { (length scope.now ≡ length a.now) × (length scope.now ≡ length b.now) }
-    ensures { result ≡ true → under (is_set common) (cells (entry scope) (entry a)) ≡ under (is_set common) (cells (entry scope) (entry b)) }
+    ensures { result ≡ true → under (is_set common) (cells scope.now a.now) ≡ under (is_set common) (cells scope.now b.now) }
 {
     let mut c = 0;
     while c < scope.len() {

@@ -1,6 +1,6 @@
 // Doubles: tuples of a relation with the same values under a set of variables. They are found by a table of tuples, at the hash of their values.
 ghost use Rattle.std.specs.Prelude.{◌≡◌, ◌<◌, length};
-ghost use Rattle.layout.specs.Loan.{entry, exit};
+ghost use Rattle.layout.specs.Loan.{entry};
 ghost use Rattle.layout.specs.Setting.{lists};
 ghost use Rattle.doubles.specs.Alike.{TupleAt};
 ghost use Rattle.doubles.specs.Doubles.{places, hash_bound, FirstAlike};
@@ -85,7 +85,7 @@ fn alike_at(
     place: usize,
 ) -> u16
     requires { TupleAt (lists (λ x. x.now) variables values starts) r x × (length table.old ≡ places) × (place < places) }
-    ensures { FirstAlike (lists entry variables values starts) common r x (entry table) result (exit table) }
+    ensures { FirstAlike (lists entry variables values starts) common r x table.old result table.new }
 {
     let y = table[place];
     if x <= y {
@@ -110,7 +110,7 @@ fn alike_by(
     place: usize,
 ) -> u16
     requires { TupleAt (lists (λ x. x.now) variables values starts) r x × (length table.old ≡ places) × (place < places) }
-    ensures { FirstAlike (lists entry variables values starts) common r x (entry table) result (exit table) }
+    ensures { FirstAlike (lists entry variables values starts) common r x table.old result table.new }
 {
     let y = alike_at(variables, values, starts, table, r, x, common, place);
     if y < x {
@@ -142,7 +142,7 @@ pub fn first_alike(
     common: u64,
 ) -> u16
     requires { TupleAt (lists (λ x. x.now) variables values starts) r x × (length table.old ≡ places) }
-    ensures { FirstAlike (lists entry variables values starts) common r x (entry table) result (exit table) }
+    ensures { FirstAlike (lists entry variables values starts) common r x table.old result table.new }
 {
     let place = tuple_hash(variables, values, starts, r, x, common, 0);
     alike_by(variables, values, starts, table, r, x, common, place)
@@ -160,7 +160,7 @@ pub fn alike_from(
     seed: u64,
 ) -> u16
     requires { TupleAt (lists (λ x. x.now) variables values starts) r x × (length table.old ≡ places) × (seed < hash_bound) }
-    ensures { FirstAlike (lists entry variables values starts) common r x (entry table) result (exit table) }
+    ensures { FirstAlike (lists entry variables values starts) common r x table.old result table.new }
 {
     let place = tuple_hash(variables, values, starts, r, x, common, seed);
     alike_by(variables, values, starts, table, r, x, common, place)
@@ -177,7 +177,7 @@ pub fn alike_soon(
     common: u64,
 ) -> u16
     requires { TupleAt (lists (λ x. x.now) variables values starts) r x × (length table.old ≡ places) }
-    ensures { FirstAlike (lists entry variables values starts) common r x (entry table) result (exit table) }
+    ensures { FirstAlike (lists entry variables values starts) common r x table.old result table.new }
 {
     let place = tuple_hash(variables, values, starts, r, x, common, 0);
     let y = table[place];

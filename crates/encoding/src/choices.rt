@@ -1,5 +1,4 @@
 // Pairs of variables and values as bytes: two lists of any length, read where they lie.
-ghost use Rattle.layout.specs.Loan.{entry};
 ghost use Rattle.request.specs.Choices.{ChoicesOf};
 ghost use Rattle.wire.specs.Entries.{entries16, entries32};
 
@@ -9,7 +8,7 @@ use wire::{u16_at, u32_at};
 
 // The pairs of two lists.
 pub fn choices_at(questions: &[u8], codes: &[u8]) -> Choices
-    ensures { ChoicesOf result (entries16 (entry questions)) (entries32 (entry codes)) }
+    ensures { ChoicesOf result (entries16 questions.now) (entries32 codes.now) }
 {
     let variables = questions.len() / 2;
     let values = codes.len() / 4;

@@ -1,5 +1,4 @@
 // Ids as bytes: a list of any length, read where it lies.
-ghost use Rattle.layout.specs.Loan.{entry};
 ghost use Rattle.request.specs.Removal.{IdsOf};
 ghost use Rattle.wire.specs.Entries.{entries16};
 
@@ -9,7 +8,7 @@ use wire::u16_at;
 
 // The ids of a list.
 pub fn ids_at(ids: &[u8]) -> Ids
-    ensures { IdsOf result (entries16 (entry ids)) }
+    ensures { IdsOf result (entries16 ids.now) }
 {
     let n = ids.len() / 2;
     let mut words = [0u64; WORDS];

@@ -1,7 +1,6 @@
 // Relation records as bytes, and the live counts in them.
 ghost use Rattle.std.specs.Prelude.{◌≡◌, ◌*◌, ◌≤◌, length};
 ghost use Rattle.model.specs.Limits.{max_relations};
-ghost use Rattle.layout.specs.Loan.{entry, exit};
 ghost use Rattle.layout.specs.Shape.{padded, shape_of};
 ghost use Rattle.encoding.specs.Records.{records, counts_in, with_counts};
 
@@ -11,7 +10,7 @@ use wire::{least, put_u16, u16_at};
 
 // The relation records taken apart.
 pub fn shape_at(sheets: &[u8]) -> Shape
-    ensures { result ≡ shape_of (records (entry sheets)) }
+    ensures { result ≡ shape_of (records sheets.now) }
 {
     let count = sheets.len() / 6;
     let first = least(count, MAX_RELATIONS);
@@ -32,7 +31,7 @@ pub fn shape_at(sheets: &[u8]) -> Shape
 
 // The live counts of the first 64 records, and noughts behind them.
 pub fn counts_at(sheets: &[u8]) -> [u16; 64]
-    ensures { result ≡ padded max_relations (counts_in (entry sheets)) }
+    ensures { result ≡ padded max_relations (counts_in sheets.now) }
 {
     let first = least(sheets.len() / 6, MAX_RELATIONS);
     let mut counts = [0u16; 64];
@@ -47,7 +46,7 @@ pub fn counts_at(sheets: &[u8]) -> [u16; 64]
 // The counts become those of the first records, and every other byte stays.
 pub fn put_counts(counts: &[u16], sheets: &mut [u8])
     requires { 6 * length counts.now ≤ length sheets.old }
-    ensures { exit sheets ≡ with_counts (entry sheets) (entry counts) }
+    ensures { sheets.new ≡ with_counts sheets.old counts.now }
 {
     let mut r = 0;
     while r < counts.len() {

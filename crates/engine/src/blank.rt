@@ -1,6 +1,5 @@
 // The numbers of dead tuples in the support list: 65,535 each.
 ghost use Rattle.std.specs.Prelude.{◌-◌, length};
-ghost use Rattle.layout.specs.Loan.{entry, exit};
 ghost use Rattle.layout.specs.Starts.{outline};
 ghost use Rattle.engine.specs.Blank.{Blank, Blanked, BlankAsks, BlankAllAsks};
 
@@ -11,7 +10,7 @@ use worklist::list::{PairStarts, blank};
 // a dead tuple become 65,535; all other numbers stay.
 fn blank_dead(words: &[u64], numbers: &mut [u16], m: u16, first: u16, end: u16, start: usize)
     requires { BlankAsks m start first end words.now numbers.old }
-    ensures { Blank m start first (end - first) (entry words) (entry numbers) (exit numbers) }
+    ensures { Blank m start first (end - first) words.now numbers.old numbers.new }
 {
     let each = wide(m);
     let mut g = first;
@@ -35,7 +34,7 @@ pub fn blank_all(
     numbers: &mut [u16],
 )
     requires { BlankAllAsks starts.now m members.now pair_starts.now words.now numbers.old }
-    ensures { Blanked (outline (entry starts)) m (entry members) (length (entry members)) (entry words) (entry numbers) (exit numbers) }
+    ensures { Blanked (outline starts.now) m members.now (length members.now) words.now numbers.old numbers.new }
 {
     let mut p = 0;
     while p < members.len() {

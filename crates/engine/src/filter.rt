@@ -1,5 +1,5 @@
 // Visits until no pair waits: what lives then is the largest consistent set.
-ghost use Rattle.layout.specs.Loan.{entry, exit};
+ghost use Rattle.layout.specs.Loan.{entry};
 ghost use Rattle.layout.specs.Setting.{setting, Sound};
 ghost use Rattle.value_index.specs.Index.{Full};
 ghost use Rattle.live.specs.Words.{WordArray};
@@ -26,7 +26,7 @@ pub fn prepare(
     index: &mut Index,
 ) -> PairStarts
     requires { Full index.old × SoundShort (setting (λ x. x.now) variables values starts members m) }
-    ensures { Prepared (setting entry variables values starts members m) (exit index) result }
+    ensures { Prepared (setting entry variables values starts members m) index.new result }
 {
     index_all(variables, values, starts, index);
     pair_starts(starts, members, m)

@@ -1,7 +1,7 @@
 // The rest of a pair's tuples sought together: those from an id on that live and hold no support that lives.
 ghost use Rattle.std.specs.Prelude.{◌+◌, ◌*◌};
 ghost use Rattle.narrowing.specs.Narrows.{Long};
-ghost use Rattle.layout.specs.Loan.{entry, exit};
+ghost use Rattle.layout.specs.Loan.{entry};
 ghost use Rattle.layout.specs.Setting.{setting};
 ghost use Rattle.engine.specs.Rest.{HeldAt, SeekingAt, Seeking, RestAt, Rested};
 
@@ -46,7 +46,7 @@ fn seeking(
     end: u16,
 ) -> Words
     requires { SeekingAt words.now starts.now members.now numbers.now base each start first from end }
-    ensures { Seeking (entry words) from result }
+    ensures { Seeking words.now from result }
 {
     let mut pending = [0u64; WORDS];
     let mut g = next(words, from, end);
@@ -79,7 +79,7 @@ pub fn seek_rest(
     doomed: &mut Words,
 ) -> bool
     requires { RestAt (setting (λ x. x.now) variables values starts members m) index.now words.now lean.now numbers.old p start from × Long doomed.old }
-    ensures { Rested (setting entry variables values starts members m) p from (entry words) (entry numbers) (entry doomed) (exit numbers) (exit doomed) }
+    ensures { Rested (setting entry variables values starts members m) p from words.now numbers.old doomed.old numbers.new doomed.new }
 {
     if m < 2 {
         return true;
@@ -156,7 +156,7 @@ pub fn seek_rest_once_due(
     doomed: &mut Words,
 ) -> Effort
     requires { RestAt (setting (λ x. x.now) variables values starts members m) index.now words.now lean.now numbers.old p start from × Long doomed.old }
-    ensures { Rested (setting entry variables values starts members m) p from (entry words) (entry numbers) (entry doomed) (exit numbers) (exit doomed) }
+    ensures { Rested (setting entry variables values starts members m) p from words.now numbers.old doomed.old numbers.new doomed.new }
 {
     if kind < HARD {
         return effort;

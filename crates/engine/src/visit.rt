@@ -1,5 +1,5 @@
 // A visit of one pair of combination and member: each live tuple of the member gets its first support, or is removed.
-ghost use Rattle.layout.specs.Loan.{entry, exit};
+ghost use Rattle.layout.specs.Loan.{entry};
 ghost use Rattle.layout.specs.Setting.{setting};
 ghost use Rattle.narrowing.specs.Narrows.{Long};
 ghost use Rattle.live.specs.Words.{WordArray};
@@ -57,9 +57,9 @@ fn seek(
     requires long { Long words.old × SeekAt (setting (λ x. x.now) variables values starts members m) index.now words.old numbers.old p x at }
     requires beside { Beside (setting (λ x. x.now) variables values starts members m) p lean.now fresh.old × LeanIn (setting (λ x. x.now) variables values starts members m) p words.old lean.now }
     requires long_2 { Long candidates.old × Long spare.old }
-    ensures renewed { Renewed (setting entry variables values starts members m) p x (entry words) (entry numbers) (is_found result) (exit words) (exit numbers) }
-    ensures beside_2 { Beside (setting entry variables values starts members m) p (entry lean) (exit fresh) }
-    ensures long_3 { Long (exit candidates) × Long (exit spare) }
+    ensures renewed { Renewed (setting entry variables values starts members m) p x words.old numbers.old (is_found result) words.new numbers.new }
+    ensures beside_2 { Beside (setting entry variables values starts members m) p lean.now fresh.new }
+    ensures long_3 { Long candidates.new × Long spare.new }
 {
     let each = wide(m);
     let pair = wide(p);
@@ -119,10 +119,10 @@ fn replace(
     requires long { Long words.old × Beside (setting (λ x. x.now) variables values starts members m) p lean.now fresh.old × LeanIn (setting (λ x. x.now) variables values starts members m) p words.old lean.now }
     requires renew_at { RenewAt (setting (λ x. x.now) variables values starts members m) index.now words.old numbers.old sought.old p x at sides }
     requires long_2 { Long candidates.old × Long spare.old }
-    ensures renewed { Renewed (setting entry variables values starts members m) p x (entry words) (entry numbers) (is_found result) (exit words) (exit numbers) }
-    ensures entered { Entered x (entry sought) (exit sought) }
-    ensures beside { Beside (setting entry variables values starts members m) p (entry lean) (exit fresh) }
-    ensures long_3 { Long (exit candidates) × Long (exit spare) }
+    ensures renewed { Renewed (setting entry variables values starts members m) p x words.old numbers.old (is_found result) words.new numbers.new }
+    ensures entered { Entered x sought.old sought.new }
+    ensures beside { Beside (setting entry variables values starts members m) p lean.now fresh.new }
+    ensures long_3 { Long candidates.new × Long spare.new }
 {
     let twin = take_twin(
         variables, values, starts, members, m, words, numbers, sought, p, x, at, sides,
@@ -164,10 +164,10 @@ pub fn renew(
     requires long { Long words.old × Beside (setting (λ x. x.now) variables values starts members m) p lean.now fresh.old × LeanIn (setting (λ x. x.now) variables values starts members m) p words.old lean.now }
     requires renew_at { RenewAt (setting (λ x. x.now) variables values starts members m) index.now words.old numbers.old sought.old p x at sides }
     requires long_2 { Long candidates.old × Long spare.old }
-    ensures renewed { Renewed (setting entry variables values starts members m) p x (entry words) (entry numbers) (is_found result) (exit words) (exit numbers) }
-    ensures entered { Entered x (entry sought) (exit sought) }
-    ensures beside { Beside (setting entry variables values starts members m) p (entry lean) (exit fresh) }
-    ensures long_3 { Long (exit candidates) × Long (exit spare) }
+    ensures renewed { Renewed (setting entry variables values starts members m) p x words.old numbers.old (is_found result) words.new numbers.new }
+    ensures entered { Entered x sought.old sought.new }
+    ensures beside { Beside (setting entry variables values starts members m) p lean.now fresh.new }
+    ensures long_3 { Long candidates.new × Long spare.new }
 {
     let each = wide(m);
     if numbers[at] != NO_SUPPORT {
@@ -208,10 +208,10 @@ fn renew_or_fall(
     requires renew_at { RenewAt (setting (λ x. x.now) variables values starts members m) index.now words.old numbers.old sought.old p x at sides }
     requires long_2 { Long doomed.now × Doomed (setting (λ x. x.now) variables values starts members m) p words.old doomed.now }
     requires long_3 { Long candidates.old × Long spare.old }
-    ensures renewed { Renewed (setting entry variables values starts members m) p x (entry words) (entry numbers) (is_found result) (exit words) (exit numbers) }
-    ensures entered { Entered x (entry sought) (exit sought) }
-    ensures beside { Beside (setting entry variables values starts members m) p (entry lean) (exit fresh) }
-    ensures long_4 { Long (exit candidates) × Long (exit spare) }
+    ensures renewed { Renewed (setting entry variables values starts members m) p x words.old numbers.old (is_found result) words.new numbers.new }
+    ensures entered { Entered x sought.old sought.new }
+    ensures beside { Beside (setting entry variables values starts members m) p lean.now fresh.new }
+    ensures long_4 { Long candidates.new × Long spare.new }
 {
     let id = tuple_start(starts, members[wide(p)]) + x;
     if is_live(doomed, id) {
@@ -237,7 +237,7 @@ fn lean_at(
     lean: &mut Words,
 ) -> u16
     requires { Long lean.old × PairAt (setting (λ x. x.now) variables values starts members m) p }
-    ensures { LeanOf (setting entry variables values starts members m) p (entry lean) (exit lean) }
+    ensures { LeanOf (setting entry variables values starts members m) p lean.old lean.new }
 {
     if kind < HARD {
         return tried;
@@ -306,7 +306,7 @@ pub fn visit(
     p: u16,
 ) -> Queue
     requires { WordArray words.old × VisitAt (setting (λ x. x.now) variables values starts members m) index.now pair_starts.now words.old numbers.old p }
-    ensures { Visited (setting entry variables values starts members m) p queue.words (entry words) (entry numbers) result.words (exit words) (exit numbers) }
+    ensures { Visited (setting entry variables values starts members m) p queue.words words.old numbers.old result.words words.new numbers.new }
 {
     let sides = sides_of(variables, values, starts, members, m, p);
     let mut steps = steps_at(index, members, m, p);

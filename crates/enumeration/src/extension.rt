@@ -3,7 +3,6 @@ ghost use Rattle.std.specs.Prelude.{◌≡◌, [], ◌∷◌, ◌++◌, suc, ◌
 ghost use Rattle.std.proofs.Math.Seq.{paste};
 ghost use Rattle.model.specs.Limits.{max_members, max_combinations};
 ghost use Rattle.model.specs.Edges.{max_member_list};
-ghost use Rattle.layout.specs.Loan.{entry, exit};
 ghost use Rattle.enumeration.specs.Adds.{Adds};
 ghost use Rattle.enumeration.specs.Stage.{Choice, Stage, last_extensions, extensions};
 
@@ -15,7 +14,7 @@ use model::{MAX_COMBINATIONS, MAX_MEMBERS};
 // Writes the first n numbers of s into the list, from place `at` on.
 pub fn paste(list: &mut [u16], at: usize, s: &[u16], n: usize)
     requires { (at + n ≤ length list.old) × (n ≤ length s.now) }
-    ensures { exit list ≡ paste (entry list) at (entry s) n }
+    ensures { list.new ≡ paste list.old at s.now n }
 {
     let mut j = 0;
     while j < n {
@@ -28,7 +27,7 @@ pub fn paste(list: &mut [u16], at: usize, s: &[u16], n: usize)
 // those past r count for nothing.
 fn add(list: &mut [u16], found: u16, members: Members, k: usize, r: u16) -> u16
     requires { (length list.old ≡ max_member_list) × ((k < max_members) × (found < max_combinations)) }
-    ensures { Adds (suc k) ((take k members ++ (r ∷ [])) ∷ []) found (entry list) result (exit list) × (result ≡ found + 1) }
+    ensures { Adds (suc k) ((take k members ++ (r ∷ [])) ∷ []) found list.old result list.new × (result ≡ found + 1) }
 {
     let whole = put(members, k, r);
     paste(list, wide(found) * (k + 1), &whole, MAX_MEMBERS);
@@ -47,7 +46,7 @@ fn extend_last(
     found: u16,
 ) -> u16
     requires { Choice k from count list.old found }
-    ensures { Adds (suc k) (last_extensions set members k from count) found (entry list) result (exit list) }
+    ensures { Adds (suc k) (last_extensions set members k from count) found list.old result list.new }
 {
     let mut n = found;
     let mut r = next_in(set, from, count);
@@ -73,7 +72,7 @@ fn extend_by(
     found: u16,
 ) -> u16
     requires { Choice (k + 1) (r + 1) count list.old found }
-    ensures { Adds (k + 2) (last_extensions last (set members k r) (k + 1) (r + 1) count) found (entry list) result (exit list) }
+    ensures { Adds (k + 2) (last_extensions last (set members k r) (k + 1) (r + 1) count) found list.old result list.new }
 {
     if last >> r <= 1 {
         return found;
@@ -94,7 +93,7 @@ fn extend_two(
     found: u16,
 ) -> u16
     requires { Stage near.now sets.now count m k from list.old found × (k + 2 ≡ m) }
-    ensures { Adds m (extensions (entry near) (entry sets) members m k from count) found (entry list) result (exit list) }
+    ensures { Adds m (extensions near.now sets.now members m k from count) found list.old result list.new }
 {
     let some = union(sets, k);
     let all = common(sets, k);
@@ -126,7 +125,7 @@ pub fn extend(
     found: u16,
 ) -> u16
     requires { Stage near.now sets.now count m k from list.old found }
-    ensures { Adds m (extensions (entry near) (entry sets) members m k from count) found (entry list) result (exit list) }
+    ensures { Adds m (extensions near.now sets.now members m k from count) found list.old result list.new }
 {
     if k + 2 == m {
         return extend_two(near, count, m, members, k, sets, from, list, found);

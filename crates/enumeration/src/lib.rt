@@ -5,7 +5,7 @@ ghost use Rattle.std.proofs.Math.Seq.{paste};
 ghost use Rattle.model.specs.Limits.{max_members};
 ghost use Rattle.model.specs.Edges.{max_member_list};
 ghost use Rattle.model.specs.Enumeration.{connected_combinations, enumerated, Enumerates};
-ghost use Rattle.layout.specs.Loan.{entry, exit};
+ghost use Rattle.layout.specs.Loan.{entry};
 ghost use Rattle.layout.specs.Shape.{network_of};
 ghost use Rattle.layout.specs.Setting.{lists, network_in, SoundLists};
 ghost use Rattle.enumeration.specs.Adds.{Adds};
@@ -29,7 +29,7 @@ pub const MEMBER_LIST: usize = MAX_COMBINATIONS * MAX_MEMBERS;
 // Writes the connected combinations of m members to the front of the list, and gives their number; or 257, if they are more than 256.
 fn list_all(variables: &[u16], values: &[Value], starts: &Starts, m: usize, list: &mut [u16]) -> u16
     requires { SoundLists (lists (λ x. x.now) variables values starts) × ((2 ≤ m) × (m ≤ max_members)) × (length list.old ≡ max_member_list) }
-    ensures { Adds m (connected_combinations (network_in (lists entry variables values starts)) m) 0 (entry list) result (exit list) }
+    ensures { Adds m (connected_combinations (network_in (lists entry variables values starts)) m) 0 list.old result list.new }
 {
     let count = relation_count(starts);
     let near = neighbours(&masks(variables, values, starts), count);
@@ -46,7 +46,7 @@ pub fn enumerate(
     list: &mut [u16],
 ) -> Enumeration
     requires { length list.old ≡ max_member_list }
-    ensures { Found result (network_of shape (entry variables) (entry values)) m room (exit list) }
+    ensures { Found result (network_of shape variables.now values.now) m room list.new }
 {
     let f = fault(shape, variables, values);
     if f != 0 {
@@ -88,7 +88,7 @@ pub fn combinations(
     m: u16,
     list: &mut [u16],
 ) -> Enumeration
-    ensures { Enumerates (network_of shape (entry variables) (entry values)) m (entry list) (enumerated result (exit list)) }
+    ensures { Enumerates (network_of shape variables.now values.now) m list.old (enumerated result list.new) }
 {
     let mut found = [0u16; MEMBER_LIST];
     let a = enumerate(shape, variables, values, m, list.len(), &mut found);

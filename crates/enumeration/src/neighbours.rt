@@ -2,7 +2,6 @@
 ghost use Rattle.std.specs.Prelude.{◌≡◌, ◌&&◌, ℕ, ◌≤◌, ◌<◌, ltb, get_or};
 ghost use Rattle.model.specs.Limits.{max_relations};
 ghost use Rattle.model.specs.LiveWords.{is_set};
-ghost use Rattle.layout.specs.Loan.{entry};
 ghost use Rattle.combination.specs.Masks.{meets};
 ghost use Rattle.enumeration.specs.Reach.{Near, Tries};
 
@@ -17,7 +16,7 @@ pub type Neighbours = [u64; MAX_RELATIONS];
 // The relations below count that have a variable of the set.
 fn meeting(masks: &Masks, count: u16, set: u64) -> u64
     requires { count ≤ max_relations }
-    ensures { (s : ℕ) → is_set result s ≡ (ltb s count && meets (entry masks) set s) }
+    ensures { (s : ℕ) → is_set result s ≡ (ltb s count && meets masks.now set s) }
 {
     let mut found: u64 = 0;
     let mut s: u16 = 0;
@@ -33,7 +32,7 @@ fn meeting(masks: &Masks, count: u16, set: u64) -> u64
 // Of each relation below count its neighbours, by the masks of all.
 pub fn neighbours(masks: &Masks, count: u16) -> Neighbours
     requires { count ≤ max_relations }
-    ensures { Near (entry masks) count result }
+    ensures { Near masks.now count result }
 {
     let mut near = [0u64; MAX_RELATIONS];
     let mut r: u16 = 0;
@@ -47,7 +46,7 @@ pub fn neighbours(masks: &Masks, count: u16) -> Neighbours
 // The set `some`, with the neighbours of each relation of the set `all` from `from` on.
 pub fn tries(near: &Neighbours, count: u16, some: u64, all: u64, from: u16) -> u64
     requires { (from ≤ count) × (count ≤ max_relations) }
-    ensures { Tries result (entry near) count some all from }
+    ensures { Tries result near.now count some all from }
 {
     let mut word = some;
     let mut s = next_in(all, from, count);

@@ -3,7 +3,6 @@ ghost use Rattle.std.specs.Prelude.{◌≡◌, cond, suc, ◌≤◌, ◌<◌, le
 ghost use Rattle.std.specs.Int.Bits.{bit_and, bit_or};
 ghost use Rattle.model.specs.Limits.{max_relations};
 ghost use Rattle.model.specs.LiveWords.{is_set};
-ghost use Rattle.layout.specs.Loan.{entry};
 ghost use Rattle.enumeration.specs.Reach.{max_sets, reach, widened, joined, Joining, Union, Common, next_in, extendable};
 
 use model::{MAX_MEMBERS, MIN_MEMBERS};
@@ -55,7 +54,7 @@ fn kept(rest: u64, set: u64, r: u16) -> u64
 // The set `own`, with every one of the first k sets that relation r is in.
 fn reach(sets: &Sets, k: usize, r: u16, own: u64) -> u64
     requires { (length sets.now ≡ max_sets) × ((k ≤ max_sets) × (r < max_relations)) }
-    ensures { result ≡ reach r own (take k (entry sets)) }
+    ensures { result ≡ reach r own (take k sets.now) }
 {
     let mut all = own;
     let mut j = 0;
@@ -71,7 +70,7 @@ fn reach(sets: &Sets, k: usize, r: u16, own: u64) -> u64
 // The sets of k members and of relation r, whose neighbours are `own`.
 pub fn joined(sets: &Sets, k: usize, r: u16, own: u64) -> Sets
     requires { (length sets.now ≡ max_sets) × ((k < max_sets) × (r < max_relations)) }
-    ensures { take (suc k) result ≡ joined r own (take k (entry sets)) }
+    ensures { take (suc k) result ≡ joined r own (take k sets.now) }
 {
     let all = reach(sets, k, r, own);
     let mut next = [0u64; SETS];
@@ -86,7 +85,7 @@ pub fn joined(sets: &Sets, k: usize, r: u16, own: u64) -> Sets
 // The relations that are in some of the first k sets.
 pub fn union(sets: &Sets, k: usize) -> u64
     requires { (length sets.now ≡ max_sets) × (k ≤ max_sets) }
-    ensures { Union result (take k (entry sets)) }
+    ensures { Union result (take k sets.now) }
 {
     let mut some: u64 = 0;
     let mut j = 0;
@@ -102,7 +101,7 @@ pub fn union(sets: &Sets, k: usize) -> u64
 // The relations that are in each of the first k sets.
 pub fn common(sets: &Sets, k: usize) -> u64
     requires { (length sets.now ≡ max_sets) × (k ≤ max_sets) }
-    ensures { Common result (take k (entry sets)) }
+    ensures { Common result (take k sets.now) }
 {
     let mut all: u64 = EVERY;
     let mut j = 0;
@@ -118,7 +117,7 @@ pub fn common(sets: &Sets, k: usize) -> u64
 // The relations that are in every set of k members and of relation r, whose neighbours are `own`.
 fn joining(sets: &Sets, k: usize, r: u16, own: u64) -> u64
     requires { (length sets.now ≡ max_sets) × ((k ≤ max_sets) × (r < max_relations)) }
-    ensures { Joining result r own (take k (entry sets)) }
+    ensures { Joining result r own (take k sets.now) }
 {
     let mut all = own;
     let mut rest: u64 = EVERY;
@@ -137,7 +136,7 @@ fn joining(sets: &Sets, k: usize, r: u16, own: u64) -> u64
 pub fn candidates(sets: &Sets, k: usize, some: u64, all: u64, r: u16, own: u64) -> u64
     requires sets_len { (length sets.now ≡ max_sets) × ((k ≤ max_sets) × (r < max_relations)) }
     requires union { Union some (take k sets.now) × Common all (take k sets.now) }
-    ensures { Joining result r own (take k (entry sets)) }
+    ensures { Joining result r own (take k sets.now) }
 {
     if is_in(some, r) {
         return joining(sets, k, r, own);
@@ -164,7 +163,7 @@ pub fn next_in(set: u64, from: u16, count: u16) -> u16
 // Whether each of the first k sets has a relation from r on.
 pub fn extendable(sets: &Sets, k: usize, r: u16) -> bool
     requires { (length sets.now ≡ max_sets) × ((k ≤ max_sets) × (r < max_relations)) }
-    ensures { result ≡ extendable (take k (entry sets)) r }
+    ensures { result ≡ extendable (take k sets.now) r }
 {
     let mut j = 0;
     while j < SETS {

@@ -3,7 +3,6 @@ ghost use Rattle.std.specs.Prelude.{◌≡◌, ◌<◌, set};
 ghost use Rattle.model.specs.Limits.{max_relations};
 ghost use Rattle.model.specs.Network.{total, relation_of};
 ghost use Rattle.model.specs.Agreement.{is_any, fit};
-ghost use Rattle.layout.specs.Loan.{entry};
 ghost use Rattle.layout.specs.Shape.{relations_of};
 ghost use Rattle.layout.specs.Starts.{table, entry_bound, variable_start, tuple_start, value_start, relation_count, starts_of, outline, Bounded, SoundStarts};
 ghost use Rattle.layout.specs.Places.{place_at};
@@ -78,7 +77,7 @@ pub fn fit(a: Value, b: Value) -> bool
 // Where relation r's variables begin; those of the one before it end there.
 pub fn variable_start(starts: &Starts, r: u16) -> usize
     requires { r < table }
-    ensures { (result ≡ variable_start (entry starts) r) × (result < entry_bound) }
+    ensures { (result ≡ variable_start starts.now r) × (result < entry_bound) }
 {
     wide(starts[wide(r)])
 }
@@ -86,7 +85,7 @@ pub fn variable_start(starts: &Starts, r: u16) -> usize
 // The id of relation r's first tuple; the tuples of the one before it end there.
 pub fn tuple_start(starts: &Starts, r: u16) -> u16
     requires { r < table }
-    ensures { result ≡ tuple_start (entry starts) r }
+    ensures { result ≡ tuple_start starts.now r }
 {
     starts[TABLE + wide(r)]
 }
@@ -94,21 +93,21 @@ pub fn tuple_start(starts: &Starts, r: u16) -> u16
 // Where relation r's values begin; those of the one before it end there.
 pub fn value_start(starts: &Starts, r: u16) -> usize
     requires { r < table }
-    ensures { (result ≡ value_start (entry starts) r) × (result < entry_bound) }
+    ensures { (result ≡ value_start starts.now r) × (result < entry_bound) }
 {
     wide(starts[2 * TABLE + wide(r)])
 }
 
 // How many relations there are.
 pub fn relation_count(starts: &Starts) -> u16
-    ensures { result ≡ relation_count (entry starts) }
+    ensures { result ≡ relation_count starts.now }
 {
     starts[3 * TABLE]
 }
 
 // How many tuples there are.
 pub fn tuple_count(starts: &Starts) -> u16
-    ensures { result ≡ tuple_start (entry starts) max_relations }
+    ensures { result ≡ tuple_start starts.now max_relations }
 {
     starts[TABLE + MAX_RELATIONS]
 }
@@ -143,7 +142,7 @@ pub fn starts_of(shape: Shape) -> Starts
 // The relation of the tuple with id g.
 pub fn relation_of(starts: &Starts, g: u16) -> u16
     requires { SoundStarts starts.now × (g < total (outline starts.now)) }
-    ensures { result ≡ relation_of (outline (entry starts)) g }
+    ensures { result ≡ relation_of (outline starts.now) g }
 {
     let mut r: u16 = 0;
     while tuple_start(starts, r + 1) <= g {
@@ -155,7 +154,7 @@ pub fn relation_of(starts: &Starts, g: u16) -> u16
 // Where the scope of relation r and the values of its tuple x lie.
 pub fn place_of(starts: &Starts, r: u16, x: u16) -> Place
     requires { SoundStarts starts.now × (r < max_relations) }
-    ensures { result ≡ place_at (entry starts) r x }
+    ensures { result ≡ place_at starts.now r x }
 {
     let scope = variable_start(starts, r);
     let scope_end = variable_start(starts, r + 1);
@@ -171,7 +170,7 @@ pub fn place_of(starts: &Starts, r: u16, x: u16) -> Place
 
 // The first column of variable x in a scope; the width if it has none.
 pub fn column_of(scope: &[u16], x: u16) -> usize
-    ensures { result ≡ column_of x (entry scope) }
+    ensures { result ≡ column_of x scope.now }
 {
     let mut k = 0;
     while k < scope.len() {

@@ -2,7 +2,7 @@
 // double put in its place there is an earlier one.
 ghost use Rattle.std.specs.Prelude.{◌<◌};
 ghost use Rattle.model.specs.Limits.{max_relations};
-ghost use Rattle.layout.specs.Loan.{entry, exit};
+ghost use Rattle.layout.specs.Loan.{entry};
 ghost use Rattle.layout.specs.Setting.{lists, SoundLists};
 ghost use Rattle.narrowing.specs.Narrows.{Long};
 ghost use Rattle.lean.specs.Lean.{Thinned, LeanAt, LeanFrom};
@@ -28,7 +28,7 @@ fn thin(
     words: &mut Words,
 )
     requires { Long words.old × (SoundLists (lists (λ x. x.now) variables values starts) × (r < max_relations)) }
-    ensures { Thinned (lists entry variables values starts) common r (entry words) (exit words) }
+    ensures { Thinned (lists entry variables values starts) common r words.old words.new }
 {
     let first = tuple_start(starts, r);
     let end = tuple_start(starts, r + 1);
@@ -53,7 +53,7 @@ fn without_doubles(
     words: &mut Words,
 )
     requires { Long words.old × LeanAt (lists (λ x. x.now) variables values starts) members.now place }
-    ensures { LeanFrom (lists entry variables values starts) (entry members) place (entry words) (exit words) }
+    ensures { LeanFrom (lists entry variables values starts) members.now place words.old words.new }
 {
     let mut j = 0;
     while j < members.len() {
@@ -85,7 +85,7 @@ pub fn lean_once_hard(
     words: &mut Words,
 ) -> u16
     requires { Long words.old × LeanAt (lists (λ x. x.now) variables values starts) members.now place }
-    ensures { LeanFrom (lists entry variables values starts) (entry members) place (entry words) (exit words) }
+    ensures { LeanFrom (lists entry variables values starts) members.now place words.old words.new }
 {
     if CHOICES <= tried {
         return with_search(tried, kind);

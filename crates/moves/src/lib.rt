@@ -2,7 +2,6 @@
 ghost use Rattle.std.specs.Prelude.{◌≡◌, false, ◌++◌, map, ◌≤◌, length, drop};
 ghost use Rattle.model.specs.Lists.{any};
 ghost use Rattle.model.specs.Moves.{widened, narrowed, too_wide, widen, narrow, KeepsMove};
-ghost use Rattle.layout.specs.Loan.{entry, exit};
 ghost use Rattle.layout.specs.Shape.{network_of};
 
 use layout::{Shape, is_any};
@@ -45,7 +44,7 @@ fn narrowed(v: Value) -> u16
 
 // Whether the old form has no place for some value.
 fn any_too_wide(values: &[Value]) -> bool
-    ensures { result ≡ any too_wide (entry values) }
+    ensures { result ≡ any too_wide values.now }
 {
     let mut i = 0;
     while i < values.len() {
@@ -60,7 +59,7 @@ fn any_too_wide(values: &[Value]) -> bool
 // Writes the values in the new form to the front of a list.
 fn put_widened(values: &[u16], target: &mut [Value])
     requires { length values.now ≤ length target.old }
-    ensures { exit target ≡ map widened (entry values) ++ drop (length (entry values)) (entry target) }
+    ensures { target.new ≡ map widened values.now ++ drop (length values.now) target.old }
 {
     let mut i = 0;
     while i < values.len() {
@@ -72,7 +71,7 @@ fn put_widened(values: &[u16], target: &mut [Value])
 // Writes the values in the old form to the front of a list.
 fn put_narrowed(values: &[Value], target: &mut [u16])
     requires { (any too_wide values.now ≡ false) × (length values.now ≤ length target.old) }
-    ensures { exit target ≡ map narrowed (entry values) ++ drop (length (entry values)) (entry target) }
+    ensures { target.new ≡ map narrowed values.now ++ drop (length values.now) target.old }
 {
     let mut i = 0;
     while i < values.len() {
@@ -83,7 +82,7 @@ fn put_narrowed(values: &[Value], target: &mut [u16])
 
 // Moves a network of the old form to the new one: its values go to the front of the second list.
 pub fn widen(shape: Shape, variables: &[u16], values: &[u16], target: &mut [Value]) -> Moved
-    ensures { KeepsMove widen (network_of shape (entry variables) (entry values)) (entry target) result (exit target) }
+    ensures { KeepsMove widen (network_of shape variables.now values.now) target.old result target.new }
 {
     let f = fault_on(shape, variables, values.len());
     if f != 0 {
@@ -98,7 +97,7 @@ pub fn widen(shape: Shape, variables: &[u16], values: &[u16], target: &mut [Valu
 
 // Moves a network of the new form back to the old one.
 pub fn narrow(shape: Shape, variables: &[u16], values: &[Value], target: &mut [u16]) -> Moved
-    ensures { KeepsMove narrow (network_of shape (entry variables) (entry values)) (entry target) result (exit target) }
+    ensures { KeepsMove narrow (network_of shape variables.now values.now) target.old result target.new }
 {
     let f = fault_on(shape, variables, values.len());
     if f != 0 {

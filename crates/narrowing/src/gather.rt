@@ -1,7 +1,7 @@
 // Live ids gathered in other words: of a relation's, those that may agree with a tuple.
 ghost use Rattle.std.specs.Prelude.{◌*◌, ◌<◌};
 ghost use Rattle.model.specs.Limits.{max_relations, word_bits};
-ghost use Rattle.layout.specs.Loan.{entry, exit};
+ghost use Rattle.layout.specs.Loan.{entry};
 ghost use Rattle.layout.specs.Setting.{lists, network_in};
 ghost use Rattle.narrowing.specs.Narrows.{Long, HasBits, Seeks};
 ghost use Rattle.narrowing.specs.TupleRows.{Within, Spans, four, in_rows};
@@ -26,7 +26,7 @@ fn gather_four(
     last: usize,
 )
     requires { (Long from.now × Long to.old) × (Within index.now 4 (four a b c d) × Spans index.now last) }
-    ensures { Joins (in_rows (entry index) (four a b c d) 4) (word_bits * first) (word_bits * last) (entry from) (entry to) (exit to) }
+    ensures { Joins (in_rows index.now (four a b c d) 4) (word_bits * first) (word_bits * last) from.now to.old to.new }
 {
     let mut i = first;
     while i < last {
@@ -46,7 +46,7 @@ fn gather_all(
     last: usize,
 )
     requires { (Long from.now × Long to.old) × (Within index.now n rows.now × Spans index.now last) }
-    ensures { Joins (in_rows (entry index) (entry rows) n) (word_bits * first) (word_bits * last) (entry from) (entry to) (exit to) }
+    ensures { Joins (in_rows index.now rows.now n) (word_bits * first) (word_bits * last) from.now to.old to.new }
 {
     let mut i = first;
     while i < last {
@@ -66,7 +66,7 @@ fn gather_words(
     last: usize,
 )
     requires { (Long from.now × Long to.old) × (Within index.now n rows.now × Spans index.now last) }
-    ensures { Joins (in_rows (entry index) (entry rows) n) (word_bits * first) (word_bits * last) (entry from) (entry to) (exit to) }
+    ensures { Joins (in_rows index.now rows.now n) (word_bits * first) (word_bits * last) from.now to.old to.new }
 {
     if n == 0 || 4 < n {
         gather_all(index, rows, n, from, to, first, last);
@@ -91,7 +91,7 @@ fn gather_rows(
     end: u16,
 )
     requires { (Long from.now × Long to.old) × (Within index.now n rows.now × HasBits index.now end) }
-    ensures { Joins (in_rows (entry index) (entry rows) n) start end (entry from) (entry to) (exit to) }
+    ensures { Joins (in_rows index.now rows.now n) start end from.now to.old to.new }
 {
     gather_words(index, rows, n, from, to, wide(start / 64), words_for(end));
 }
@@ -110,7 +110,7 @@ pub fn gather(
 )
     requires long { Long from.now × Long to.old }
     requires seeks { Seeks (lists (λ x. x.now) variables values starts) index.now r x × (s < max_relations) }
-    ensures { Long (exit to) × Gathers (network_in (lists entry variables values starts)) r x s (entry from) (entry to) (exit to) }
+    ensures { Long to.new × Gathers (network_in (lists entry variables values starts)) r x s from.now to.old to.new }
 {
     let start = tuple_start(starts, s);
     let end = tuple_start(starts, s + 1);

@@ -2,7 +2,6 @@
 // is live any more.
 ghost use Rattle.std.specs.Prelude.{◌+◌, ◌*◌, ◌≤◌, ◌<◌};
 ghost use Rattle.model.specs.Limits.{word_bits};
-ghost use Rattle.layout.specs.Loan.{entry, exit};
 ghost use Rattle.narrowing.specs.Narrows.{Long, Keeps, HasBits, first_in, end_in};
 ghost use Rattle.narrowing.specs.TupleRows.{Within, Spans, four, in_rows};
 
@@ -23,7 +22,7 @@ fn keep_edge(
     end: u16,
 ) -> u64
     requires { Long words.old × (Within index.now n rows.now × Spans index.now (i + 1)) }
-    ensures { Keeps (in_rows (entry index) (entry rows) n) (first_in i start) (end_in i end) (entry words) (exit words) result }
+    ensures { Keeps (in_rows index.now rows.now n) (first_in i start) (end_in i end) words.old words.new result }
 {
     let mask = between(i, start, end);
     let w = in_rows(index, rows, n, words[i] & mask, i);
@@ -43,7 +42,7 @@ fn keep_four(
     to: usize,
 ) -> u64
     requires { Long words.old × (Within index.now 4 (four a b c d) × (Spans index.now to × (from ≤ to))) }
-    ensures { Keeps (in_rows (entry index) (four a b c d) 4) (word_bits * from) (word_bits * to) (entry words) (exit words) result }
+    ensures { Keeps (in_rows index.now (four a b c d) 4) (word_bits * from) (word_bits * to) words.old words.new result }
 {
     let mut any = 0;
     let mut i = from;
@@ -59,7 +58,7 @@ fn keep_four(
 // .. that are not in all of the first n rows.
 fn keep_all(index: &Index, rows: &Rows, n: usize, words: &mut Words, from: usize, to: usize) -> u64
     requires { Long words.old × (Within index.now n rows.now × (Spans index.now to × (from ≤ to))) }
-    ensures { Keeps (in_rows (entry index) (entry rows) n) (word_bits * from) (word_bits * to) (entry words) (exit words) result }
+    ensures { Keeps (in_rows index.now rows.now n) (word_bits * from) (word_bits * to) words.old words.new result }
 {
     let mut any = 0;
     let mut i = from;
@@ -82,7 +81,7 @@ fn keep_middle(
     to: usize,
 ) -> u64
     requires { Long words.old × (Within index.now n rows.now × (Spans index.now to × (from ≤ to))) }
-    ensures { Keeps (in_rows (entry index) (entry rows) n) (word_bits * from) (word_bits * to) (entry words) (exit words) result }
+    ensures { Keeps (in_rows index.now rows.now n) (word_bits * from) (word_bits * to) words.old words.new result }
 {
     if n == 0 || 4 < n {
         return keep_all(index, rows, n, words, from, to);
@@ -104,7 +103,7 @@ pub fn keep_rows(
     end: u16,
 ) -> u64
     requires { Long words.old × (Within index.now n rows.now × HasBits index.now end) }
-    ensures { Keeps (in_rows (entry index) (entry rows) n) start end (entry words) (exit words) result }
+    ensures { Keeps (in_rows index.now rows.now n) start end words.old words.new result }
 {
     if end <= start {
         return 0;

@@ -2,7 +2,7 @@
 ghost use Rattle.std.specs.Prelude.{◌≡◌, ℕ, ◌+◌, ◌^◌, ◌≤◌, ◌<◌, ltb, length};
 ghost use Rattle.model.specs.Limits.{max_relations, max_tuples};
 ghost use Rattle.model.specs.LiveWords.{is_set, words_for};
-ghost use Rattle.layout.specs.Loan.{entry, exit};
+ghost use Rattle.layout.specs.Loan.{entry};
 ghost use Rattle.layout.specs.Setting.{lists};
 ghost use Rattle.value_index.specs.Index.{row_bit};
 ghost use Rattle.narrowing.specs.Narrows.{Long, Kept, KeptIds, first_in, end_in, BitsBetween, Others, Seeks, NarrowsMember, NarrowsMembers};
@@ -46,7 +46,7 @@ fn between(i: usize, start: u16, end: u16) -> u64
 // The ids of word i, of those from start on and below end, whose bit in the words from `first` on is 0, are dead, and every other bit stays.
 fn keep_word(rows: &[u64], words: &mut Words, first: usize, i: usize, start: u16, end: u16)
     requires { Long words.old × ((first + i < length rows.now) × (i < 64)) }
-    ensures { Long (exit words) × KeptIds (row_bit (entry rows) first) (first_in i start) (end_in i end) (entry words) (exit words) }
+    ensures { Long words.new × KeptIds (row_bit rows.now first) (first_in i start) (end_in i end) words.old words.new }
 {
     words[i] = words[i] & (!between(i, start, end) | rows[first + i]);
 }
@@ -54,7 +54,7 @@ fn keep_word(rows: &[u64], words: &mut Words, first: usize, i: usize, start: u16
 // The same for all ids of the words from `from` on and below `to`.
 fn keep_words(rows: &[u64], words: &mut Words, first: usize, from: usize, to: usize)
     requires { Long words.old × ((first + to ≤ length rows.now) × ((from ≤ to) × (to ≤ 64))) }
-    ensures { Long (exit words) × Kept (row_bit (entry rows) first) from to (entry words) (exit words) }
+    ensures { Long words.new × Kept (row_bit rows.now first) from to words.old words.new }
 {
     let mut i = from;
     while i < to {
@@ -66,7 +66,7 @@ fn keep_words(rows: &[u64], words: &mut Words, first: usize, from: usize, to: us
 // Of the ids from start on and below end, those whose bit is 0 in the row that begins at word `first` are dead, and every other bit stays.
 pub fn keep(rows: &[u64], words: &mut Words, first: usize, start: u16, end: u16)
     requires { Long words.old × ((end ≤ max_tuples) × (first + words_for end ≤ length rows.now)) }
-    ensures { Long (exit words) × KeptIds (row_bit (entry rows) first) start end (entry words) (exit words) }
+    ensures { Long words.new × KeptIds (row_bit rows.now first) start end words.old words.new }
 {
     if end <= start {
         return;
@@ -92,7 +92,7 @@ pub fn narrow_member(
     s: u16,
 ) -> bool
     requires { Long words.old × (Seeks (lists (λ x. x.now) variables values starts) index.now r x × (s < max_relations)) }
-    ensures { NarrowsMember (lists entry variables values starts) r x s (entry words) (exit words) result }
+    ensures { NarrowsMember (lists entry variables values starts) r x s words.old words.new result }
 {
     let start = tuple_start(starts, s);
     let end = tuple_start(starts, s + 1);
@@ -119,7 +119,7 @@ pub fn narrow_members(
     x: u16,
 ) -> bool
     requires { Long words.old × (Seeks (lists (λ x. x.now) variables values starts) index.now r x × Others members.now place k r) }
-    ensures { NarrowsMembers (lists entry variables values starts) (entry members) place k r x (entry words) (exit words) result }
+    ensures { NarrowsMembers (lists entry variables values starts) members.now place k r x words.old words.new result }
 {
     let mut j = k;
     while j < members.len() {

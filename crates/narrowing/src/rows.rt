@@ -1,7 +1,7 @@
 // The rows of a tuple's values in the columns that another relation shares, found once for the tuple, and the ids that are in all of them.
 ghost use Rattle.std.specs.Prelude.{◌≡◌, false, ◌+◌, ◌≤◌, ◌<◌, length};
 ghost use Rattle.model.specs.Limits.{max_relations, max_width, max_tuples};
-ghost use Rattle.layout.specs.Loan.{entry, exit};
+ghost use Rattle.layout.specs.Loan.{entry};
 ghost use Rattle.layout.specs.Setting.{lists, network_in};
 ghost use Rattle.value_index.specs.Plan.{max_digits, row_words, ColumnRows, SoundPlan};
 ghost use Rattle.narrowing.specs.Narrows.{Long, HasBits, Seeks};
@@ -35,7 +35,7 @@ pub struct Four {
 // narrows nothing. How many there are then.
 fn add_value(index: &Index, rows: &mut Rows, n: usize, start: usize, value: Value) -> usize
     requires { (length rows.old ≡ tuple_rows) × (SoundPlan index.now × ((n + max_digits ≤ tuple_rows) × ((start ≡ 0 → ⊥) → ColumnRows index.now start))) }
-    ensures { Adds (ValueRow (entry index) start value) n result (entry rows) (exit rows) }
+    ensures { Adds (ValueRow index.now start value) n result rows.old rows.new }
 {
     if start == 0 {
         return n;
@@ -58,7 +58,7 @@ fn add_value(index: &Index, rows: &mut Rows, n: usize, start: usize, value: Valu
 // The rows of a tuple's values in the columns that another relation shares. How many there are.
 pub fn rows_of(index: &Index, columns: &Columns, tuple: &[Value], rows: &mut Rows) -> usize
     requires { (length rows.old ≡ tuple_rows) × (SoundPlan index.now × ((length tuple.now ≤ max_width) × HasRows index.now columns.now (length tuple.now))) }
-    ensures { FirstRows (RowOf (entry index) (entry columns) (entry tuple)) result (exit rows) }
+    ensures { FirstRows (RowOf index.now columns.now tuple.now) result rows.new }
 {
     let mut n = 0;
     let mut c = 0;
@@ -84,7 +84,7 @@ fn add_column(
 ) -> usize
     requires rows_len { (length rows.old ≡ tuple_rows) × ((n + max_digits ≤ tuple_rows) × (length scope_a.now ≡ length a.now)) }
     requires sound_plan { SoundPlan index.now × ((s < max_relations) × (column < max_width)) }
-    ensures { Adds (ColumnRow (entry scope_a) (entry a) (entry index) s column v) n result (entry rows) (exit rows) }
+    ensures { Adds (ColumnRow scope_a.now a.now index.now s column v) n result rows.old rows.new }
 {
     if (bits >> (v % 64)) % 2 == 0 {
         return n;
@@ -109,7 +109,7 @@ fn rows_between(
 ) -> usize
     requires rows_len { (length rows.old ≡ tuple_rows) × ((length scope_a.now ≡ length a.now) × (length scope_b.now ≤ max_width)) }
     requires sound_plan { SoundPlan index.now × (s < max_relations) }
-    ensures { FirstRows (SharedRow (entry scope_a) (entry a) (entry scope_b) (entry index) s) result (exit rows) }
+    ensures { FirstRows (SharedRow scope_a.now a.now scope_b.now index.now s) result rows.new }
 {
     let mut n = 0;
     let mut j: u16 = 0;
@@ -132,7 +132,7 @@ pub fn rows_for(
     rows: &mut Rows,
 ) -> usize
     requires { (length rows.old ≡ tuple_rows) × (Seeks (lists (λ x. x.now) variables values starts) index.now r x × (s < max_relations)) }
-    ensures { FirstRows (RowFor (network_in (lists entry variables values starts)) (entry index) r x s) result (exit rows) }
+    ensures { FirstRows (RowFor (network_in (lists entry variables values starts)) index.now r x s) result rows.new }
 {
     let p = place_of(starts, r, x);
     let q = place_of(starts, s, 0);
@@ -156,7 +156,7 @@ pub fn rows_for(
 // Where row k begins, or the last of the first n rows where they are fewer.
 fn row_or_last(rows: &Rows, n: usize, k: usize) -> usize
     requires { (0 < n) × (n ≤ tuple_rows) }
-    ensures { result ≡ row_or_last (entry rows) n k }
+    ensures { result ≡ row_or_last rows.now n k }
 {
     if k < n {
         return wide(rows[k]);
@@ -167,7 +167,7 @@ fn row_or_last(rows: &Rows, n: usize, k: usize) -> usize
 // One to four rows as four.
 pub fn four_of(rows: &Rows, n: usize) -> Four
     requires { (0 < n) × (n ≤ tuple_rows) }
-    ensures { FourOf (entry rows) n result }
+    ensures { FourOf rows.now n result }
 {
     let a = row_or_last(rows, n, 0);
     let b = row_or_last(rows, n, 1);
@@ -179,7 +179,7 @@ pub fn four_of(rows: &Rows, n: usize) -> Four
 // Of word i, the ids that are in all of the first n rows.
 pub fn in_rows(index: &Index, rows: &Rows, n: usize, word: u64, i: usize) -> u64
     requires { Within index.now n rows.now × (i < row_words index.now) }
-    ensures { BitsInRows (entry index) n (entry rows) i word result }
+    ensures { BitsInRows index.now n rows.now i word result }
 {
     let mut w = word;
     let mut k = 0;
@@ -194,7 +194,7 @@ pub fn in_rows(index: &Index, rows: &Rows, n: usize, word: u64, i: usize) -> u64
 // before the end would cost more.
 fn meet_both(index: &Index, a: usize, b: usize, words: &Words, from: usize, to: usize) -> bool
     requires { Within index.now 2 (both a b) × Spans index.now to }
-    ensures { result ≡ false → Apart (entry index) 2 (both a b) from to (entry words) }
+    ensures { result ≡ false → Apart index.now 2 (both a b) from to words.now }
 {
     let mut any = 0;
     let mut i = from;
@@ -208,7 +208,7 @@ fn meet_both(index: &Index, a: usize, b: usize, words: &Words, from: usize, to: 
 // Whether some id of word i is set and in all of the first n rows, of which there are two at least: most words have none in these.
 fn in_all(index: &Index, rows: &Rows, n: usize, word: u64, i: usize) -> bool
     requires { Within index.now n rows.now × ((2 ≤ n) × (i < row_words index.now)) }
-    ensures { result ≡ false → BitsInRows (entry index) n (entry rows) i word 0 }
+    ensures { result ≡ false → BitsInRows index.now n rows.now i word 0 }
 {
     let w = in_rows(index, rows, 2, word, i);
     if w == 0 {
@@ -220,7 +220,7 @@ fn in_all(index: &Index, rows: &Rows, n: usize, word: u64, i: usize) -> bool
 // Whether some id of the words from `from` on and below `to` is live and in all of the first n rows. It ends at the first such word.
 fn meet_all(index: &Index, rows: &Rows, n: usize, words: &Words, from: usize, to: usize) -> bool
     requires { Within index.now n rows.now × ((2 ≤ n) × Spans index.now to) }
-    ensures { result ≡ false → Apart (entry index) n (entry rows) from to (entry words) }
+    ensures { result ≡ false → Apart index.now n rows.now from to words.now }
 {
     let mut i = from;
     while i < to {
@@ -235,7 +235,7 @@ fn meet_all(index: &Index, rows: &Rows, n: usize, words: &Words, from: usize, to
 // The same, by the one or the other. True where there are no rows.
 pub fn meet(index: &Index, rows: &Rows, n: usize, words: &Words, from: usize, to: usize) -> bool
     requires { Within index.now n rows.now × Spans index.now to }
-    ensures { result ≡ false → Apart (entry index) n (entry rows) from to (entry words) }
+    ensures { result ≡ false → Apart index.now n rows.now from to words.now }
 {
     if n == 0 {
         return true;
@@ -260,7 +260,7 @@ pub fn next_in_rows(
     end: u16,
 ) -> u16
     requires { (Long words.now × Within index.now n rows.now) × (HasBits index.now end × (start ≤ end)) }
-    ensures { NextInRows (entry index) n (entry rows) (entry words) start end result }
+    ensures { NextInRows index.now n rows.now words.now start end result }
 {
     let mut at = start;
     while at < end {
@@ -278,7 +278,7 @@ pub fn next_in_rows(
 // The live ids from start on and below end, and no others.
 pub fn live_between(words: &Words, start: u16, end: u16) -> Words
     requires { Long words.now × (end ≤ max_tuples) }
-    ensures { LiveBetween start end (entry words) result }
+    ensures { LiveBetween start end words.now result }
 {
     let last = words_for(end);
     let mut alive = [0u64; WORDS];

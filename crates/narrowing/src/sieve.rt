@@ -76,7 +76,7 @@ pub fn is_in(set: u64, x: u16) -> bool {
 // A column of scope a and one of scope b that have the same variable, none of the set; past all columns where they share none.
 fn shared_columns(scope_a: &[u16], scope_b: &[u16], without: u64) -> Shared
     requires { (length scope_a.now ≤ max_width) × (length scope_b.now ≤ max_width) }
-    ensures { Shares (entry scope_a) (entry scope_b) result }
+    ensures { Shares scope_a.now scope_b.now result }
 {
     let mut i: u16 = 0;
     while wide(i) < scope_a.len() {
@@ -127,7 +127,7 @@ fn mask_of(
     column: u16,
 ) -> u64
     requires { Long words.now × ColumnIn (lists (λ x. x.now) variables values starts) s column }
-    ensures { Masks (network_in (lists entry variables values starts)) s column (entry words) result }
+    ensures { Masks (network_in (lists entry variables values starts)) s column words.now result }
 {
     let first = tuple_start(starts, s);
     let end = tuple_start(starts, s + 1);
@@ -150,7 +150,7 @@ pub fn sieve_for(
     s: u16,
 ) -> Sieve
     requires { Long words.now × (SoundLists (lists (λ x. x.now) variables values starts) × ((r < max_relations) × (s < max_relations))) }
-    ensures { Sieves (network_in (lists entry variables values starts)) r s (entry words) result }
+    ensures { Sieves (network_in (lists entry variables values starts)) r s words.now result }
 {
     let shared = shared_of(variables, values, starts, r, s, 0);
     let column = shared.own;

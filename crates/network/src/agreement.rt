@@ -23,7 +23,7 @@ fn lesser(x: u16, y: u16) -> u16
 // The lowest variable of both scopes whose values do not fit; 64 where there is none.
 pub fn first_clash(scope_a: &[u16], a: &[Value], scope_b: &[u16], b: &[Value]) -> u16
     requires { Columns scope_a.now a.now × Columns scope_b.now b.now }
-    ensures { result ≡ clash_number (first_clashing (cells (entry scope_a) (entry a)) (cells (entry scope_b) (entry b))) }
+    ensures { result ≡ clash_number (first_clashing (cells scope_a.now a.now) (cells scope_b.now b.now)) }
 {
     let mut lowest = NO_VARIABLE;
     let mut i = 0;

@@ -26,7 +26,7 @@ fn ids_clash(variables: &[u16], values: &[Value], starts: &Starts, g: u16, h: u1
 
 // Compares the tuples with ids g and h.
 pub fn compare(shape: Shape, variables: &[u16], values: &[Value], g: u16, h: u16) -> Comparison
-    ensures { Compared (network_of shape (entry variables) (entry values)) g h (comparison_numbers result) }
+    ensures { Compared (network_of shape variables.now values.now) g h (comparison_numbers result) }
 {
     let f = fault(shape, variables, values);
     if f != 0 {

@@ -4,7 +4,6 @@ ghost use Rattle.model.specs.Limits.{max_relations, variable_count};
 ghost use Rattle.model.specs.Lists.{from, sum, all, pairwise};
 ghost use Rattle.model.specs.Network.{variables_in, tuples_in, values_in};
 ghost use Rattle.model.specs.Fault.{proper_width, within, different, proper_scope, network_faults, first_fault, refusal};
-ghost use Rattle.layout.specs.Loan.{entry};
 ghost use Rattle.layout.specs.Shape.{relations_of, network_of};
 ghost use Rattle.network.specs.Scopes.{proper_scopes};
 
@@ -72,7 +71,7 @@ fn totals_of(shape: Shape) -> Totals
 
 // Whether every entry is a variable.
 fn all_variables(scope: &[u16]) -> bool
-    ensures { result ≡ all (λ (x : ℕ). ltb x variable_count) (entry scope) }
+    ensures { result ≡ all (λ (x : ℕ). ltb x variable_count) scope.now }
 {
     let mut i = 0;
     while i < scope.len() {
@@ -87,7 +86,7 @@ fn all_variables(scope: &[u16]) -> bool
 // Whether x stands nowhere from the given column on.
 fn absent(scope: &[u16], x: u16, from: usize) -> bool
     requires { from ≤ length scope.now }
-    ensures { result ≡ all (different x) (drop from (entry scope)) }
+    ensures { result ≡ all (different x) (drop from scope.now) }
 {
     let mut j = from;
     while j < scope.len() {
@@ -101,7 +100,7 @@ fn absent(scope: &[u16], x: u16, from: usize) -> bool
 
 // Whether no variable stands twice.
 fn all_different(scope: &[u16]) -> bool
-    ensures { result ≡ pairwise different (entry scope) }
+    ensures { result ≡ pairwise different scope.now }
 {
     let mut i = 0;
     while i < scope.len() {
@@ -115,7 +114,7 @@ fn all_different(scope: &[u16]) -> bool
 
 // Whether a scope's variables are variables, and none stands twice.
 fn proper_scope(scope: &[u16]) -> bool
-    ensures { result ≡ proper_scope (entry scope) }
+    ensures { result ≡ proper_scope scope.now }
 {
     if !all_variables(scope) {
         return false;
@@ -127,7 +126,7 @@ fn proper_scope(scope: &[u16]) -> bool
 fn proper_scopes(shape: Shape, variables: &[u16]) -> bool
     requires count_le_max_relations { shape.count ≤ max_relations }
     requires variables_len { length variables.now ≡ sum (map variables_in (relations_of shape)) }
-    ensures { result ≡ proper_scopes (network_of shape (entry variables) []) }
+    ensures { result ≡ proper_scopes (network_of shape variables.now []) }
 {
     let mut start = 0;
     let mut r: usize = 0;
@@ -144,7 +143,7 @@ fn proper_scopes(shape: Shape, variables: &[u16]) -> bool
 
 // The number of the first fault, 2 to 6, or 0, of a network with so many values, whichever they are.
 pub fn fault_on(shape: Shape, variables: &[u16], values: usize) -> u8
-    ensures { result ≡ refusal (first_fault (network_faults (network_of shape (entry variables) (replicate values 0)))) }
+    ensures { result ≡ refusal (first_fault (network_faults (network_of shape variables.now (replicate values 0)))) }
 {
     if !within(1, MAX_RELATIONS, shape.count) {
         return refusal::RELATIONS;
@@ -172,7 +171,7 @@ pub fn fault_on(shape: Shape, variables: &[u16], values: usize) -> u8
 
 // The number of the network's first fault, 2 to 6, or 0.
 pub fn fault(shape: Shape, variables: &[u16], values: &[Value]) -> u8
-    ensures { result ≡ refusal (first_fault (network_faults (network_of shape (entry variables) (entry values)))) }
+    ensures { result ≡ refusal (first_fault (network_faults (network_of shape variables.now values.now))) }
 {
     fault_on(shape, variables, values.len())
 }

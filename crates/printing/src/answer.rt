@@ -2,7 +2,6 @@
 ghost use Rattle.std.specs.Prelude.{◌≡◌, false};
 ghost use Rattle.model.specs.Reply.{answer_numbers};
 ghost use Rattle.model.specs.Listing.{answer_line};
-ghost use Rattle.layout.specs.Loan.{entry, exit};
 ghost use Rattle.layout.specs.Shape.{network_of};
 ghost use Rattle.printing.specs.Lines.{is_refusal, Accepted, Printed};
 
@@ -47,7 +46,7 @@ pub fn print(
     out: &mut [u8; OUTPUT],
 ) -> usize
     requires { is_refusal answer ≡ false → Accepted (network_of shape variables.now values.now) words.now }
-    ensures { Printed (network_of shape (entry variables) (entry values)) answer (entry words) (entry out) (exit out) result }
+    ensures { Printed (network_of shape variables.now values.now) answer words.now out.old out.new result }
 {
     let fields = answer_fields(answer);
     let n = line(out, 0, &fields);

@@ -1,7 +1,6 @@
 // Numbers, fields and lines.
 ghost use Rattle.std.specs.Prelude.{[], ◌∷◌, ◌++◌, ◌+◌, ◌≤◌, ◌<◌, length};
 ghost use Rattle.model.specs.Text.{decimal, line_text};
-ghost use Rattle.layout.specs.Loan.{entry, exit};
 ghost use Rattle.printing.specs.Appended.{Appended};
 
 use model::Value;
@@ -17,7 +16,7 @@ const NOUGHT: u8 = 48;
 // Writes v in decimal, from `at` on. Every function here gives the place behind what it wrote.
 fn digits(out: &mut [u8], at: usize, v: u32) -> usize
     requires { at + length (decimal v) ≤ length out.old }
-    ensures { Appended (decimal v) (entry out) at (exit out) result }
+    ensures { Appended (decimal v) out.old at out.new result }
 {
     if v < 10 {
         out[at] = NOUGHT + v as u8;
@@ -31,7 +30,7 @@ fn digits(out: &mut [u8], at: usize, v: u32) -> usize
 // Writes a field and the byte that ends it.
 fn field(out: &mut [u8], at: usize, v: u32, end: u8) -> usize
     requires { at + length (decimal v) < length out.old }
-    ensures { Appended (decimal v ++ (end ∷ [])) (entry out) at (exit out) result }
+    ensures { Appended (decimal v ++ (end ∷ [])) out.old at out.new result }
 {
     let n = digits(out, at, v);
     out[n] = end;
@@ -41,7 +40,7 @@ fn field(out: &mut [u8], at: usize, v: u32, end: u8) -> usize
 // Writes a line of these fields.
 pub fn line(out: &mut [u8], at: usize, fields: &[u32]) -> usize
     requires { (0 < length fields.now) × (at + length (line_text fields.now) ≤ length out.old) }
-    ensures { Appended (line_text (entry fields)) (entry out) at (exit out) result }
+    ensures { Appended (line_text fields.now) out.old at out.new result }
 {
     let last = fields.len() - 1;
     let mut n = at;
@@ -56,7 +55,7 @@ pub fn line(out: &mut [u8], at: usize, fields: &[u32]) -> usize
 // Writes a tuple's line: its relation, its index, its values.
 pub fn tuple_line(out: &mut [u8], at: usize, relation: u16, index: u16, values: &[Value]) -> usize
     requires { (0 < length values.now) × (at + length (line_text (relation ∷ index ∷ values.now)) ≤ length out.old) }
-    ensures { Appended (line_text (relation ∷ index ∷ entry values)) (entry out) at (exit out) result }
+    ensures { Appended (line_text (relation ∷ index ∷ values.now)) out.old at out.new result }
 {
     let k = field(out, at, relation as u32, COMMA);
     let n = field(out, k, index as u32, COMMA);

@@ -2,7 +2,6 @@
 ghost use Rattle.std.specs.Prelude.{◌+◌, ◌≤◌, ◌<◌, length};
 ghost use Rattle.model.specs.Text.{text_of};
 ghost use Rattle.model.specs.Listing.{tuple_lines};
-ghost use Rattle.layout.specs.Loan.{entry, exit};
 ghost use Rattle.layout.specs.Starts.{relation_count};
 ghost use Rattle.printing.specs.Appended.{Appended};
 ghost use Rattle.printing.specs.Lines.{rows, relation_text, Printable};
@@ -23,7 +22,7 @@ fn relation_lines(
 ) -> usize
     requires printable { Printable starts.now values.now words.now × (r < relation_count starts.now) }
     requires r_in_bounds { at + length (relation_text starts.now values.now words.now r) ≤ length out.old }
-    ensures { Appended (relation_text (entry starts) (entry values) (entry words) r) (entry out) at (exit out) result }
+    ensures { Appended (relation_text starts.now values.now words.now r) out.old at out.new result }
 {
     let start = tuple_start(starts, r);
     let end = tuple_start(starts, r + 1);
@@ -51,7 +50,7 @@ pub fn tuple_lines(
 ) -> usize
     requires printable { Printable starts.now values.now words.now }
     requires words_in_bounds { at + length (text_of (tuple_lines (rows starts.now values.now) words.now)) ≤ length out.old }
-    ensures { Appended (text_of (tuple_lines (rows (entry starts) (entry values)) (entry words))) (entry out) at (exit out) result }
+    ensures { Appended (text_of (tuple_lines (rows starts.now values.now) words.now)) out.old at out.new result }
 {
     let relations = relation_count(starts);
     let mut n = at;

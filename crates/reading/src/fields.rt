@@ -2,7 +2,6 @@
 ghost use Rattle.std.specs.Prelude.{◌≡◌, ◌+◌, ◌*◌, ◌≤◌, ◌<◌, length, take, drop};
 ghost use Rattle.model.specs.Fault.{within};
 ghost use Rattle.model.specs.Reading.{read_digits, read_field, read_line, read_lines};
-ghost use Rattle.layout.specs.Loan.{entry, exit};
 ghost use Rattle.reading.specs.Parts.{found_at, behind, KeptFrom};
 
 // Document 01's bytes, its largest field, and card 9's largest code. The model names them in specs/Text.antt.
@@ -27,8 +26,8 @@ pub struct Decimal {
 
 // The rest of a field of at most `top`: the digits before position `from` made the number `first`.
 fn digits(text: &[u8], from: usize, top: u32, first: u32, end: u8) -> Decimal
-    ensures read { found_at result.next result.value (entry text) ≡ read_digits top end first (drop from (entry text)) }
-    ensures inside { result.next ≤ length (entry text) }
+    ensures read { found_at result.next result.value text.now ≡ read_digits top end first (drop from text.now) }
+    ensures inside { result.next ≤ length text.now }
 {
     let mut v = first;
     let mut i = from;
@@ -59,8 +58,8 @@ fn digits(text: &[u8], from: usize, top: u32, first: u32, end: u8) -> Decimal
 
 // The field of at most `top` at a position, if the byte `end` ends it.
 pub fn field(text: &[u8], at: usize, top: u32, end: u8) -> Decimal
-    ensures read { found_at result.next result.value (entry text) ≡ read_field top end (drop at (entry text)) }
-    ensures inside { result.next ≤ length (entry text) }
+    ensures read { found_at result.next result.value text.now ≡ read_field top end (drop at text.now) }
+    ensures inside { result.next ≤ length text.now }
 {
     if text.len() <= at {
         return Decimal { value: 0, next: 0 };
@@ -79,7 +78,7 @@ pub fn field(text: &[u8], at: usize, top: u32, end: u8) -> Decimal
 // no such line.
 pub fn line(text: &[u8], at: usize, top: u32, n: usize, into: &mut [u32], start: usize) -> usize
     requires { (0 < n) × (start + n ≤ length into.old) }
-    ensures read { found_at result (take (start + n) (exit into)) (entry text) ≡ behind (take start (entry into)) (read_line top n (drop at (entry text))) }
+    ensures read { found_at result (take (start + n) into.new) text.now ≡ behind (take start into.old) (read_line top n (drop at text.now)) }
     ensures kept { KeptFrom (start + n) into }
 {
     let last = start + n - 1;
@@ -110,7 +109,7 @@ pub fn lines(
     start: usize,
 ) -> usize
     requires { (0 < at) × (0 < n) × (start + k * n ≤ length into.old) }
-    ensures read { found_at result (take (start + k * n) (exit into)) (entry text) ≡ behind (take start (entry into)) (read_lines top k n (drop at (entry text))) }
+    ensures read { found_at result (take (start + k * n) into.new) text.now ≡ behind (take start into.old) (read_lines top k n (drop at text.now)) }
     ensures kept { KeptFrom (start + k * n) into }
 {
     let mut from = at;

@@ -2,7 +2,6 @@
 ghost use Rattle.std.specs.Prelude.{◌≡◌, ◌≤◌};
 ghost use Rattle.std.proofs.Math.Option.{none};
 ghost use Rattle.model.specs.Limits.{max_relations, max_members, max_combinations};
-ghost use Rattle.layout.specs.Loan.{entry};
 ghost use Rattle.reading.specs.Parts.{found_at, read_heading, numbers_of};
 ghost use Rattle.reading.specs.Book.{book_of, Stands};
 
@@ -48,7 +47,7 @@ pub struct Book {
 
 // The text's first line.
 fn heading_of(text: &[u8]) -> Heading
-    ensures read { found_at result.next (numbers_of result) (entry text) ≡ read_heading (entry text) }
+    ensures read { found_at result.next (numbers_of result) text.now ≡ read_heading text.now }
     ensures small { (result.relations ≤ max_relations) × (result.m ≤ max_members) × (result.combinations ≤ max_combinations) }
 {
     let none = Heading {

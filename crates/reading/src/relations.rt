@@ -3,7 +3,6 @@ ghost use Rattle.std.specs.Prelude.{◌≡◌, ◌+◌, ◌*◌, ◌≤◌, ◌<
 ghost use Rattle.model.specs.Limits.{max_relations, max_width, max_tuples};
 ghost use Rattle.model.specs.Reading.{read_relations};
 ghost use Rattle.model.specs.Edges.{max_variables, max_values};
-ghost use Rattle.layout.specs.Loan.{entry, exit};
 ghost use Rattle.reading.specs.Parts.{found_at, KeptFrom, read_record, record_of, RelationRead, blank_shape, listed, RestKept};
 
 use super::fields::{MAX_CODE, MAX_FIELD, line, lines, number, within};
@@ -20,7 +19,7 @@ pub struct Record {
 
 // The relation record at a position, with at most `room` tuples.
 fn record_at(text: &[u8], at: usize, room: usize) -> Record
-    ensures read { found_at result.next (record_of result) (entry text) ≡ read_record room (drop at (entry text)) }
+    ensures read { found_at result.next (record_of result) text.now ≡ read_record room (drop at text.now) }
     ensures small { (result.width ≤ max_width) × (result.tuples ≤ room) }
 {
     let none = Record {
@@ -114,7 +113,7 @@ pub fn relations_at(
     values: &mut [Value],
 ) -> Listed
     requires { (0 < at) × (count ≤ max_relations) × (max_variables ≤ length variables.old) × (max_values ≤ length values.old) }
-    ensures read { found_at result.next (listed result (exit variables) (exit values)) (entry text) ≡ read_relations count max_tuples (drop at (entry text)) }
+    ensures read { found_at result.next (listed result variables.new values.new) text.now ≡ read_relations count max_tuples (drop at text.now) }
     ensures rest { (result.variables ≤ max_variables) × (result.values ≤ max_values) × RestKept result variables values }
 {
     let mut shape = blank(count);

@@ -5,7 +5,6 @@ ghost use Rattle.model.specs.Limits.{max_relations};
 ghost use Rattle.model.specs.Request.{filter, withdraw, choose, choose_several};
 ghost use Rattle.model.specs.Reply.{Tested, Compared};
 ghost use Rattle.model.specs.Enumeration.{Enumerates};
-ghost use Rattle.layout.specs.Loan.{entry, exit};
 ghost use Rattle.encoding.specs.Packed.{pair_in, enumerated_in};
 ghost use Rattle.records.specs.Records.{entry_network, entry_instance, lesser, unread, with_record, parts_of};
 ghost use Rattle.records.specs.Packed.{RepliesIn, WritesBack};
@@ -138,7 +137,7 @@ pub extern "C" fn wakhvosi_withdraw_records(
     supports: &mut [u16],
     ids: &[u16],
 ) -> u64
-    ensures { RepliesIn result (entry_instance relations variables values m members) relations words supports (withdraw (entry ids)) }
+    ensures { RepliesIn result (entry_instance relations variables values m members) relations words supports (withdraw ids.now) }
 {
     let parts = parts_of(relations);
     let done = packed::withdraw(parts, variables, values, m, members, words, supports, ids);
@@ -178,7 +177,7 @@ pub extern "C" fn wakhvosi_choose_several_records(
     xs: &[u16],
     vs: &[Value],
 ) -> u64
-    ensures { RepliesIn result (entry_instance relations variables values m members) relations words supports (choose_several (entry xs) (entry vs)) }
+    ensures { RepliesIn result (entry_instance relations variables values m members) relations words supports (choose_several xs.now vs.now) }
 {
     let parts = parts_of(relations);
     let done = packed::choose_several(
@@ -197,7 +196,7 @@ pub extern "C" fn wakhvosi_test_records(
     members: &[u16],
     words: &[u64],
 ) -> u64
-    ensures { Tested (entry_instance relations variables values m members) (entry words) (pair_in result) }
+    ensures { Tested (entry_instance relations variables values m members) words.now (pair_in result) }
 {
     let parts = parts_of(relations);
     packed::test(parts, variables, values, m, members, words)
@@ -227,7 +226,7 @@ pub extern "C" fn wakhvosi_combinations_records(
     m: u16,
     list: &mut [u16],
 ) -> u64
-    ensures { Enumerates (entry_network relations variables values) m (entry list) (enumerated_in result (exit list)) }
+    ensures { Enumerates (entry_network relations variables values) m list.old (enumerated_in result list.new) }
 {
     let parts = parts_of(relations);
     packed::combinations(parts, variables, values, m, list)

@@ -3,7 +3,6 @@ ghost use Rattle.std.specs.Prelude.{◌≡◌, ◌<◌};
 ghost use Rattle.model.specs.Request.{filter, withdraw, choose, choose_several};
 ghost use Rattle.model.specs.Reply.{answer_numbers, Tested, Compared};
 ghost use Rattle.model.specs.Enumeration.{Enumerates};
-ghost use Rattle.layout.specs.Loan.{entry, exit};
 ghost use Rattle.layout.specs.Shape.{network_of, instance_of};
 ghost use Rattle.encoding.specs.Packed.{pair_in, enumerated_in};
 ghost use Rattle.records.specs.Packed.{RepliesDone, written_for, done_with};
@@ -47,7 +46,7 @@ pub fn filter(
     words: &mut [u64],
     supports: &mut [u16],
 ) -> Done
-    ensures { RepliesDone result parts (instance_of parts.shape (entry variables) (entry values) m (entry members)) words supports filter }
+    ensures { RepliesDone result parts (instance_of parts.shape variables.now values.now m members.now) words supports filter }
 {
     let shape = parts.shape;
     let n = at_most_64(shape.count);
@@ -76,7 +75,7 @@ pub fn withdraw(
     supports: &mut [u16],
     ids: &[u16],
 ) -> Done
-    ensures { RepliesDone result parts (instance_of parts.shape (entry variables) (entry values) m (entry members)) words supports (withdraw (entry ids)) }
+    ensures { RepliesDone result parts (instance_of parts.shape variables.now values.now m members.now) words supports (withdraw ids.now) }
 {
     let shape = parts.shape;
     let n = at_most_64(shape.count);
@@ -107,7 +106,7 @@ pub fn choose(
     x: u16,
     v: Value,
 ) -> Done
-    ensures { RepliesDone result parts (instance_of parts.shape (entry variables) (entry values) m (entry members)) words supports (choose x v) }
+    ensures { RepliesDone result parts (instance_of parts.shape variables.now values.now m members.now) words supports (choose x v) }
 {
     let shape = parts.shape;
     let n = at_most_64(shape.count);
@@ -139,7 +138,7 @@ pub fn choose_several(
     xs: &[u16],
     vs: &[Value],
 ) -> Done
-    ensures { RepliesDone result parts (instance_of parts.shape (entry variables) (entry values) m (entry members)) words supports (choose_several (entry xs) (entry vs)) }
+    ensures { RepliesDone result parts (instance_of parts.shape variables.now values.now m members.now) words supports (choose_several xs.now vs.now) }
 {
     let shape = parts.shape;
     let n = at_most_64(shape.count);
@@ -168,14 +167,14 @@ pub fn test(
     members: &[u16],
     words: &[u64],
 ) -> u64
-    ensures { Tested (instance_of parts.shape (entry variables) (entry values) m (entry members)) (entry words) (pair_in result) }
+    ensures { Tested (instance_of parts.shape variables.now values.now m members.now) words.now (pair_in result) }
 {
     pack_verdict(consistency::test(parts.shape, variables, values, m, members, words))
 }
 
 // Compares the tuples with ids g and h.
 pub fn compare(parts: Parts, variables: &[u16], values: &[Value], g: u16, h: u16) -> u64
-    ensures { Compared (network_of parts.shape (entry variables) (entry values)) g h (pair_in result) }
+    ensures { Compared (network_of parts.shape variables.now values.now) g h (pair_in result) }
 {
     pack_comparison(network::comparison::compare(parts.shape, variables, values, g, h))
 }
@@ -188,7 +187,7 @@ pub fn combinations(
     m: u16,
     list: &mut [u16],
 ) -> u64
-    ensures { Enumerates (network_of parts.shape (entry variables) (entry values)) m (entry list) (enumerated_in result (exit list)) }
+    ensures { Enumerates (network_of parts.shape variables.now values.now) m list.old (enumerated_in result list.new) }
 {
     pack_enumeration(enumeration::combinations(parts.shape, variables, values, m, list))
 }

@@ -4,7 +4,7 @@ ghost use Rattle.std.specs.Prelude.{◌≡◌, true, false, ◌≤◌, ◌<◌, 
 ghost use Rattle.model.specs.Limits.{max_relations};
 ghost use Rattle.model.specs.Network.{size};
 ghost use Rattle.model.specs.LiveWords.{is_set};
-ghost use Rattle.layout.specs.Loan.{entry, exit};
+ghost use Rattle.layout.specs.Loan.{entry};
 ghost use Rattle.layout.specs.Setting.{lists, network_in};
 ghost use Rattle.narrowing.specs.Narrows.{Long, Seeks};
 ghost use Rattle.spreading.specs.Spread.{Counted};
@@ -69,7 +69,7 @@ fn count_left(
 // there is none.
 fn fewest(starts: &Starts, words: &Words, members: &[u16], left: u64, last: usize) -> usize
     requires { Counted starts.now words.now members.now }
-    ensures { result < length (entry members) → is_set left result ≡ true }
+    ensures { result < length members.now → is_set left result ≡ true }
 {
     let mut best = members.len();
     let mut least = MORE;
@@ -128,7 +128,7 @@ fn meets(
 ) -> bool
     requires long { Long words.now × (Seeks (lists (λ x. x.now) variables values starts) index.now r x × (s < max_relations)) }
     requires y_bound { (y < size (network_in (lists (λ x. x.now) variables values starts)) q) × (w < size (network_in (lists (λ x. x.now) variables values starts)) b) }
-    ensures { result ≡ false → Unmet (network_in (lists entry variables values starts)) r x s q y b w (entry words) }
+    ensures { result ≡ false → Unmet (network_in (lists entry variables values starts)) r x s q y b w words.now }
 {
     let first = tuple_start(starts, s);
     let end = tuple_start(starts, s + 1);
@@ -158,7 +158,7 @@ fn narrow_left(
     x: u16,
 ) -> bool
     requires { Long words.old × (Seeks (lists (λ x. x.now) variables values starts) index.now r x × (OthersLeft members.now left r × (length members.now ≤ 64))) }
-    ensures { NarrowsLeft (lists entry variables values starts) (entry members) left r x (entry words) (exit words) result }
+    ensures { NarrowsLeft (lists entry variables values starts) members.now left r x words.old words.new result }
 {
     let mut j = 0;
     while j < members.len() {
@@ -193,7 +193,7 @@ fn refuted_with(
 ) -> u32
     requires long { Long words.now × Refutable (lists (λ x. x.now) variables values starts) index.now members.now place own }
     requires taken_two { TakenTwo (network_in (lists (λ x. x.now) variables values starts)) members.now place left by w i x }
-    ensures { Shows (RefutedBoth (network_in (lists entry variables values starts)) (entry members) place own (entry words) left by w i x) steps result }
+    ensures { Shows (RefutedBoth (network_in (lists entry variables values starts)) members.now place own words.now left by w i x) steps result }
 {
     if steps <= COST {
         return 0;
@@ -273,7 +273,7 @@ fn refuted(
 ) -> u32
     requires long { Long words.now × Refutable (lists (λ x. x.now) variables values starts) index.now members.now place own }
     requires taken { Taken (network_in (lists (λ x. x.now) variables values starts)) members.now place left by w }
-    ensures { Shows (RefutedWith (network_in (lists entry variables values starts)) (entry members) place own (entry words) left by w) steps result }
+    ensures { Shows (RefutedWith (network_in (lists entry variables values starts)) members.now place own words.now left by w) steps result }
 {
     let best = fewest(starts, words, members, left, last);
     if members.len() <= best {
@@ -325,7 +325,7 @@ pub fn hopeless(
 ) -> bool
     requires long { Long words.now × Refutable (lists (λ x. x.now) variables values starts) index.now members.now place own }
     requires k_in_bounds { k < length members.now }
-    ensures { result ≡ true → Alone (network_in (lists entry variables values starts)) (entry members) place own (entry words) }
+    ensures { result ≡ true → Alone (network_in (lists entry variables values starts)) members.now place own words.now }
 {
     let left = without((!0u64 << k) & !(!0u64 << members.len()), place);
     refuted(

@@ -1,7 +1,6 @@
 // The faults of a request, in checking order, and where each relation begins in lists without fault.
 ghost use Rattle.std.specs.Prelude.{◌≡◌};
 ghost use Rattle.model.specs.Fault.{network_faults, instance_faults, list_faults};
-ghost use Rattle.layout.specs.Loan.{entry};
 ghost use Rattle.layout.specs.Shape.{relations_of, network_of, instance_of};
 ghost use Rattle.request.specs.Checks.{Opened, test_faults_on, ids_refusal, variable_refusal, choices_refusal};
 
@@ -18,7 +17,7 @@ pub struct Opening {
 
 // The network's first fault, 2 to 6, or where its relations begin.
 pub fn network_checked(shape: Shape, variables: &[u16], values: &[Value]) -> Opening
-    ensures { Opened result (network_faults (network_of shape (entry variables) (entry values))) (relations_of shape) }
+    ensures { Opened result (network_faults (network_of shape variables.now values.now)) (relations_of shape) }
 {
     let fault = network::faults::fault(shape, variables, values);
     if fault != 0 {
@@ -41,7 +40,7 @@ fn instance_checked(
     m: u16,
     members: &[u16],
 ) -> Opening
-    ensures { Opened result (instance_faults (instance_of shape (entry variables) (entry values) m (entry members))) (relations_of shape) }
+    ensures { Opened result (instance_faults (instance_of shape variables.now values.now m members.now)) (relations_of shape) }
 {
     let opening = network_checked(shape, variables, values);
     if opening.fault != 0 {
@@ -61,7 +60,7 @@ pub fn test_checked(
     members: &[u16],
     words: usize,
 ) -> Opening
-    ensures { Opened result (test_faults_on (instance_of shape (entry variables) (entry values) m (entry members)) words) (relations_of shape) }
+    ensures { Opened result (test_faults_on (instance_of shape variables.now values.now m members.now) words) (relations_of shape) }
 {
     let opening = instance_checked(shape, variables, values, m, members);
     if opening.fault != 0 {
@@ -82,7 +81,7 @@ pub fn checked(
     words: usize,
     numbers: usize,
 ) -> Opening
-    ensures { Opened result (list_faults (instance_of shape (entry variables) (entry values) m (entry members)) words numbers) (relations_of shape) }
+    ensures { Opened result (list_faults (instance_of shape variables.now values.now m members.now) words numbers) (relations_of shape) }
 {
     let opening = test_checked(shape, variables, values, m, members, words);
     if opening.fault != 0 {

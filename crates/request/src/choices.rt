@@ -1,6 +1,6 @@
 // Several choices at once, as two values for each variable, and the ids that they remove.
 ghost use Rattle.std.specs.Prelude.{◌≡◌, min, length};
-ghost use Rattle.layout.specs.Loan.{entry, exit};
+ghost use Rattle.layout.specs.Loan.{entry};
 ghost use Rattle.layout.specs.Setting.{lists, network_in, SoundLists};
 ghost use Rattle.request.specs.Removal.{Holds, above};
 ghost use Rattle.request.specs.Choices.{Joins, ChoiceAdded, ChoicesOf, removed_by_kept};
@@ -53,7 +53,7 @@ pub fn add_choice(
     v: Value,
 ) -> usize
     requires { (length firsts.old ≡ 64) × (length seconds.old ≡ 64) }
-    ensures { ChoiceAdded (entry firsts) (entry seconds) x v (exit firsts) (exit seconds) × (result ≡ above bound x) }
+    ensures { ChoiceAdded firsts.old seconds.old x v firsts.new seconds.new × (result ≡ above bound x) }
 {
     let at = wide(x);
     if at < VARIABLES {
@@ -74,7 +74,7 @@ pub fn lesser(a: usize, b: usize) -> usize
 
 // The pairs of two lists.
 pub fn paired(xs: &[u16], vs: &[Value]) -> Choices
-    ensures { ChoicesOf result (entry xs) (entry vs) }
+    ensures { ChoicesOf result xs.now vs.now }
 {
     let variables = xs.len();
     let values = vs.len();
@@ -105,7 +105,7 @@ pub fn unlike_any(
     seconds: &[Value],
 ) -> Words
     requires { SoundLists (lists (λ x. x.now) variables values starts) × (length firsts.now ≡ 64) × (length seconds.now ≡ 64) }
-    ensures { Holds result (removed_by_kept (network_in (lists entry variables values starts)) (entry firsts) (entry seconds)) }
+    ensures { Holds result (removed_by_kept (network_in (lists entry variables values starts)) firsts.now seconds.now) }
 {
     let mut removed = [0u64; WORDS];
     let mut x: u16 = 0;

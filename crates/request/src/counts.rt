@@ -2,7 +2,6 @@
 ghost use Rattle.std.specs.Prelude.{◌≡◌, not, ◌<◌, length};
 ghost use Rattle.model.specs.LiveCounts.{live_count, live_counts};
 ghost use Rattle.model.specs.Fault.{untrue};
-ghost use Rattle.layout.specs.Loan.{entry, exit};
 ghost use Rattle.layout.specs.Shape.{network_of};
 ghost use Rattle.layout.specs.Starts.{outline, records_in};
 ghost use Rattle.request.specs.Answer.{living_in, Covered};
@@ -17,7 +16,7 @@ use model::{Value, refusal};
 // How many tuples of relation r are live.
 fn live_count(starts: &Starts, words: &[u64], r: u16) -> u16
     requires { Covered starts.now words.now × (r < length (records_in starts.now)) }
-    ensures { result ≡ live_count (outline (entry starts)) (living_in (entry starts) (entry words)) r }
+    ensures { result ≡ live_count (outline starts.now) (living_in starts.now words.now) r }
 {
     count(words, tuple_start(starts, r), tuple_start(starts, r + 1))
 }
@@ -25,7 +24,7 @@ fn live_count(starts: &Starts, words: &[u64], r: u16) -> u16
 // Whether the counts are those of the live tuples, one for each relation.
 fn counts_true(starts: &Starts, words: &[u64], counts: &[u16]) -> bool
     requires { Covered starts.now words.now }
-    ensures { result ≡ not (untrue (outline (entry starts)) (entry words) (entry counts)) }
+    ensures { result ≡ not (untrue (outline starts.now) words.now counts.now) }
 {
     if counts.len() != wide(relation_count(starts)) {
         return false;
@@ -43,7 +42,7 @@ fn counts_true(starts: &Starts, words: &[u64], counts: &[u16]) -> bool
 // The counts become those of the live tuples.
 pub fn count_all(starts: &Starts, words: &[u64], counts: &mut [u16])
     requires { Covered starts.now words.now × (length counts.old ≡ length (records_in starts.now)) }
-    ensures { exit counts ≡ live_counts (outline (entry starts)) (living_in (entry starts) (entry words)) }
+    ensures { counts.new ≡ live_counts (outline starts.now) (living_in starts.now words.now) }
 {
     let mut r: u16 = 0;
     while wide(r) < counts.len() {
@@ -55,7 +54,7 @@ pub fn count_all(starts: &Starts, words: &[u64], counts: &mut [u16])
 // The opening with fault 18, if it has none and the counts are untrue.
 pub fn counted(opening: Opening, words: &[u64], counts: &[u16]) -> Opening
     requires { opening.fault ≡ 0 → Covered opening.starts words.now }
-    ensures { CountsChecked opening (entry words) (entry counts) result }
+    ensures { CountsChecked opening words.now counts.now result }
 {
     let fault = opening.fault;
     if fault != 0 {
@@ -82,7 +81,7 @@ pub fn opened(
     numbers: usize,
     counts: &[u16],
 ) -> Opening
-    ensures { Opens result shape (entry variables) (entry values) m (entry members) (length (entry words)) numbers (untrue (network_of shape (entry variables) (entry values)) (entry words) (entry counts)) }
+    ensures { Opens result shape variables.now values.now m members.now (length words.now) numbers (untrue (network_of shape variables.now values.now) words.now counts.now) }
 {
     let opening = checked(shape, variables, values, m, members, words.len(), numbers);
     counted(opening, words, counts)

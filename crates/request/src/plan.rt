@@ -1,7 +1,6 @@
 // What a change call is to do, found before any list that it may write is touched.
 ghost use Rattle.std.specs.Prelude.{◌≡◌};
 ghost use Rattle.model.specs.Request.{filter, choose};
-ghost use Rattle.layout.specs.Loan.{entry};
 ghost use Rattle.layout.specs.Setting.{SoundLists};
 ghost use Rattle.request.specs.Plan.{lists_from, PlansFrom, PlansIds, PlansOn, PlansChoices};
 
@@ -59,7 +58,7 @@ pub fn plan_withdraw(opening: Opening, ids: Ids) -> Plan
 // Choose, of value v under variable x.
 pub fn plan_choose(opening: Opening, variables: &[u16], values: &[Value], x: u16, v: Value) -> Plan
     requires { opening.fault ≡ 0 → SoundLists (lists_from opening variables.now values.now) }
-    ensures { PlansOn result opening (entry variables) (entry values) (choose x v) }
+    ensures { PlansOn result opening variables.now values.now (choose x v) }
 {
     let fault = opening.fault;
     let starts = opening.starts;
@@ -88,7 +87,7 @@ pub fn plan_choose_several(
     choices: Choices,
 ) -> Plan
     requires { opening.fault ≡ 0 → SoundLists (lists_from opening variables.now values.now) }
-    ensures { PlansChoices result opening (entry variables) (entry values) choices }
+    ensures { PlansChoices result opening variables.now values.now choices }
 {
     let fault = opening.fault;
     let starts = opening.starts;

@@ -4,7 +4,7 @@ ghost use Rattle.model.specs.Limits.{max_relations};
 ghost use Rattle.model.specs.LiveWords.{is_live};
 ghost use Rattle.model.specs.Request.{choose};
 ghost use Rattle.live.specs.Words.{WordArray};
-ghost use Rattle.layout.specs.Loan.{entry, exit};
+ghost use Rattle.layout.specs.Loan.{entry};
 ghost use Rattle.layout.specs.Setting.{lists, network_in, SoundLists};
 ghost use Rattle.request.specs.Removal.{added, above, IdsOf, Holds, removed_by, removed_in, Added, Room, without_ids};
 
@@ -24,7 +24,7 @@ pub struct Ids {
 // Id g is set, if the words have a bit for it; the bound with it.
 pub fn add(words: &mut [u64], bound: usize, g: u16) -> usize
     requires { length words.old ≡ 64 }
-    ensures { (exit words ≡ added g (entry words)) × (result ≡ above bound g) }
+    ensures { (words.new ≡ added g words.old) × (result ≡ above bound g) }
 {
     let wide_id = wide(g);
     if wide_id < MAX_TUPLES {
@@ -36,7 +36,7 @@ pub fn add(words: &mut [u64], bound: usize, g: u16) -> usize
 
 // The ids of a list.
 pub fn listed(ids: &[u16]) -> Ids
-    ensures { IdsOf result (entry ids) }
+    ensures { IdsOf result ids.now }
 {
     let mut words = [0u64; WORDS];
     let mut bound = 0;
@@ -59,7 +59,7 @@ fn unlike_in(
     removed: &mut [u64],
 )
     requires { SoundLists (lists (λ x. x.now) variables values starts) × (r < max_relations) × WordArray removed.old }
-    ensures { Added (entry removed) (exit removed) (removed_in (lists entry variables values starts) r (choose x v)) }
+    ensures { Added removed.old removed.new (removed_in (lists entry variables values starts) r (choose x v)) }
 {
     let scope = variable_start(starts, r);
     let scope_end = variable_start(starts, r + 1);
@@ -90,7 +90,7 @@ pub fn add_unlike(
     removed: &mut [u64],
 )
     requires { SoundLists (lists (λ x. x.now) variables values starts) × WordArray removed.old }
-    ensures { Added (entry removed) (exit removed) (removed_by (network_in (lists entry variables values starts)) (choose x v)) }
+    ensures { Added removed.old removed.new (removed_by (network_in (lists entry variables values starts)) (choose x v)) }
 {
     if is_any(v) {
         return;
@@ -116,7 +116,7 @@ pub fn unlike(variables: &[u16], values: &[Value], starts: &Starts, x: u16, v: V
 // Of the first n ids those removed are dead, and every other bit stays.
 pub fn remove(words: &mut [u64], removed: &Words, n: u16)
     requires { Room words.old removed.now n }
-    ensures { exit words ≡ without_ids n (is_live (entry removed)) (entry words) }
+    ensures { words.new ≡ without_ids n (is_live removed.now) words.old }
 {
     let end = words_for(n);
     let mut i = 0;

@@ -2,7 +2,7 @@
 // fresh one of another member.
 ghost use Rattle.std.specs.Prelude.{◌≡◌, true, ◌<◌, length};
 ghost use Rattle.model.specs.Limits.{max_tuples};
-ghost use Rattle.layout.specs.Loan.{entry, exit};
+ghost use Rattle.layout.specs.Loan.{entry};
 ghost use Rattle.layout.specs.Setting.{lists, network_in};
 ghost use Rattle.narrowing.specs.Narrows.{Long, Seeks, Searchable};
 ghost use Rattle.narrowing.specs.Gathers.{Joins, Gathers};
@@ -19,7 +19,7 @@ use value_index::Index;
 // Whatever is live in the words is live in `sum` too.
 fn join(words: &Words, sum: &mut Words)
     requires { Long words.now × Long sum.old }
-    ensures { Joins (λ _. true) 0 max_tuples (entry words) (entry sum) (exit sum) }
+    ensures { Joins (λ _. true) 0 max_tuples words.now sum.old sum.new }
 {
     let mut i = 0;
     while i < WORDS {
@@ -42,7 +42,7 @@ fn gather_near(
 )
     requires long { Long words.now × Long sum.old }
     requires seeks { Seeks (lists (λ x. x.now) variables values starts) index.now r x × (Two r s × (s ≡ r → ⊥)) }
-    ensures { Long (exit sum) × Gathers (network_in (lists entry variables values starts)) r x s (entry words) (entry sum) (exit sum) }
+    ensures { Long sum.new × Gathers (network_in (lists entry variables values starts)) r x s words.now sum.old sum.new }
 {
     let only = [s];
     let mut near = *words;
@@ -66,7 +66,7 @@ fn gather_from(
 )
     requires long { Long fresh.now × (Long words.now × Long sum.old) }
     requires searchable { Searchable (lists (λ x. x.now) variables values starts) index.now × (Two r s × (s ≡ r → ⊥)) }
-    ensures { GathersFrom (network_in (lists entry variables values starts)) r s (entry fresh) (entry words) (entry sum) (exit sum) }
+    ensures { GathersFrom (network_in (lists entry variables values starts)) r s fresh.now words.now sum.old sum.new }
 {
     let first = tuple_start(starts, r);
     let end = tuple_start(starts, r + 1);
@@ -102,7 +102,7 @@ fn gather_others(
 )
     requires long { Long fresh.now × (Long words.now × Long sum.old) }
     requires spreadable { Spreadable (lists (λ x. x.now) variables values starts) index.now members.now place × (j < length members.now) }
-    ensures { GathersOthers (network_in (lists entry variables values starts)) (entry members) place j (entry fresh) (entry words) (entry sum) (exit sum) }
+    ensures { GathersOthers (network_in (lists entry variables values starts)) members.now place j fresh.now words.now sum.old sum.new }
 {
     let mut i = 0;
     while i < members.len() {
@@ -159,7 +159,7 @@ fn narrow_fresh(
     requires long { Long fresh.now × (Long words.old × ((j < length members.now) × (j ≡ place → ⊥))) }
     requires spreadable { Spreadable (lists (λ x. x.now) variables values starts) index.now members.now place }
     requires meets { Meets (network_in (lists (λ x. x.now) variables values starts)) members.now place words.old fresh.now }
-    ensures { SpreadsMembers (network_in (lists entry variables values starts)) (entry members) place 0 (entry words) (exit words) result }
+    ensures { SpreadsMembers (network_in (lists entry variables values starts)) members.now place 0 words.old words.new result }
 {
     if !few_fresh(starts, fresh, members, place, j, limit) {
         return true;
@@ -189,7 +189,7 @@ pub fn narrow_to_fresh(
     requires long { Long words.old × Long fresh.now }
     requires spreadable { Spreadable (lists (λ x. x.now) variables values starts) index.now members.now place }
     requires meets { Meets (network_in (lists (λ x. x.now) variables values starts)) members.now place words.old fresh.now }
-    ensures { SpreadsMembers (network_in (lists entry variables values starts)) (entry members) place 0 (entry words) (exit words) result }
+    ensures { SpreadsMembers (network_in (lists entry variables values starts)) members.now place 0 words.old words.new result }
 {
     let mut left = *words;
     keep(fresh, &mut left, 0, 0, MAX_TUPLES as u16);

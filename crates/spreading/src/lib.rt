@@ -1,7 +1,7 @@
 // Before a search: members that share no variable with the seeking tuple's relation are narrowed through the candidates of a member
 // between, where those are few. The search would try them one by one.
 ghost use Rattle.std.specs.Prelude.{◌≡◌, ◌≤◌, ◌<◌, length};
-ghost use Rattle.layout.specs.Loan.{entry, exit};
+ghost use Rattle.layout.specs.Loan.{entry};
 ghost use Rattle.layout.specs.Setting.{lists, network_in};
 ghost use Rattle.layout.specs.Starts.{SoundStarts};
 ghost use Rattle.bridging.specs.Bridge.{Three};
@@ -39,7 +39,7 @@ pub fn spread(
     limit: u16,
 ) -> bool
     requires { Long words.old × (Searchable (lists (λ x. x.now) variables values starts) index.now × Two r s) }
-    ensures { Spreads (network_in (lists entry variables values starts)) r s (entry words) (exit words) result }
+    ensures { Spreads (network_in (lists entry variables values starts)) r s words.old words.new result }
 {
     let first = tuple_start(starts, r);
     let end = tuple_start(starts, r + 1);
@@ -107,7 +107,7 @@ fn bridge_step(
 ) -> bool
     requires long { Long words.old × Spreadable (lists (λ x. x.now) variables values starts) index.now members.now place }
     requires free { Free members.now place from j }
-    ensures { SpreadsMembers (network_in (lists entry variables values starts)) (entry members) place from (entry words) (exit words) result }
+    ensures { SpreadsMembers (network_in (lists entry variables values starts)) members.now place from words.old words.new result }
 {
     let a = other_from(members.len(), place, j, 0);
     if members.len() <= a {
@@ -144,7 +144,7 @@ fn spread_step(
     factor: u64,
 ) -> bool
     requires { Long words.old × Spreadable (lists (λ x. x.now) variables values starts) index.now members.now place }
-    ensures { SpreadsMembers (network_in (lists entry variables values starts)) (entry members) place from (entry words) (exit words) result }
+    ensures { SpreadsMembers (network_in (lists entry variables values starts)) members.now place from words.old words.new result }
 {
     if members.len() <= i {
         return true;
@@ -187,7 +187,7 @@ pub fn spread_members(
     limit: u16,
 ) -> bool
     requires { Long words.old × Spreadable (lists (λ x. x.now) variables values starts) index.now members.now place }
-    ensures { SpreadsMembers (network_in (lists entry variables values starts)) (entry members) place from (entry words) (exit words) result }
+    ensures { SpreadsMembers (network_in (lists entry variables values starts)) members.now place from words.old words.new result }
 {
     let factor = steps / 4294967296;
     let mut left = steps % 4294967296;

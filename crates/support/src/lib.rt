@@ -4,7 +4,7 @@ ghost use Rattle.std.specs.Prelude.{◌≡◌, true, ◌+◌, ◌≤◌, ◌<◌
 ghost use Rattle.model.specs.Limits.{max_relations, max_members};
 ghost use Rattle.doubles.specs.Alike.{MembersIn};
 ghost use Rattle.doubles.specs.Doubles.{places};
-ghost use Rattle.layout.specs.Loan.{entry, exit};
+ghost use Rattle.layout.specs.Loan.{entry};
 ghost use Rattle.layout.specs.Starts.{tuple_start, SoundStarts};
 ghost use Rattle.layout.specs.Setting.{lists, network_in};
 ghost use Rattle.narrowing.specs.Narrows.{Long};
@@ -116,7 +116,7 @@ pub fn place_behind(place: usize, k: usize) -> usize
 // The walk over relation r: its tuples, from index `from` on if the search resumes.
 fn span_of(starts: &Starts, r: u16, resumes: bool, from: u16) -> Span
     requires { (r < max_relations) × (tuple_start starts.now r + from < 65535) }
-    ensures { result ≡ span_at (entry starts) r resumes from }
+    ensures { result ≡ span_at starts.now r resumes from }
 {
     let first = tuple_start(starts, r);
     let end = tuple_start(starts, r + 1);
@@ -144,7 +144,7 @@ fn fits(
     x: u16,
 ) -> bool
     requires { Trial (lists (λ x. x.now) variables values starts) members.now place own k chosen x }
-    ensures { result ≡ fits (network_in (lists entry variables values starts)) (entry members) place own k chosen x }
+    ensures { result ≡ fits (network_in (lists entry variables values starts)) members.now place own k chosen x }
 {
     let r = members[k];
     if !tuples_agree(variables, values, starts, members[place], own, r, x) {
@@ -180,7 +180,7 @@ pub fn first_fitting(
     x: u16,
 ) -> u16
     requires { Long words.now × FittingAt (lists (λ x. x.now) variables values starts) index.now members.now place own k chosen from by x }
-    ensures { FirstFitting (network_in (lists entry variables values starts)) (entry members) place own k chosen (entry words) from result }
+    ensures { FirstFitting (network_in (lists entry variables values starts)) members.now place own k chosen words.now from result }
 {
     let r = members[k];
     let first = tuple_start(starts, r);
@@ -326,7 +326,7 @@ fn sieve_behind(
     k: usize,
 ) -> Sieve
     requires { Long words.now × (MembersIn (lists (λ x. x.now) variables values starts) members.now × TurnOf members.now place k) }
-    ensures { Sifts (network_in (lists entry variables values starts)) (entry members) place k (entry words) result }
+    ensures { Sifts (network_in (lists entry variables values starts)) members.now place k words.now result }
 {
     let last = last_but(members.len(), place);
     if last <= k {
@@ -356,7 +356,7 @@ fn may_lead(
     resumed: bool,
 ) -> bool
     requires { Trial (lists (λ x. x.now) variables values starts) members.now place own k chosen x × (length failed.old ≡ places) }
-    ensures { MayLead (lists entry variables values starts) (entry members) place own k chosen x sieve common resumed (entry failed) result (exit failed) }
+    ensures { MayLead (lists entry variables values starts) members.now place own k chosen x sieve common resumed failed.old result failed.new }
 {
     if !passes(variables, values, starts, sieve, members[k], x) {
         return false;
@@ -677,7 +677,7 @@ fn attempt_first(
     requires long { Long words.now × AttemptAt (searching (λ x. x.now) variables values starts words members place own low) index.now k resumes chosen x }
     requires long_2 { Long spare.old × (place_behind place (place_behind place k) < length members.now) }
     ensures attempts { Attempts (searching entry variables values starts words members place own low) k chosen x result }
-    ensures long_3 { Long (exit spare) }
+    ensures long_3 { Long spare.new }
 {
     let r = members[k];
     let stage = past_own(place, own, k + 1, put(chosen, k, x));
@@ -725,7 +725,7 @@ fn walk(
     requires walk_at { WalkAt (searching (λ x. x.now) variables values starts words members place own low) k resumes chosen from × (place_behind place k < length members.now) }
     requires long_2 { Long spare.old × (place_behind place (place_behind place k) < length members.now) }
     ensures walks { Walks (searching entry variables values starts words members place own low) k resumes chosen result }
-    ensures long_3 { Long (exit spare) }
+    ensures long_3 { Long spare.new }
 {
     let r = members[k];
     let first = tuple_start(starts, r);
@@ -795,7 +795,7 @@ fn search(
     requires long { Long words.now × SearchAt (searching (λ x. x.now) variables values starts words members place own low) index.now k resumes chosen }
     requires long_2 { Long spare.old × (place_behind place k < length members.now) }
     ensures finds { Finds (searching entry variables values starts words members place own low) k chosen result }
-    ensures long_3 { Long (exit spare) }
+    ensures long_3 { Long spare.new }
 {
     if place_behind(place, place_behind(place, k)) == members.len() {
         return search_two(
@@ -873,7 +873,7 @@ fn spend_member(
 )
     requires long { Long words.now × Long fresh.old }
     requires spend_at { SpendAt (lists (λ x. x.now) variables values starts) r x s end }
-    ensures { Spent (network_in (lists entry variables values starts)) r x s end (entry fresh) (exit fresh) }
+    ensures { Spent (network_in (lists entry variables values starts)) r x s end fresh.old fresh.new }
 {
     let first = tuple_start(starts, s);
     let mut g = next(words, first, end);
@@ -888,7 +888,7 @@ fn spend_member(
 // The end of relation s's ids, or the bound if that is below it and j is k.
 fn end_below(starts: &Starts, s: u16, j: usize, k: usize, bound: u16) -> u16
     requires { SoundStarts starts.now × (s < max_relations) }
-    ensures { EndBelow (tuple_start (entry starts) (s + 1)) j k bound result }
+    ensures { EndBelow (tuple_start starts.now (s + 1)) j k bound result }
 {
     let end = tuple_start(starts, s + 1);
     if j == k {
@@ -913,7 +913,7 @@ fn fresh_after(
     bound: u16,
 ) -> Words
     requires { Long words.now × FreshAt (lists (λ x. x.now) variables values starts) words.now members.now place own k bound }
-    ensures { Long result × Spends (network_in (lists entry variables values starts)) (entry members) place own k bound result }
+    ensures { Long result × Spends (network_in (lists entry variables values starts)) members.now place own k bound result }
 {
     let r = members[place];
     let mut fresh = [!0u64; WORDS];
@@ -946,7 +946,7 @@ fn note(
     fresh: &mut Words,
 )
     requires { (Long words.now × Long fresh.old) × NoteAt (lists (λ x. x.now) variables values starts) words.now members.now place own k found t }
-    ensures { Notes (network_in (lists entry variables values starts)) (entry members) place own k found t (exit fresh) }
+    ensures { Notes (network_in (lists entry variables values starts)) members.now place own k found t fresh.new }
 {
     let r = members[k];
     let mut bound = tuple_start(starts, r + 1);
@@ -977,7 +977,7 @@ fn search_all(
     requires long { Long words.now × Rooted (searching (λ x. x.now) variables values starts words members place own low) index.now }
     requires long_2 { Long spare.old }
     ensures finds_first { FindsFirst (searching entry variables values starts words members place own low) result }
-    ensures long_3 { Long (exit spare) }
+    ensures long_3 { Long spare.new }
 {
     let begun = past_own(place, own, 0, low);
     let tuples = begun.chosen;
@@ -1006,7 +1006,7 @@ fn search_fresh(
     requires long_2 { Long fresh.now × MeetsIn (searching (λ x. x.now) variables values starts words members place own low) fresh.now }
     requires long_3 { Long spare.old }
     ensures finds_first { FindsFirst (searching entry variables values starts words members place own low) result }
-    ensures long_4 { Long (exit spare) }
+    ensures long_4 { Long spare.new }
 {
     let none = Found {
         tuples: low,
@@ -1057,8 +1057,8 @@ pub fn first_support(
     requires long_2 { Long fresh.old × FreshFrom (searching (λ x. x.now) variables values starts words members place own low) fresh.old }
     requires long_3 { Long candidates.old × Long spare.old }
     ensures finds_first { FindsFirst (searching entry variables values starts words members place own low) result }
-    ensures long_4 { Long (exit fresh) × MeetsBeside (searching entry variables values starts words members place own low) (exit fresh) }
-    ensures long_5 { Long (exit candidates) × Long (exit spare) }
+    ensures long_4 { Long fresh.new × MeetsBeside (searching entry variables values starts words members place own low) fresh.new }
+    ensures long_5 { Long candidates.new × Long spare.new }
 {
     let none = Found {
         tuples: low,

@@ -3,7 +3,7 @@ ghost use Rattle.std.specs.Prelude.{◌≡◌, false, ◌*◌, ◌≤◌, ◌<�
 ghost use Rattle.model.specs.Limits.{max_relations, max_tuples};
 ghost use Rattle.model.specs.Combination.{combinations};
 ghost use Rattle.live.specs.Words.{WordArray};
-ghost use Rattle.layout.specs.Loan.{entry, exit};
+ghost use Rattle.layout.specs.Loan.{entry};
 ghost use Rattle.layout.specs.Setting.{lists, network_in, setting, Whole, Sound};
 ghost use Rattle.value_index.specs.Index.{Indexed};
 ghost use Rattle.narrowing.specs.Narrows.{Long, Searchable};
@@ -42,7 +42,7 @@ fn meets(
     to: usize,
 ) -> bool
     requires { (length rows.old ≡ tuple_rows) × Testable index.now columns.now tuple.now to }
-    ensures { (length (exit rows) ≡ tuple_rows) × (result ≡ false → Misses (entry index) (entry columns) (entry tuple) (entry alive) from to) }
+    ensures { (length rows.new ≡ tuple_rows) × (result ≡ false → Misses index.now columns.now tuple.now alive.now from to) }
 {
     let n = rows_of(index, columns, tuple, rows);
     meet(index, rows, n, alive, from, to)
@@ -62,7 +62,7 @@ fn clear_unmet(
 ) -> u32
     requires rows_len { (length rows.old ≡ tuple_rows) × Testable index.now columns.now tuple.now to }
     requires long { Long words.old × (g < max_tuples) }
-    ensures { (length (exit rows) ≡ tuple_rows) × Falls (entry index) (entry columns) (entry tuple) (entry alive) from to g (entry words) (exit words) result }
+    ensures { (length rows.new ≡ tuple_rows) × Falls index.now columns.now tuple.now alive.now from to g words.old words.new result }
 {
     if meets(index, columns, tuple, alive, rows, from, to) {
         return 0;
@@ -121,7 +121,7 @@ fn clear_tuples(
 ) -> Swept
     requires prepared { Prepared (lists (λ x. x.now) variables values starts) index.now columns.now r s from to }
     requires word_array { WordArray words.old × Covers (network_in (lists (λ x. x.now) variables values starts)) s words.old alive.now }
-    ensures { AtMost 1 result × Revises (lists entry variables values starts) r s (entry words) (exit words) }
+    ensures { AtMost 1 result × Revises (lists entry variables values starts) r s words.old words.new }
 {
     let first = tuple_start(starts, r);
     let end = tuple_start(starts, r + 1);
@@ -159,7 +159,7 @@ fn revise(
     few: bool,
 ) -> Swept
     requires { WordArray words.old × (Searchable (lists (λ x. x.now) variables values starts) index.now × ((r < max_relations) × (s < max_relations))) }
-    ensures { AtMost 1 result × Revises (lists entry variables values starts) r s (entry words) (exit words) }
+    ensures { AtMost 1 result × Revises (lists entry variables values starts) r s words.old words.new }
 {
     if scope_bits(index, r) & scope_bits(index, s) == 0 {
         return Swept { tested: 0, fell: 0 };
@@ -200,7 +200,7 @@ fn sweep_relation(
     few: bool,
 ) -> Swept
     requires { WordArray words.old × (Long beside.now × (Searchable (lists (λ x. x.now) variables values starts) index.now × (r < max_relations))) }
-    ensures { AtMost max_relations result × Sweeps (lists entry variables values starts) (entry beside) (entry words) (exit words) }
+    ensures { AtMost max_relations result × Sweeps (lists entry variables values starts) beside.now words.old words.new }
 {
     let base = r * 64;
     let end = base + 64;
@@ -226,7 +226,7 @@ fn sweep(
     words: &mut Words,
 ) -> bool
     requires { WordArray words.old × (Long beside.now × Searchable (lists (λ x. x.now) variables values starts) index.now) }
-    ensures { Sweeps (lists entry variables values starts) (entry beside) (entry words) (exit words) }
+    ensures { Sweeps (lists entry variables values starts) beside.now words.old words.new }
 {
     let relations = relation_count(starts);
     let mut tested = 0;
@@ -245,7 +245,7 @@ fn sweep(
 // Relation r is beside each other member from `base` on and below `end`.
 fn put_beside(beside: &mut Words, members: &[u16], base: usize, end: usize, r: u16)
     requires { PutAsks beside.old members.now base end r }
-    ensures { Put (entry members) base end r (entry beside) (exit beside) }
+    ensures { Put members.now base end r beside.old beside.new }
 {
     let mut q = base;
     while q < end {
@@ -260,7 +260,7 @@ fn put_beside(beside: &mut Words, members: &[u16], base: usize, end: usize, r: u
 // Of each relation, as a word, those beside it: bit s of word r.
 fn all_beside(members: &[u16], m: u16) -> Words
     requires { Whole m members.now × Few members.now }
-    ensures { Besides (combinations m (entry members)) result }
+    ensures { Besides (combinations m members.now) result }
 {
     let each = wide(m);
     let mut beside = [0u64; WORDS];
@@ -285,7 +285,7 @@ pub fn sweeps(
 )
     requires word_array { WordArray words.old × Sound (setting (λ x. x.now) variables values starts members m) }
     requires indexed { Indexed (network_in (lists (λ x. x.now) variables values starts)) index.now }
-    ensures { Shrunk (setting entry variables values starts members m) (entry words) (exit words) }
+    ensures { Shrunk (setting entry variables values starts members m) words.old words.new }
 {
     let beside = all_beside(members, m);
     if sweep(variables, values, starts, index, &beside, words) {

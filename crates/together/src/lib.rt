@@ -2,7 +2,7 @@
 // tuples that still seek narrowed along, and whoever is left when the last member is reached takes the support.
 ghost use Rattle.std.specs.Prelude.{◌≡◌, true, ℕ, ◌<◌, length};
 ghost use Rattle.model.specs.LiveWords.{is_live};
-ghost use Rattle.layout.specs.Loan.{entry, exit};
+ghost use Rattle.layout.specs.Loan.{entry};
 ghost use Rattle.narrowing.specs.Narrows.{Long};
 ghost use Rattle.support.specs.Search.{place_behind};
 ghost use Rattle.together.specs.Together.{joint, tuple_at, Room, BesideAt, AgreesBefore, SoundJoint, SeekAt, LastAt, TakesOne, ChooseAt, Chooses, Seeks, SeeksWith, Together};
@@ -63,7 +63,7 @@ fn take_one(
 )
     requires long { (Long words.now × Long pending.old) × LastAt (joint (λ x. x.now) variables values starts members place) index.now k chosen x }
     requires room { Room (joint (λ x. x.now) variables values starts members place) start (length numbers.old) × (is_live words.now (tuple_at (joint (λ x. x.now) variables values starts members place) place x) ≡ true) }
-    ensures { TakesOne (joint entry variables values starts members place) start k chosen (entry words) x (entry pending) (exit pending) (entry numbers) (exit numbers) }
+    ensures { TakesOne (joint entry variables values starts members place) start k chosen words.now x pending.old pending.new numbers.old numbers.new }
 {
     let id = tuple_start(starts, members[place]) + x;
     if !is_live(pending, id) {
@@ -104,7 +104,7 @@ fn take_last(
 ) -> u32
     requires long { (Long words.now × Long pending.old) × SeekAt (joint (λ x. x.now) variables values starts members place) index.now k chosen }
     requires room { Room (joint (λ x. x.now) variables values starts members place) start (length numbers.old) × (place_behind place k ≡ length members.now) }
-    ensures { Seeks (joint entry variables values starts members place) start k chosen (entry words) (entry pending) (exit pending) (entry numbers) (exit numbers) result }
+    ensures { Seeks (joint entry variables values starts members place) start k chosen words.now pending.old pending.new numbers.old numbers.new result }
 {
     let r = members[place];
     let first = tuple_start(starts, r);
@@ -152,7 +152,7 @@ fn choose(
     pending: &Words,
 ) -> bool
     requires { (Long words.old × Long pending.now) × ChooseAt (joint (λ x. x.now) variables values starts members place) index.now k chosen y }
-    ensures { Chooses (joint entry variables values starts members place) k chosen y (entry pending) (entry words) (exit words) result }
+    ensures { Chooses (joint entry variables values starts members place) k chosen y pending.now words.old words.new result }
 {
     if !agrees_before(variables, values, starts, members, place, k, chosen, k, y) {
         return false;
@@ -191,7 +191,7 @@ fn seek_with(
 ) -> u32
     requires long { (Long words.now × Long pending.old) × ChooseAt (joint (λ x. x.now) variables values starts members place) index.now k chosen y }
     requires room { Room (joint (λ x. x.now) variables values starts members place) start (length numbers.old) × (place_behind place k < length members.now) }
-    ensures { SeeksWith (joint entry variables values starts members place) start k chosen y (entry words) (entry pending) (exit pending) (entry numbers) (exit numbers) result }
+    ensures { SeeksWith (joint entry variables values starts members place) start k chosen y words.now pending.old pending.new numbers.old numbers.new result }
 {
     let mut fewer = *words;
     if !choose(
@@ -237,7 +237,7 @@ fn seek(
 ) -> u32
     requires long { (Long words.now × Long pending.old) × SeekAt (joint (λ x. x.now) variables values starts members place) index.now k chosen }
     requires room { Room (joint (λ x. x.now) variables values starts members place) start (length numbers.old) }
-    ensures { Seeks (joint entry variables values starts members place) start k chosen (entry words) (entry pending) (exit pending) (entry numbers) (exit numbers) result }
+    ensures { Seeks (joint entry variables values starts members place) start k chosen words.now pending.old pending.new numbers.old numbers.new result }
 {
     if place_behind(place, k) == members.len() {
         return take_last(
@@ -303,7 +303,7 @@ pub fn seek_together(
 ) -> u32
     requires long { (Long words.now × Long pending.old) × SoundJoint (joint (λ x. x.now) variables values starts members place) index.now }
     requires room { Room (joint (λ x. x.now) variables values starts members place) start (length numbers.old) × (1 < length members.now) }
-    ensures { Together (joint entry variables values starts members place) start (entry words) (entry pending) (exit pending) (entry numbers) (exit numbers) result }
+    ensures { Together (joint entry variables values starts members place) start words.now pending.old pending.new numbers.old numbers.new result }
 {
     let chosen = [0u16; MAX_MEMBERS];
     let k = first_but(place);

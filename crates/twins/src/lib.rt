@@ -3,7 +3,7 @@
 // into two sides, it takes one side's part from one earlier tuple and the other's from another.
 ghost use Rattle.std.specs.Prelude.{◌≡◌, true, ◌+◌, ◌*◌, ◌≤◌, ◌<◌, length};
 ghost use Rattle.model.specs.Limits.{max_members, max_tuples, word_bits};
-ghost use Rattle.layout.specs.Loan.{entry, exit};
+ghost use Rattle.layout.specs.Loan.{entry};
 ghost use Rattle.layout.specs.Setting.{lists, setting};
 ghost use Rattle.doubles.specs.Alike.{TupleAt};
 ghost use Rattle.doubles.specs.Doubles.{Entered, places};
@@ -76,7 +76,7 @@ fn agrees_with(
 // in `load`.
 fn load_sides(numbers: &[u16], near: usize, far: usize, m: usize, places: u64) -> Indices
     requires { (near + m ≤ length numbers.now) × (far + m ≤ length numbers.now) × (m ≤ max_members) }
-    ensures { LoadsSides (entry numbers) near far m places result }
+    ensures { LoadsSides numbers.now near far m places result }
 {
     if places == 0 {
         return load(numbers, near, m);
@@ -116,7 +116,7 @@ fn take(
 ) -> Twin
     requires twin_at { TwinAt (setting (λ x. x.now) variables values starts members m) words.now numbers.old p x at × Sided (setting (λ x. x.now) variables values starts members m) p sides }
     requires twins { Twins (setting (λ x. x.now) variables values starts members m) words.now p x sides y z × LiveTwins (setting (λ x. x.now) variables values starts members m) words.now p x y z }
-    ensures { Outcome (setting entry variables values starts members m) p x (entry words) (entry numbers) result (exit numbers) }
+    ensures { Outcome (setting entry variables values starts members m) p x words.now numbers.old result numbers.new }
 {
     let each = wide(m);
     let near = at - wide(x - y) * each;
@@ -144,7 +144,7 @@ fn far_twin(
 ) -> u16
     requires tuple_at { TupleAt (lists (λ x. x.now) variables values starts) r x × (length sought.old ≡ places) }
     requires x_bound { (first + x < max_tuples) × (first + x < word_bits * length words.now) }
-    ensures { FarTwin (lists entry variables values starts) (entry words) far r first x (entry sought) result (exit sought) }
+    ensures { FarTwin (lists entry variables values starts) words.now far r first x sought.old result sought.new }
 {
     let z = alike_from(variables, values, starts, sought, r, x, far, FAR);
     if x <= z {
@@ -174,8 +174,8 @@ pub fn take_twin(
 ) -> Twin
     requires twin_at { TwinAt (setting (λ x. x.now) variables values starts members m) words.now numbers.old p x at }
     requires noted { Noted (setting (λ x. x.now) variables values starts members m) words.now p x sought.old × Sided (setting (λ x. x.now) variables values starts members m) p sides }
-    ensures outcome { Outcome (setting entry variables values starts members m) p x (entry words) (entry numbers) result (exit numbers) }
-    ensures entered { Entered x (entry sought) (exit sought) }
+    ensures outcome { Outcome (setting entry variables values starts members m) p x words.now numbers.old result numbers.new }
+    ensures entered { Entered x sought.old sought.new }
 {
     let r = members[wide(p)];
     let first = tuple_start(starts, r);

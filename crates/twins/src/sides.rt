@@ -49,7 +49,7 @@ fn divided(
     place: usize,
 ) -> Sides
     requires { MembersIn (lists (λ x. x.now) variables values starts) members.now × (length members.now ≤ max_members) }
-    ensures { Divides (network_in (lists entry variables values starts)) (entry members) (length (entry members)) place result }
+    ensures { Divides (network_in (lists entry variables values starts)) members.now (length members.now) place result }
 {
     let mut sides = Sides {
         near: 0,

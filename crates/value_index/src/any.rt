@@ -2,7 +2,6 @@
 // spread over the column's other rows, a word at a time.
 ghost use Rattle.std.specs.Prelude.{◌≡◌, false, ℕ, ◌+◌, ◌*◌, ◌≤◌, ◌<◌};
 ghost use Rattle.model.specs.Limits.{max_relations, max_width, word_bits};
-ghost use Rattle.layout.specs.Loan.{entry, exit};
 ghost use Rattle.value_index.specs.Plan.{plan_words, index_words, row_words, any_row, ColumnRows, SoundPlan};
 ghost use Rattle.value_index.specs.Index.{Full, Laid, Grows, NoneIn, JoinsRow, SpreadsAny, SpreadsColumns};
 
@@ -13,7 +12,7 @@ use live::words_for;
 // The word at which it begins, among the rows that begin at `start`.
 pub fn any_row(index: &Index, start: usize) -> usize
     requires { SoundPlan index.now × ColumnRows index.now start }
-    ensures { result ≡ any_row (entry index) start }
+    ensures { result ≡ any_row index.now start }
 {
     start + (index[DIGITS] * index[DIGIT_ROWS] * index[ROW_WORDS]) as usize
 }
@@ -21,7 +20,7 @@ pub fn any_row(index: &Index, start: usize) -> usize
 // Whether some id of the words from `from` on and below `to` is in the row that begins at word `row`.
 fn has_some(index: &Index, row: usize, from: usize, to: usize) -> bool
     requires { row + to ≤ index_words }
-    ensures { result ≡ false → NoneIn (entry index) row (word_bits * from) (word_bits * to) }
+    ensures { result ≡ false → NoneIn index.now row (word_bits * from) (word_bits * to) }
 {
     let mut some = 0;
     let mut i = from;
@@ -35,7 +34,7 @@ fn has_some(index: &Index, row: usize, from: usize, to: usize) -> bool
 // The ids of these words that are in the row at word `row` are in the one at word `other` too; no bit is lost.
 fn join_row(index: &mut Index, row: usize, other: usize, from: usize, to: usize)
     requires { Full index.old × ((plan_words ≤ other) × ((row + to ≤ index_words) × (other + to ≤ index_words))) }
-    ensures { Full (exit index) × (Grows (entry index) (exit index) × JoinsRow row other (word_bits * from) (word_bits * to) (entry index) (exit index)) }
+    ensures { Full index.new × (Grows index.old index.new × JoinsRow row other (word_bits * from) (word_bits * to) index.old index.new) }
 {
     let mut i = from;
     while i < to {
@@ -48,7 +47,7 @@ fn join_row(index: &mut Index, row: usize, other: usize, from: usize, to: usize)
 // there are none; no bit is lost.
 fn spread_any(index: &mut Index, start: usize, from: usize, to: usize)
     requires { (Full index.old × SoundPlan index.old) × (((start ≡ 0 → ⊥) → ColumnRows index.old start) × (to ≤ row_words index.old)) }
-    ensures { Full (exit index) × (Grows (entry index) (exit index) × ((start ≡ 0 → ⊥) → SpreadsAny start (word_bits * from) (word_bits * to) (entry index) (exit index))) }
+    ensures { Full index.new × (Grows index.old index.new × ((start ≡ 0 → ⊥) → SpreadsAny start (word_bits * from) (word_bits * to) index.old index.new)) }
 {
     if start == 0 {
         return;
@@ -69,7 +68,7 @@ fn spread_any(index: &mut Index, start: usize, from: usize, to: usize)
 // The same of the ids from start on and below end, in each of relation r's columns.
 pub fn spread_columns(index: &mut Index, r: u16, width: u16, start: u16, end: u16)
     requires { Laid index.old end × ((r < max_relations) × (width ≤ max_width)) }
-    ensures { Full (exit index) × (Grows (entry index) (exit index) × SpreadsColumns r width start end (entry index) (exit index)) }
+    ensures { Full index.new × (Grows index.old index.new × SpreadsColumns r width start end index.old index.new) }
 {
     let from = wide(start / 64);
     let to = words_for(end);

@@ -1,7 +1,6 @@
 // The rows of a value's digits, by what the plan says of all columns alike. That is read once for many tuples: the word at which a tuple is
 // entered might be one of the plan's, for all that a compiler knows, so that each entry would have it read again.
 ghost use Rattle.std.specs.Prelude.{◌≡◌, ◌<◌};
-ghost use Rattle.layout.specs.Loan.{entry};
 ghost use Rattle.value_index.specs.Plan.{hashes, digit_count, row_plan, mixed, hash_at, hash_behind, row_of, ColumnRows, SoundPlan};
 
 use super::{DIGIT_ROWS, DIGITS, FACTOR, HASHES, Index, MIXES, ROW_WORDS};
@@ -23,7 +22,7 @@ pub struct RowPlan {
 
 // What the index says of them.
 pub fn row_plan(index: &Index) -> RowPlan
-    ensures { result ≡ row_plan (entry index) }
+    ensures { result ≡ row_plan index.now }
 {
     RowPlan {
         words: index[ROW_WORDS],
@@ -46,7 +45,7 @@ pub fn mix(hash: u64) -> u64
 // The hash of a value, of which its first digit is made.
 pub fn hash_of(index: &Index, plan: RowPlan, value: Value) -> u64
     requires { SoundPlan index.now × (plan ≡ row_plan index.now) }
-    ensures { result ≡ hash_at (entry index) value 0 }
+    ensures { result ≡ hash_at index.now value 0 }
 {
     let hash = value as u64 * plan.factor % HASHES;
     if plan.mixes == 0 {
@@ -58,7 +57,7 @@ pub fn hash_of(index: &Index, plan: RowPlan, value: Value) -> u64
 // The hash of which the digit behind is made: what is left of this one, its digit taken out.
 pub fn hash_behind(index: &Index, plan: RowPlan, hash: u64) -> u64
     requires { SoundPlan index.now × ((plan ≡ row_plan index.now) × (hash < hashes)) }
-    ensures { result ≡ hash_behind (entry index) hash }
+    ensures { result ≡ hash_behind index.now hash }
 {
     hash * plan.rows % HASHES
 }
@@ -67,7 +66,7 @@ pub fn hash_behind(index: &Index, plan: RowPlan, hash: u64) -> u64
 pub fn row_of(index: &Index, plan: RowPlan, start: usize, hash: u64, i: u64) -> usize
     requires sound_plan { SoundPlan index.now × (ColumnRows index.now start × ((hash < hashes) × (i < digit_count index.now))) }
     requires plan_value { plan ≡ row_plan index.now }
-    ensures { result ≡ row_of (entry index) start hash i }
+    ensures { result ≡ row_of index.now start hash i }
 {
     let rows = plan.rows;
     let words = plan.words;

@@ -3,7 +3,7 @@
 // column fits a value are in all of its rows, and where the digits tell all values apart, no other tuple is.
 ghost use Rattle.std.specs.Prelude.{◌≡◌, true, ℕ, ◌+◌, ◌-◌, ◌*◌, ◌≤◌, ◌<◌, length};
 ghost use Rattle.model.specs.Limits.{max_relations, max_width, word_bits};
-ghost use Rattle.layout.specs.Loan.{entry, exit};
+ghost use Rattle.layout.specs.Loan.{entry};
 ghost use Rattle.layout.specs.Setting.{lists, network_in, SoundLists};
 ghost use Rattle.value_index.specs.Plan.{plan_words, index_words, hashes, column_start, digit_count, row_plan, hash_at, hash_behind, row_of, ColumnRows, SoundPlan, SamePlan};
 ghost use Rattle.value_index.specs.Index.{Full, Laid, Raises, Grows, is_indexed, Indexed, Entered, EntersColumn, EntersTuples, IndexesTuples};
@@ -56,14 +56,14 @@ pub fn scope_bits(index: &Index, r: u16) -> u64
 // Where the rows of column c of relation r begin; 0 if it has none.
 pub fn column_start(index: &Index, r: u16, c: u16) -> usize
     requires { (r < max_relations) × (c < max_width) }
-    ensures { result ≡ column_start (entry index) r c }
+    ensures { result ≡ column_start index.now r c }
 {
     index[wide(r) * MAX_WIDTH + wide(c)] as usize
 }
 
 // How many digits a value has.
 pub fn digit_count(index: &Index) -> u64
-    ensures { result ≡ digit_count (entry index) }
+    ensures { result ≡ digit_count index.now }
 {
     index[DIGITS]
 }
@@ -71,7 +71,7 @@ pub fn digit_count(index: &Index) -> u64
 // The hash of a value, of which its first digit is made.
 pub fn hash_of(index: &Index, value: Value) -> u64
     requires { SoundPlan index.now }
-    ensures { result ≡ hash_at (entry index) value 0 }
+    ensures { result ≡ hash_at index.now value 0 }
 {
     digits::hash_of(index, row_plan(index), value)
 }
@@ -79,7 +79,7 @@ pub fn hash_of(index: &Index, value: Value) -> u64
 // The hash of which the digit behind is made.
 pub fn hash_behind(index: &Index, hash: u64) -> u64
     requires { SoundPlan index.now × (hash < hashes) }
-    ensures { result ≡ hash_behind (entry index) hash }
+    ensures { result ≡ hash_behind index.now hash }
 {
     digits::hash_behind(index, row_plan(index), hash)
 }
@@ -87,7 +87,7 @@ pub fn hash_behind(index: &Index, hash: u64) -> u64
 // The word at which the row of digit i begins, which is made of a hash, among the rows that begin at `start`.
 pub fn row_of(index: &Index, start: usize, hash: u64, i: u64) -> usize
     requires { SoundPlan index.now × (ColumnRows index.now start × ((hash < hashes) × (i < digit_count index.now))) }
-    ensures { result ≡ row_of (entry index) start hash i }
+    ensures { result ≡ row_of index.now start hash i }
 {
     digits::row_of(index, row_plan(index), start, hash, i)
 }
@@ -95,7 +95,7 @@ pub fn row_of(index: &Index, start: usize, hash: u64, i: u64) -> usize
 // The bit of id g in the row that begins at word `row` is 1, and every other bit stays.
 fn enter(index: &mut Index, row: usize, g: u16)
     requires { Full index.old × ((plan_words ≤ row) × (word_bits * row + g < word_bits * index_words)) }
-    ensures { Full (exit index) × (SamePlan (entry index) (exit index) × Raises (entry index) (exit index) (word_bits * row + g)) }
+    ensures { Full index.new × (SamePlan index.old index.new × Raises index.old index.new (word_bits * row + g)) }
 {
     let i = row + wide(g / 64);
     index[i] = index[i] | (1u64 << (g % 64));
@@ -104,7 +104,7 @@ fn enter(index: &mut Index, row: usize, g: u16)
 // The tuple with id g is in every row of the value, among the rows that begin at `start`; no bit is lost.
 fn enter_value(index: &mut Index, plan: RowPlan, start: usize, value: Value, g: u16)
     requires { (Laid index.old (g + 1) × ColumnRows index.old start) × (plan ≡ row_plan index.old) }
-    ensures { Full (exit index) × (Grows (entry index) (exit index) × (is_indexed (exit index) start value g ≡ true)) }
+    ensures { Full index.new × (Grows index.old index.new × (is_indexed index.new start value g ≡ true)) }
 {
     let count = plan.digits;
     let mut hash = digits::hash_of(index, plan, value);
@@ -120,7 +120,7 @@ fn enter_value(index: &mut Index, plan: RowPlan, start: usize, value: Value, g: 
 // lost.
 fn enter_cell(index: &mut Index, plan: RowPlan, start: usize, value: Value, g: u16)
     requires { (Laid index.old (g + 1) × ColumnRows index.old start) × (plan ≡ row_plan index.old) }
-    ensures { Full (exit index) × (Grows (entry index) (exit index) × Entered (exit index) start value g) }
+    ensures { Full index.new × (Grows index.old index.new × Entered index.new start value g) }
 {
     if is_any(value) {
         enter(index, any_row(index, start), g);
@@ -143,7 +143,7 @@ fn enter_column(
 )
     requires laid { Laid index.old end × ((start ≡ 0 → ⊥) → ColumnRows index.old start) }
     requires first_le_end { (first ≤ end) × ((c < width) × ((width ≤ max_width) × (at + (end - first) * width ≤ length values.now))) }
-    ensures { Full (exit index) × (Grows (entry index) (exit index) × ((start ≡ 0 → ⊥) → EntersColumn (entry values) at width c start first end (exit index))) }
+    ensures { Full index.new × (Grows index.old index.new × ((start ≡ 0 → ⊥) → EntersColumn values.now at width c start first end index.new)) }
 {
     if start == 0 {
         return;
@@ -170,7 +170,7 @@ fn enter_tuples(
 )
     requires laid { Laid index.old end × ((r < max_relations) × (width ≤ max_width)) }
     requires start_le_end { (start ≤ end) × (at + (end - start) * width ≤ length values.now) }
-    ensures { Full (exit index) × (Grows (entry index) (exit index) × EntersTuples (entry values) at r width start end (exit index)) }
+    ensures { Full index.new × (Grows index.old index.new × EntersTuples values.now at r width start end index.new) }
 {
     let mut c: u16 = 0;
     while c < width {
@@ -192,7 +192,7 @@ fn index_tuples(
 )
     requires laid { Laid index.old end × ((r < max_relations) × (width ≤ max_width)) }
     requires start_le_end { (start ≤ end) × (at + (end - start) * width ≤ length values.now) }
-    ensures { Full (exit index) × (Grows (entry index) (exit index) × IndexesTuples (entry values) at r width start end (exit index)) }
+    ensures { Full index.new × (Grows index.old index.new × IndexesTuples values.now at r width start end index.new) }
 {
     enter_tuples(values, at, r, width, start, end, index);
     spread_columns(index, r, width, start, end);
@@ -201,7 +201,7 @@ fn index_tuples(
 // Every tuple is indexed. A caller lends noughts: a bit that is there already stays.
 pub fn index_all(variables: &[u16], values: &[Value], starts: &Starts, index: &mut Index)
     requires { Full index.old × SoundLists (lists (λ x. x.now) variables values starts) }
-    ensures { Full (exit index) × Indexed (network_in (lists entry variables values starts)) (exit index) }
+    ensures { Full index.new × Indexed (network_in (lists entry variables values starts)) index.new }
 {
     lay_out(variables, values, starts, index);
     let relations = relation_count(starts);

@@ -3,7 +3,7 @@
 ghost use Rattle.std.specs.Prelude.{ℕ, ◌*◌, ◌≤◌, ◌<◌, length};
 ghost use Rattle.model.specs.Limits.{max_relations, max_width, max_tuples, word_bits};
 ghost use Rattle.model.specs.Network.{total};
-ghost use Rattle.layout.specs.Loan.{entry, exit};
+ghost use Rattle.layout.specs.Loan.{entry};
 ghost use Rattle.layout.specs.Starts.{tuple_start};
 ghost use Rattle.layout.specs.Setting.{lists, network_in, SoundLists};
 ghost use Rattle.value_index.specs.Plan.{index_words, max_digits, hashes, most_rows, plan_words};
@@ -69,7 +69,7 @@ fn larger(a: u64, b: u64) -> u64
 
 // How many variables of the scope are shared.
 fn shared_columns(scope: &[u16], shared: u64) -> u64
-    ensures { result ≤ length (entry scope) }
+    ensures { result ≤ length scope.now }
 {
     let mut n = 0;
     let mut c = 0;
@@ -250,7 +250,7 @@ fn behind(start: usize, size: usize, begin: usize) -> usize
 // Says in the index where the rows of relation r's columns begin, one column's behind the other's, of so many words each.
 fn lay_relation(scope: &[u16], shared: u64, r: u16, size: usize, index: &mut Index)
     requires { Full index.old × (r < max_relations) }
-    ensures { Full (exit index) × LaysRelation size r max_width (entry index) (exit index) }
+    ensures { Full index.new × LaysRelation size r max_width index.old index.new }
 {
     let own = wide(r) * MAX_WIDTH;
     let mut start = PLAN;
@@ -266,7 +266,7 @@ fn lay_relation(scope: &[u16], shared: u64, r: u16, size: usize, index: &mut Ind
 // The same of all relations.
 fn lay_relations(variables: &[u16], starts: &Starts, shared: u64, size: usize, index: &mut Index)
     requires { Full index.old × ScopesWithin starts.now variables.now }
-    ensures { Full (exit index) × LaysRelations size max_relations (entry index) (exit index) }
+    ensures { Full index.new × LaysRelations size max_relations index.old index.new }
 {
     let mut r: u16 = 0;
     while wide(r) < MAX_RELATIONS {
@@ -291,7 +291,7 @@ fn bits_of(scope: &[u16]) -> u64 {
 // Says in the index which variables each relation has.
 fn lay_scopes(variables: &[u16], starts: &Starts, index: &mut Index)
     requires { Full index.old × ScopesWithin starts.now variables.now }
-    ensures { Full (exit index) }
+    ensures { Full index.new }
 {
     let mut r: u16 = 0;
     while wide(r) < MAX_RELATIONS {
@@ -305,7 +305,7 @@ fn lay_scopes(variables: &[u16], starts: &Starts, index: &mut Index)
 // How many words a row has: a bit for each tuple, and at least one word.
 fn words_of_row(starts: &Starts) -> usize
     requires { tuple_start starts.now max_relations ≤ max_tuples }
-    ensures { (0 < result) × (result ≤ 64) × (tuple_start (entry starts) max_relations ≤ word_bits * result) }
+    ensures { (0 < result) × (result ≤ 64) × (tuple_start starts.now max_relations ≤ word_bits * result) }
 {
     let words = words_for(tuple_count(starts));
     if words == 0 {
@@ -317,7 +317,7 @@ fn words_of_row(starts: &Starts) -> usize
 // The index gets its plan.
 pub fn lay_out(variables: &[u16], values: &[Value], starts: &Starts, index: &mut Index)
     requires { Full index.old × SoundLists (lists (λ x. x.now) variables values starts) }
-    ensures { Laid (exit index) (total (network_in (lists entry variables values starts))) }
+    ensures { Laid index.new (total (network_in (lists entry variables values starts))) }
 {
     lay_scopes(variables, starts, index);
     let words = words_of_row(starts);

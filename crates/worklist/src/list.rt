@@ -2,7 +2,6 @@
 // numbers are 65,535.
 ghost use Rattle.std.specs.Prelude.{◌≡◌, ◌++◌, ◌+◌, ◌-◌, ◌≤◌, length, take, drop, replicate};
 ghost use Rattle.model.specs.Limits.{max_members, no_support};
-ghost use Rattle.layout.specs.Loan.{entry, exit};
 ghost use Rattle.layout.specs.Starts.{SoundStarts};
 ghost use Rattle.layout.specs.Setting.{SoundPairs};
 ghost use Rattle.worklist.specs.Supports.{replaced, SupportsFit, PairsBegin, Chosen, all_live};
@@ -22,7 +21,7 @@ pub type PairStarts = [u16; PAIR_STARTS];
 // Sets the first n numbers to 65,535; all others stay.
 pub fn fill(numbers: &mut [u16], n: usize)
     requires { n ≤ length numbers.old }
-    ensures { exit numbers ≡ replicate n no_support ++ drop n (entry numbers) }
+    ensures { numbers.new ≡ replicate n no_support ++ drop n numbers.old }
 {
     let mut i = 0;
     while i < n {
@@ -35,7 +34,7 @@ pub fn fill(numbers: &mut [u16], n: usize)
 // kept in registers, and not in an array that is written bit by bit and read whole just after.
 pub fn load(numbers: &[u16], at: usize, m: usize) -> Indices
     requires { (at + m ≤ length numbers.now) × (m ≤ max_members) }
-    ensures { result ≡ take m (drop at (entry numbers)) ++ replicate (max_members - m) 0 }
+    ensures { result ≡ take m (drop at numbers.now) ++ replicate (max_members - m) 0 }
 {
     let mut tuples = [0u16; MAX_MEMBERS];
     let mut j = 0;
@@ -51,7 +50,7 @@ pub fn load(numbers: &[u16], at: usize, m: usize) -> Indices
 // Sets the m numbers from `at` on to the first m indices; all others stay.
 pub fn store(numbers: &mut [u16], at: usize, m: usize, tuples: Indices)
     requires { (at + m ≤ length numbers.old) × (m ≤ max_members) }
-    ensures { exit numbers ≡ replaced (entry numbers) (take m tuples) at m }
+    ensures { numbers.new ≡ replaced numbers.old (take m tuples) at m }
 {
     let mut j = 0;
     while j < m {
@@ -63,7 +62,7 @@ pub fn store(numbers: &mut [u16], at: usize, m: usize, tuples: Indices)
 // Sets the m numbers from `at` on to 65,535; all others stay.
 pub fn blank(numbers: &mut [u16], at: usize, m: usize)
     requires { (at + m ≤ length numbers.old) × (m ≤ max_members) }
-    ensures { exit numbers ≡ replaced (entry numbers) (replicate m no_support) at m }
+    ensures { numbers.new ≡ replaced numbers.old (replicate m no_support) at m }
 {
     let mut j = 0;
     while j < m {
@@ -75,7 +74,7 @@ pub fn blank(numbers: &mut [u16], at: usize, m: usize)
 // Where each pair's numbers begin in the support list, and behind the last pair how many numbers there are.
 pub fn pair_starts(starts: &Starts, members: &[u16], m: u16) -> PairStarts
     requires { SoundStarts starts.now × SoundPairs starts.now m members.now × SupportsFit starts.now m members.now }
-    ensures { PairsBegin (entry starts) m (entry members) result }
+    ensures { PairsBegin starts.now m members.now result }
 {
     let mut begins = [0u16; PAIR_STARTS];
     let mut p = 0;
@@ -98,7 +97,7 @@ pub fn all_live(
     tuples: Indices,
 ) -> bool
     requires { Chosen words.now starts.now members.now base m tuples }
-    ensures { result ≡ all_live (entry words) (entry starts) (entry members) base m tuples }
+    ensures { result ≡ all_live words.now starts.now members.now base m tuples }
 {
     let mut k = 0;
     while k < m {

@@ -3,7 +3,6 @@ ghost use Rattle.std.specs.Prelude.{◌≡◌, cond, ℕ, ◌+◌, ◌≤◌, �
 ghost use Rattle.model.specs.Limits.{max_pairs};
 ghost use Rattle.model.specs.Lists.{elem};
 ghost use Rattle.model.specs.LiveWords.{is_live, next_live, cleared, raised};
-ghost use Rattle.layout.specs.Loan.{entry};
 ghost use Rattle.layout.specs.Setting.{Whole};
 ghost use Rattle.worklist.specs.Pairs.{WaitToo, others, queues};
 
@@ -70,7 +69,7 @@ impl Queue {
 // Whether relation r is one of the m members from `base` on.
 fn holds(members: &[u16], base: usize, m: usize, r: u16) -> bool
     requires { base + m ≤ length members.now }
-    ensures { result ≡ elem r (take m (drop base (entry members))) }
+    ensures { result ≡ elem r (take m (drop base members.now)) }
 {
     let end = base + m;
     let mut q = base;
@@ -86,7 +85,7 @@ fn holds(members: &[u16], base: usize, m: usize, r: u16) -> bool
 // Of the m pairs from `base` on, adds each one whose member is another relation than r.
 fn put_others(queue: Queue, members: &[u16], base: usize, m: usize, r: u16) -> Queue
     requires { (base + m ≤ length members.now) × (length members.now ≤ max_pairs) }
-    ensures { WaitToo queue.words (others base (base + m) (entry members) r) result.words }
+    ensures { WaitToo queue.words (others base (base + m) members.now r) result.words }
 {
     let end = base + m;
     let mut queue = queue;
@@ -105,7 +104,7 @@ fn put_others(queue: Queue, members: &[u16], base: usize, m: usize, r: u16) -> Q
 pub fn requeue(queue: Queue, members: &[u16], m: u16, p: u16) -> Queue
     requires whole { Whole m members.now }
     requires p_in_bounds { p < length members.now }
-    ensures { WaitToo queue.words (queues m (entry members) p) result.words }
+    ensures { WaitToo queue.words (queues m members.now p) result.words }
 {
     let m = m as usize;
     let p = p as usize;

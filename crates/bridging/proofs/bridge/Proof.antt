@@ -29,24 +29,24 @@ module _ {L : Lists} (laid : SoundLists L) (r s : ℕ) (shared : Shared) (S : Sh
   other-column : s < 64 → ColumnOr (network_in L) s shared.other
   other-column h d = omega (arith, (S.same (λ e. d (S.none e))).1, scope-length laid s h)
 
-module _ (c : tie.After-shared-of3) where
-  abbrev second : tie.After-shared-of2
+module _ (c : tie.After-shared_of-b) where
+  abbrev second : tie.After-shared_of-a
   second = c.before
 
-  abbrev looked : tie.Else1
+  abbrev looked : tie.Else-over
   looked = second.before
 
-  abbrev over : tie.After-shared-of
+  abbrev over : tie.After-shared_of-over
   over = looked.before.before
 
   abbrev start : tie.Start
   start = over.before.before.before
 
   abbrev laid : SoundLists (given start)
-  laid = start.pre.1.0
+  laid = start.requires.1.0
 
-pub bridge-spec : {M : Type 1} → statement M
-bridge-spec =
+pub bridge_spec : {M : Type 1} → statement M
+bridge_spec =
     tie.close
     (tie.spec
     (λ c κs. let s = c.before.before in (s.requires.1.0, s.requires.1.1.1))
@@ -57,17 +57,17 @@ bridge-spec =
     (λ c κs.
     let h = c.before in
     let s = start h in
-    ((s.pre.0, (laid h, s.pre.1.1.1.0)), (other-column (laid h) s.args.r s.args.s _ (second h).shared-of2.ensures s.pre.1.1.1.0, own-column (laid h) s.args.s s.args.t _ (over h).shared_of.ensures s.pre.1.1.1.0)))
+    ((s.requires.0, (laid h, s.requires.1.1.1.0)), (other-column (laid h) s.args.r s.args.s _ (second h).shared_of-a.ensures s.requires.1.1.1.0, own-column (laid h) s.args.s s.args.t _ (over h).shared_of-over.ensures s.requires.1.1.1.0)))
     (λ c κs.
     let h = c.before.before.before in
     let s = start h in
-    ((s.pre.0, (laid h, s.pre.1.1.1.1)), (other-column (laid h) s.args.r s.args.t _ h.shared-of3.ensures s.pre.1.1.1.1, other-column (laid h) s.args.s s.args.t _ (over h).shared_of.ensures s.pre.1.1.1.1)))
+    ((s.requires.0, (laid h, s.requires.1.1.1.1)), (other-column (laid h) s.args.r s.args.t _ h.shared_of-b.ensures s.requires.1.1.1.1, other-column (laid h) s.args.s s.args.t _ (over h).shared_of-over.ensures s.requires.1.1.1.1)))
     (λ c κs.
     let far = c.before.before.before in
     let near = far.before.before in
     let h = near.before.before in
     let s = start h in
-    ((s.pre.0, (laid h, s.pre.1.1.0)), ((own-column (laid h) s.args.r s.args.s _ (second h).shared-of2.ensures s.pre.1.1.0, own-column (laid h) s.args.r s.args.t _ h.shared-of3.ensures s.pre.1.1.0), (near.reached-by.ensures.long, far.reached-by2.ensures.long))))
+    ((s.requires.0, (laid h, s.requires.1.1.0)), ((own-column (laid h) s.args.r s.args.s _ (second h).shared_of-a.ensures s.requires.1.1.0, own-column (laid h) s.args.r s.args.t _ h.shared_of-b.ensures s.requires.1.1.0), (near.reached_by-near.ensures.long, far.reached_by-far.ensures.long))))
     (λ c.
     let far = c.before.before.before.before in
     let near = far.before.before in
@@ -75,7 +75,7 @@ bridge-spec =
     let s = start h in
     let a = s.args in (
       narrowing-by (network s) a.r _ (Between (network s) a.r a.s a.t a.words.now)
-          (between-passes (laid h) a.factor a.words.now a.r a.s a.t (second h).shared-of2.result h.shared-of3.result (over h).shared_of.result (second h).shared-of2.ensures h.shared-of3.ensures (over h).shared_of.ensures (looked h).if1.false near.reached-by.result far.reached-by2.result near.reached-by.ensures far.reached-by2.ensures)
-          c.keep-passing.ensures.0,
-      c.keep-passing.ensures.1,
+          (between-passes (laid h) a.factor a.words.now a.r a.s a.t (second h).shared_of-a.result h.shared_of-b.result (over h).shared_of-over.result (second h).shared_of-a.ensures h.shared_of-b.ensures (over h).shared_of-over.ensures (looked h).if-over.false near.reached_by-near.result far.reached_by-far.result near.reached_by-near.ensures far.reached_by-far.ensures)
+          c.keep_passing.ensures.0,
+      c.keep_passing.ensures.1,
     )))

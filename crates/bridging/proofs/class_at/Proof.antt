@@ -14,19 +14,19 @@ use Rattle.bridging.proofs.class_at.Tie as tie
 abbrev given : tie.Start → Lists
 given s = record { variables = s.args.variables.now; values = s.args.values.now; starts = s.args.starts.now }
 
-pub class-at-spec : {M : Type 1} → statement M
-class-at-spec =
+pub class_at_spec : {M : Type 1} → statement M
+class_at_spec =
     tie.close
     (tie.spec
     (λ c. search rules)
     (λ c.
     let s = c.before.before.before in
     let a = s.args in
-    (sym (ap (λ (b : Bool). cond b 256 (class_of a.factor (value_in (network_in (given s)) a.r a.x a.column))) (eq-eqb a.column 8 c.if1.true)), omega arith))
-    (λ c κs. let s = c.before.before.before in (s.requires.0, s.requires.1 c.if1.false))
+    (sym (ap (λ (b : Bool). cond b 256 (class_of a.factor (value_in (network_in (given s)) a.r a.x a.column))) (eq-eqb a.column 8 c.if-column.true)), omega arith))
+    (λ c κs. let s = c.before.before.before in (s.requires.0, s.requires.1 c.if-column.false))
     (λ c κs. search rules)
     (λ c.
     let e = c.before.before in
     let s = e.before.before.before in
     let a = s.args in
-    (c.class_of.ensures.0 ∙ ap (class_of a.factor) c.before.value-at.ensures ∙ sym (ap (λ (b : Bool). cond b 256 (class_of a.factor (value_in (network_in (given s)) a.r a.x a.column))) (ne_eqb a.column 8 e.if1.false)), c.class_of.ensures.1)))
+    (c.class_of.ensures.0 ∙ ap (class_of a.factor) c.before.value_at.ensures ∙ sym (ap (λ (b : Bool). cond b 256 (class_of a.factor (value_in (network_in (given s)) a.r a.x a.column))) (ne_eqb a.column 8 e.if-column.false)), c.class_of.ensures.1)))

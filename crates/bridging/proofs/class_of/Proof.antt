@@ -9,12 +9,12 @@ use Rattle.bridging.proofs.Classes.{class-any, class-is, class-below}
 use Rattle.bridging.proofs.class_of.Statement.{statement}
 use Rattle.bridging.proofs.class_of.Tie as tie
 
-pub class-of-spec : {M : Type 1} → statement M
-class-of-spec =
+pub class_of_spec : {M : Type 1} → statement M
+class_of_spec =
     tie.close
     (tie.spec
     (λ c κs. search rules)
-    (λ c. let a = c.before.before.args in (sym (class-any a.factor a.value (sym c.before.is_any.ensures ∙ c.if1.true)), omega arith))
+    (λ c. let a = c.before.before.args in (sym (class-any a.factor a.value (sym c.before.is_any.ensures ∙ c.if-is_any.true)), omega arith))
     (λ c.
     let a = c.before.before.args in
     let v : a.value ≤ 4294967295 = search rules in
@@ -24,6 +24,6 @@ class-of-spec =
     (λ c κs. search rules)
     (λ c.
     let a = c.before.before.before.args in
-    let e = sym c.before.before.is_any.ensures ∙ c.before.if1.false in
+    let e = sym c.before.before.is_any.ensures ∙ c.before.if-is_any.false in
     let q = ap (λ (h : ℕ). h / 16777216) c.mix.ensures ∙ sym (class-is a.factor a.value e) in
     (q, omega (arith, q, class-below a.factor a.value e))))

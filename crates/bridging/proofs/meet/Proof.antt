@@ -17,10 +17,10 @@ use Rattle.bridging.specs.Bridge.{Has, Reached}
 use Rattle.bridging.proofs.meet.Statement.{statement}
 use Rattle.bridging.proofs.meet.Tie as tie
 
-abbrev invariant-loop : tie.invariant-loop
+abbrev invariant-loop : tie.invariant-loop-i
 invariant-loop near far a b i₀ i = (i ≤ 4) × ((c : ℕ) → c / 64 < i → Reached near a c → Reached far b c → ⊥)
 
-abbrev decreases-loop : tie.decreases-loop
+abbrev decreases-loop : tie.decreases-loop-i
 decreases-loop near far a b i₀ i = 4 - i
 
 -- a class of word i that is in the row or in that of any is in both together
@@ -34,51 +34,51 @@ reached-bit table row i c e o =
     (λ h. or_right (is_set own (c % 64)) (ap (λ (j : ℕ). is_set (get_or table (1024 + j) 0) (c % 64)) (sym e) ∙ h))
     o
 
-abbrev turn : tie.Else1 invariant-loop decreases-loop → tie.In-loop invariant-loop decreases-loop
+abbrev turn : tie.Else-reached-far-ne0 invariant-loop decreases-loop → tie.In-loop-i invariant-loop decreases-loop
 turn c = c.before.before.before.before.before
 
 -- no class of this word either is in both
-loop-again : tie.Need-loop-preserved invariant-loop decreases-loop
+loop-again : tie.Need-loop-i-preserved invariant-loop decreases-loop
 loop-again c =
     let t = turn c in
-    let l = t.before.loop in
+    let l = t.before.loop-i in
     let a = t.before.before.args in (
-      omega (arith, t.loop-test.taken),
+      omega (arith, t.loop-i-test.taken),
       λ d h n f. go d n f h (ℕ_discrete (d / 64) l.i),
     )
   where
-    go : (d : ℕ) → Reached (turn c).before.before.args.near.now (turn c).before.before.args.a d → Reached (turn c).before.before.args.far.now (turn c).before.before.args.b d → d / 64 < (turn c).before.loop.i + 1 → Dec (d / 64 ≡ (turn c).before.loop.i) → ⊥
+    go : (d : ℕ) → Reached (turn c).before.before.args.near.now (turn c).before.before.args.a d → Reached (turn c).before.before.args.far.now (turn c).before.before.args.b d → d / 64 < (turn c).before.loop-i.i + 1 → Dec (d / 64 ≡ (turn c).before.loop-i.i) → ⊥
     go d n f h (yes e) =
         let t = turn c in
         let a = t.before.before.args in
-        and_none _ _ (d % 64) (reached-bit a.near.now a.a t.before.loop.i d e n) (reached-bit a.far.now a.b t.before.loop.i d e f) c.if1.false
-    go d n f h (no o) = (turn c).before.loop.invariant.1 d (omega (arith, h, o)) n f
+        and_none _ _ (d % 64) (reached-bit a.near.now a.a t.before.loop-i.i d e n) (reached-bit a.far.now a.b t.before.loop-i.i d e f) c.if-reached-far-ne0.false
+    go d n f h (no o) = (turn c).before.loop-i.invariant.1 d (omega (arith, h, o)) n f
 
-pub meet-spec : {M : Type 1} → statement M
-meet-spec =
+pub meet_spec : {M : Type 1} → statement M
+meet_spec =
     tie.close
     (tie.spec
     invariant-loop
     decreases-loop
     (λ c. (omega arith, λ c h. absurd (omega (arith, h))))
     (λ c. omega (arith, c.before.before.requires.1))
-    (λ c. omega (arith, c.before.before.requires.1, c.loop-test.true))
-    (λ c. omega (arith, c.before.before.requires.1, c.loop-test.true))
-    (λ c. omega (arith, c.before.before.requires.1, c.loop-test.true))
+    (λ c. omega (arith, c.before.before.requires.1, c.loop-i-test.true))
+    (λ c. omega (arith, c.before.before.requires.1, c.loop-i-test.true))
+    (λ c. omega (arith, c.before.before.requires.1, c.loop-i-test.true))
     (λ c. omega arith)
-    (λ c. omega (arith, c.before.loop-test.true))
-    (λ c. omega (arith, c.before.loop-test.true))
-    (λ c. omega (arith, c.before.loop-test.true))
+    (λ c. omega (arith, c.before.loop-i-test.true))
+    (λ c. omega (arith, c.before.loop-i-test.true))
+    (λ c. omega (arith, c.before.loop-i-test.true))
     (λ c. omega (arith, c.before.before.before.before.requires.1))
-    (λ c. omega (arith, c.before.before.before.before.requires.1, c.before.before.loop-test.true))
-    (λ c. omega (arith, c.before.before.before.before.requires.1, c.before.before.loop-test.true))
-    (λ c. omega (arith, c.before.before.before.before.requires.1, c.before.before.loop-test.true))
+    (λ c. omega (arith, c.before.before.before.before.requires.1, c.before.before.loop-i-test.true))
+    (λ c. omega (arith, c.before.before.before.before.requires.1, c.before.before.loop-i-test.true))
+    (λ c. omega (arith, c.before.before.before.before.requires.1, c.before.before.loop-i-test.true))
     (λ c. omega arith)
-    (λ c. omega (arith, c.before.before.before.loop-test.true))
-    (λ c. omega (arith, c.before.before.before.loop-test.true))
-    (λ c. omega (arith, c.before.before.before.loop-test.true))
+    (λ c. omega (arith, c.before.before.before.loop-i-test.true))
+    (λ c. omega (arith, c.before.before.before.loop-i-test.true))
+    (λ c. omega (arith, c.before.before.before.loop-i-test.true))
     (λ c d h n f. refl)
-    (λ c. omega (arith, (turn c).loop-test.true))
-    (λ c. omega (arith, (turn c).loop-test.true))
+    (λ c. omega (arith, (turn c).loop-i-test.true))
+    (λ c. omega (arith, (turn c).loop-i-test.true))
     loop-again
-    (λ c d h n f. absurd (c.before.loop.invariant.1 d (omega (arith, h, c.loop-test.false)) n f)))
+    (λ c d h n f. absurd (c.before.loop-i.invariant.1 d (omega (arith, h, c.loop-i-test.false)) n f)))

@@ -10,8 +10,8 @@ returns : tie.Need-returns
 unfolding raised
 returns c = refl
 
-pub raise-spec : {M : Type 1} → statement M
-raise-spec =
+pub raise_spec : {M : Type 1} → statement M
+raise_spec =
     tie.close
     (tie.spec
     (λ c. search rules)

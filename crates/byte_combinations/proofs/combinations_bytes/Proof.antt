@@ -13,17 +13,22 @@ returns c =
     let questioned = coded.before.before.before in
     let shaped = questioned.before.before in
     let a = shaped.before.before.before.before.before.args in
-    made.combinations-decoded.ensures
-    ∙ decoded-listing a.sheets.now a.questions.now a.codes.now _ _ _ shaped.shape_at.ensures questioned.load16.ensures.held coded.load32.ensures.held a.m a.combinations.now
+    made.combinations_decoded.ensures
+    ∙ decoded-listing a.sheets.now a.questions.now a.codes.now _ _ _ shaped.shape_at-shape.ensures questioned.load16-variable_count.ensures.held coded.load32-value_count.ensures.held a.m a.combinations.now
 
-pub combinations-bytes-spec : {M : Type 1} → statement M
-combinations-bytes-spec =
+pub combinations_bytes_spec : {M : Type 1} → statement M
+combinations_bytes_spec =
     tie.close
     (tie.spec
     (λ c κs. search rules)
-    (λ c. search rules) (λ c κs. search rules)
-    (λ c. search rules) (λ c κs. search rules)
-    (λ c. search rules) (λ c. search rules) (λ c. search rules) (λ c. search rules)
+    (λ c. search rules)
+    (λ c κs. search rules)
+    (λ c. search rules)
+    (λ c κs. search rules)
+    (λ c. search rules)
+    (λ c. search rules)
+    (λ c. search rules)
+    (λ c. search rules)
     (λ c κs. search rules)
     (λ c. search rules)
     returns)

@@ -19,7 +19,7 @@ use Rattle.byte_combinations.proofs.combinations_decoded.Tie as tie
 
 -- ---- What was found
 
-module _ (c : tie.After-enumerate) where
+module _ (c : tie.After-enumerate-a) where
   abbrev start : tie.Start
   start = c.before.before.before.before.before
 
@@ -30,24 +30,24 @@ module _ (c : tie.After-enumerate) where
   lent = start.args.combinations.now
 
   abbrev found : List ℕ
-  found = c.enumerate.new.1.1.1.1.1.0
+  found = c.enumerate-a.new.1.1.1.1.1.0
 
   found-long : length found ≡ max_member_list
   found-long = search rules
 
-  fit : (2 * (listed_in c.enumerate.result * start.args.m) ≤ length lent) × (listed_in c.enumerate.result * start.args.m ≤ max_member_list)
-  fit = numbers_fit network start.args.m lent found c.enumerate.result c.enumerate.ensures
+  fit : (2 * (listed_in c.enumerate-a.result * start.args.m) ≤ length lent) × (listed_in c.enumerate-a.result * start.args.m ≤ max_member_list)
+  fit = numbers_fit network start.args.m lent found c.enumerate-a.result c.enumerate-a.ensures
 
 -- ---- How many numbers that is
 
 module _ (c : tie.After-wide) where
-  abbrev made : tie.After-enumerate
+  abbrev made : tie.After-enumerate-a
   made = c.before.before.before
 
-  numbers : c.before.listed.result * c.wide.result ≡ listed_in made.enumerate.result * (start made).args.m
+  numbers : c.before.listed.result * c.wide.result ≡ listed_in made.enumerate-a.result * (start made).args.m
   numbers =
       ap (λ (k : ℕ). k * c.wide.result) c.before.listed.ensures
-      ∙ ap (λ (k : ℕ). listed_in made.enumerate.result * k) c.wide.ensures.0
+      ∙ ap (λ (k : ℕ). listed_in made.enumerate-a.result * k) c.wide.ensures.0
 
   inside : c.before.listed.result * c.wide.result ≤ length (found made)
   inside = omega (arith, numbers, fit made, found-long made)
@@ -55,7 +55,7 @@ module _ (c : tie.After-wide) where
   room : 2 * (c.before.listed.result * c.wide.result) ≤ length (lent made)
   room = omega (arith, numbers, fit made)
 
-mul-n : tie.Need-overflow-mul-n
+mul-n : tie.Need-overflow_mul-n
 mul-n c = omega (arith, inside c, found-long (made c))
 
 returns : tie.Need-returns
@@ -64,18 +64,20 @@ returns c =
     let w = stored.before.before.before in
     let k = w.before.listed.result * w.wide.result in
     let xs = found (made w) in
-    ap₂ listing c.pack-enumeration.ensures
+    ap₂ listing c.pack_enumeration.ensures
     (stored.store16.ensures
     ∙ ap (λ (j : ℕ). bytes 2 (take k xs) ++ drop (2 * j) (lent (made w))) (length-take-le k xs (inside w))
     ∙ ap (λ (j : ℕ). bytes 2 (take j xs) ++ drop (2 * j) (lent (made w))) (numbers w))
-    ∙ writes-listing (network (made w)) (start (made w)).args.m (lent (made w)) xs (made w).enumerate.result (made w).enumerate.ensures (found-long (made w))
+    ∙ writes-listing (network (made w)) (start (made w)).args.m (lent (made w)) xs (made w).enumerate-a.result (made w).enumerate-a.ensures (found-long (made w))
 
-pub combinations-decoded-spec : {M : Type 1} → statement M
-combinations-decoded-spec =
+pub combinations_decoded_spec : {M : Type 1} → statement M
+combinations_decoded_spec =
     tie.close
     (tie.spec
     (λ c. search rules)
-    (λ c κs. search rules) (λ c κs. search rules) (λ c κs. search rules)
+    (λ c κs. search rules)
+    (λ c κs. search rules)
+    (λ c κs. search rules)
     mul-n
     inside
     (λ c. sym (length-take-le _ _ (inside c.before)))

@@ -5,16 +5,20 @@ use borrow.Author.Rules.{rules}
 use Rattle.byte_moves.proofs.pack_moved.Statement.{statement}
 use Rattle.byte_moves.proofs.pack_moved.Tie as tie
 
-returns : tie.Need-returns
-returns c = rw c.enum_told.given.1
+returns : tie.Need-returns-in-Done
+returns c = rw c.enum_told-1.given.1
 
-returns-2 : tie.Need-returns-2
-returns-2 c = rw c.before.a.given.1 (omega arith)
+returns-2 : tie.Need-returns-in-Refused
+returns-2 c = rw c.before.a-1.given.1 (omega arith)
 
-pub pack-moved-spec : {M : Type 1} → statement M
-pack-moved-spec =
+pub pack_moved_spec : {M : Type 1} → statement M
+pack_moved_spec =
     tie.close
     (tie.spec
-    (λ c. search rules) (λ c. search rules) (λ c. search rules) (λ c. search rules) (λ c. search rules)
+    (λ c. search rules)
+    (λ c. search rules)
+    (λ c. search rules)
+    (λ c. search rules)
+    (λ c. search rules)
     returns
     returns-2)

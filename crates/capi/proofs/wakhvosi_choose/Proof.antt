@@ -5,19 +5,22 @@ use borrow.Author.Rules.{rules}
 use Rattle.capi.proofs.wakhvosi_choose.Statement.{statement}
 use Rattle.capi.proofs.wakhvosi_choose.Tie as tie
 
-change-call-requires : tie.Need-change-call-requires
+change-call-requires : tie.Need-change_call-requires
 unfolding change_in
 change-call-requires c κs = refl
 
 returns : tie.Need-returns
 unfolding change_in
-returns c = c.before.before.before.before.before.before.change-call.ensures
+returns c = c.before.before.before.before.before.before.change_call.ensures
 
-pub wakhvosi-choose-spec : {M : Type 1} → statement M
-wakhvosi-choose-spec =
+pub wakhvosi_choose_spec : {M : Type 1} → statement M
+wakhvosi_choose_spec =
     tie.close
     (tie.spec
-    (λ c. search rules) (λ c. search rules)
+    (λ c. search rules)
+    (λ c. search rules)
     change-call-requires
-    (λ c. search rules) (λ c. search rules) (λ c. search rules)
+    (λ c. search rules)
+    (λ c. search rules)
+    (λ c. search rules)
     returns)

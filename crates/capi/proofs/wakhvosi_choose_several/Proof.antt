@@ -11,27 +11,29 @@ use borrow.Author.Rules.{rules}
 use Rattle.capi.proofs.wakhvosi_choose_several.Statement.{statement}
 use Rattle.capi.proofs.wakhvosi_choose_several.Tie as tie
 
-returns : tie.Need-returns
+returns : tie.Need-returns-then-not-cells_whole
 unfolding byte_reply
 returns c =
     let a = c.before.before.before.before.before.before.before.before.before.before.args in
     let others = whole_lists (byte_book (λ (l : List ℕ). l) a.sheets.now a.questions.now a.codes.now a.m a.combinations.now) a.marks.now a.supports.now in
-    cond-not _ _ _ (ap (λ (b : Bool). others && b) (sym c.before.cells_Whole.ensures ∙ not-true _ c.if1.true) ∙ and-false others)
+    cond-not _ _ _ (ap (λ (b : Bool). others && b) (sym c.before.cells_Whole.ensures ∙ not-true _ c.if-not-cells_whole.true-raw) ∙ and-false others)
 
-change-call-requires : tie.Need-change-call-requires
+change-call-requires : tie.Need-change_call-requires
 unfolding change_in
-change-call-requires c κs = let passed = c.before.before.before in sym passed.before.cells_Whole.ensures ∙ not-false _ passed.if1.false
+change-call-requires c κs = let passed = c.before.before.before in sym passed.before.cells_Whole.ensures ∙ not-false _ passed.if-not-cells_whole.false-raw
 
-returns-2 : tie.Need-returns-2
+returns-2 : tie.Need-returns
 unfolding change_in
-returns-2 c = c.before.before.before.before.before.before.change-call.ensures
+returns-2 c = c.before.before.before.before.before.before.change_call.ensures
 
-pub wakhvosi-choose-several-spec : {M : Type 1} → statement M
-wakhvosi-choose-several-spec =
+pub wakhvosi_choose_several_spec : {M : Type 1} → statement M
+wakhvosi_choose_several_spec =
     tie.close
     (tie.spec
     (λ c κs. search rules)
     returns
     change-call-requires
-    (λ c. search rules) (λ c. search rules) (λ c. search rules)
+    (λ c. search rules)
+    (λ c. search rules)
+    (λ c. search rules)
     returns-2)

@@ -8,17 +8,22 @@ use borrow.Author.Rules.{rules}
 use Rattle.capi.proofs.wakhvosi_combinations.Statement.{statement}
 use Rattle.capi.proofs.wakhvosi_combinations.Tie as tie
 
-returns : tie.Need-returns
+returns : tie.Need-returns-then-not-instance_whole
 unfolding byte_enumeration
-returns c = cond-not _ _ _ (sym c.before.instance-whole.ensures ∙ not-true _ c.if1.true)
+returns c = cond-not _ _ _ (sym c.before.instance_whole.ensures ∙ not-true _ c.if-not-instance_whole.true-raw)
 
-returns-2 : tie.Need-returns-2
+returns-2 : tie.Need-returns
 unfolding byte_enumeration
 returns-2 c =
     let called = c.before.before in
     let tested = called.before.before in
-    called.combinations-bytes.ensures ∙ cond-whole _ _ _ (sym tested.before.instance-whole.ensures ∙ not-false _ tested.if1.false)
+    called.combinations_bytes.ensures ∙ cond-whole _ _ _ (sym tested.before.instance_whole.ensures ∙ not-false _ tested.if-not-instance_whole.false-raw)
 
-pub wakhvosi-combinations-spec : {M : Type 1} → statement M
-wakhvosi-combinations-spec =
-    tie.close (tie.spec (λ c κs. search rules) returns (λ c κs. search rules) (λ c. search rules) returns-2)
+pub wakhvosi_combinations_spec : {M : Type 1} → statement M
+wakhvosi_combinations_spec =
+    tie.close (tie.spec
+    (λ c κs. search rules)
+    returns
+    (λ c κs. search rules)
+    (λ c. search rules)
+    returns-2)

@@ -8,17 +8,22 @@ use borrow.Author.Rules.{rules}
 use Rattle.capi.proofs.wakhvosi_narrow.Statement.{statement}
 use Rattle.capi.proofs.wakhvosi_narrow.Tie as tie
 
-returns : tie.Need-returns
+returns : tie.Need-returns-then-not-instance_whole
 unfolding byte_move
-returns c = cond-not _ _ _ (sym c.before.instance-whole.ensures ∙ not-true _ c.if1.true)
+returns c = cond-not _ _ _ (sym c.before.instance_whole.ensures ∙ not-true _ c.if-not-instance_whole.true-raw)
 
-returns-2 : tie.Need-returns-2
+returns-2 : tie.Need-returns
 unfolding byte_move
 returns-2 c =
     let called = c.before.before in
     let tested = called.before.before in
-    called.narrow-bytes.ensures ∙ cond-whole _ _ _ (sym tested.before.instance-whole.ensures ∙ not-false _ tested.if1.false)
+    called.narrow_bytes.ensures ∙ cond-whole _ _ _ (sym tested.before.instance_whole.ensures ∙ not-false _ tested.if-not-instance_whole.false-raw)
 
-pub wakhvosi-narrow-spec : {M : Type 1} → statement M
-wakhvosi-narrow-spec =
-    tie.close (tie.spec (λ c κs. search rules) returns (λ c κs. search rules) (λ c. search rules) returns-2)
+pub wakhvosi_narrow_spec : {M : Type 1} → statement M
+wakhvosi_narrow_spec =
+    tie.close (tie.spec
+    (λ c κs. search rules)
+    returns
+    (λ c κs. search rules)
+    (λ c. search rules)
+    returns-2)

@@ -14,21 +14,26 @@ use Rattle.capi.proofs.wakhvosi_test.Tie as tie
 abbrev words-whole : tie.Start → Bool
 words-whole c = whole 8 (length c.args.marks.now)
 
-read_whole : (c : tie.Else1) → (let a = c.before.before.before.before.before.before.before.args in whole_instance (length a.sheets.now) (length a.questions.now) (length a.codes.now) (length a.combinations.now) ≡ true)
-read_whole c = sym c.before.instance-whole.ensures ∙ not-false _ c.if1.false
+read_whole : (c : tie.Else-not-instance_whole) → (let a = c.before.before.before.before.before.before.before.args in whole_instance (length a.sheets.now) (length a.questions.now) (length a.codes.now) (length a.combinations.now) ≡ true)
+read_whole c = sym c.before.instance_whole.ensures ∙ not-false _ c.if-not-instance_whole.false-raw
 
-returns : tie.Need-returns
+returns : tie.Need-returns-then-not-instance_whole
 unfolding byte_test
-returns c = cond-not _ _ _ (ap (λ (b : Bool). b && words-whole c.before.before.before.before.before.before.before) (sym c.before.instance-whole.ensures ∙ not-true _ c.if1.true))
+returns c = cond-not _ _ _ (ap (λ (b : Bool). b && words-whole c.before.before.before.before.before.before.before) (sym c.before.instance_whole.ensures ∙ not-true _ c.if-not-instance_whole.true-raw))
 
-returns-2 : tie.Need-returns-2
+returns-2 : tie.Need-returns-then-marks-ne0
 unfolding byte_test
-returns-2 c = cond-not _ _ _ (ap (λ (b : Bool). b && words-whole c.before.before.before.before.before.before.before.before) (read_whole c.before) ∙ ne_eqb _ _ c.if2.true)
+returns-2 c = cond-not _ _ _ (ap (λ (b : Bool). b && words-whole c.before.before.before.before.before.before.before.before) (read_whole c.before) ∙ ne_eqb _ _ c.if-marks-ne0.true)
 
-returns-3 : tie.Need-returns-3
+returns-3 : tie.Need-returns
 unfolding byte_test
-returns-3 c = c.test-bytes.ensures ∙ cond-whole _ _ _ (ap (λ (b : Bool). b && words-whole c.before.before.before.before.before.before.before.before.before) (read_whole c.before.before) ∙ eq-eqb _ _ c.before.if2.false)
+returns-3 c = c.test_bytes.ensures ∙ cond-whole _ _ _ (ap (λ (b : Bool). b && words-whole c.before.before.before.before.before.before.before.before.before) (read_whole c.before.before) ∙ eq-eqb _ _ c.before.if-marks-ne0.false)
 
-pub wakhvosi-test-spec : {M : Type 1} → statement M
-wakhvosi-test-spec =
-    tie.close (tie.spec (λ c κs. search rules) returns returns-2 (λ c κs. search rules) returns-3)
+pub wakhvosi_test_spec : {M : Type 1} → statement M
+wakhvosi_test_spec =
+    tie.close (tie.spec
+    (λ c κs. search rules)
+    returns
+    returns-2
+    (λ c κs. search rules)
+    returns-3)

@@ -9,14 +9,14 @@ use Rattle.request.proofs.Plans.{opened-sufficient}
 use Rattle.changes.proofs.choose.Statement.{statement}
 use Rattle.changes.proofs.choose.Tie as tie
 
-abbrev start : tie.After-opened → tie.Start
+abbrev start : tie.After-opened-opening → tie.Start
 start c = c.before.before.before.before.before.before.before.before.before
 
-planned : (p : tie.After-plan-choose) → (let o = p.before in let a = (start o).args in PlannedOn p.plan-choose.result (instance_of a.shape a.variables.now a.values.now a.m a.members.now) a.words.now a.supports.now a.counts.now (choose a.x a.v))
+planned : (p : tie.After-plan_choose-plan) → (let o = p.before in let a = (start o).args in PlannedOn p.plan_choose-plan.result (instance_of a.shape a.variables.now a.values.now a.m a.members.now) a.words.now a.supports.now a.counts.now (choose a.x a.v))
 planned p =
     let o = p.before in
     let a = (start o).args in
-    p.plan-choose.ensures a.shape a.m a.members.now _ _ _ o.opened.ensures
+    p.plan_choose-plan.ensures a.shape a.m a.members.now _ _ _ o.opened-opening.ensures
 
 make-requires : tie.Need-make-requires
 make-requires c κs =
@@ -31,10 +31,10 @@ returns c =
     let a = (start p.before).args in
     made.make.ensures a.shape (choose a.x a.v) (planned p)
 
-plan-choose-requires : tie.Need-plan-choose-requires
+plan-choose-requires : tie.Need-plan_choose-plan-requires
 plan-choose-requires c κs =
     let a = (start c).args in
-    λ z. (opened-sufficient a.shape a.variables.now a.values.now a.m a.members.now (length a.words.now) (length a.supports.now) _ (choose a.x a.v) c.opened.result c.opened.ensures z).sound.laid
+    λ z. (opened-sufficient a.shape a.variables.now a.values.now a.m a.members.now (length a.words.now) (length a.supports.now) _ (choose a.x a.v) c.opened-opening.result c.opened-opening.ensures z).sound.laid
 
 pub choose_spec : {M : Type 1} → statement M
 choose_spec =
@@ -43,5 +43,7 @@ choose_spec =
     (λ c κs. search rules)
     plan-choose-requires
     make-requires
-    (λ c. search rules) (λ c. search rules) (λ c. search rules)
+    (λ c. search rules)
+    (λ c. search rules)
+    (λ c. search rules)
     returns)

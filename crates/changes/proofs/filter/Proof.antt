@@ -7,14 +7,14 @@ use Rattle.changes.specs.Change.{PlannedOn}
 use Rattle.changes.proofs.filter.Statement.{statement}
 use Rattle.changes.proofs.filter.Tie as tie
 
-abbrev start : tie.After-opened → tie.Start
+abbrev start : tie.After-opened-opening → tie.Start
 start c = c.before.before.before.before.before.before.before.before.before
 
-planned : (p : tie.After-plan-filter) → (let o = p.before in let a = (start o).args in PlannedOn p.plan-filter.result (instance_of a.shape a.variables.now a.values.now a.m a.members.now) a.words.now a.supports.now a.counts.now (filter))
+planned : (p : tie.After-plan_filter-plan) → (let o = p.before in let a = (start o).args in PlannedOn p.plan_filter-plan.result (instance_of a.shape a.variables.now a.values.now a.m a.members.now) a.words.now a.supports.now a.counts.now (filter))
 planned p =
     let o = p.before in
     let a = (start o).args in
-    p.plan-filter.ensures a.shape a.variables.now a.values.now a.m a.members.now _ _ _ o.opened.ensures
+    p.plan_filter-plan.ensures a.shape a.variables.now a.values.now a.m a.members.now _ _ _ o.opened-opening.ensures
 
 make-requires : tie.Need-make-requires
 make-requires c κs =
@@ -29,11 +29,14 @@ returns c =
     let a = (start p.before).args in
     made.make.ensures a.shape (filter) (planned p)
 
-pub filter-spec : {M : Type 1} → statement M
-filter-spec =
+pub filter_spec : {M : Type 1} → statement M
+filter_spec =
     tie.close
     (tie.spec
-    (λ c κs. search rules) (λ c κs. search rules)
+    (λ c κs. search rules)
+    (λ c κs. search rules)
     make-requires
-    (λ c. search rules) (λ c. search rules) (λ c. search rules)
+    (λ c. search rules)
+    (λ c. search rules)
+    (λ c. search rules)
     returns)

@@ -7,14 +7,14 @@ use Rattle.changes.specs.Change.{PlannedOn}
 use Rattle.changes.proofs.withdraw.Statement.{statement}
 use Rattle.changes.proofs.withdraw.Tie as tie
 
-abbrev start : tie.After-opened → tie.Start
+abbrev start : tie.After-opened-opening → tie.Start
 start c = c.before.before.before.before.before.before.before.before.before.before
 
-planned : (p : tie.After-plan-withdraw) → (let o = p.before.before in let a = (start o).args in PlannedOn p.plan-withdraw.result (instance_of a.shape a.variables.now a.values.now a.m a.members.now) a.words.now a.supports.now a.counts.now (withdraw a.ids.now))
+planned : (p : tie.After-plan_withdraw-plan) → (let o = p.before.before in let a = (start o).args in PlannedOn p.plan_withdraw-plan.result (instance_of a.shape a.variables.now a.values.now a.m a.members.now) a.words.now a.supports.now a.counts.now (withdraw a.ids.now))
 planned p =
     let o = p.before.before in
     let a = (start o).args in
-    p.plan-withdraw.ensures a.ids.now p.before.listed.ensures a.shape a.variables.now a.values.now a.m a.members.now _ _ _ o.opened.ensures
+    p.plan_withdraw-plan.ensures a.ids.now p.before.listed.ensures a.shape a.variables.now a.values.now a.m a.members.now _ _ _ o.opened-opening.ensures
 
 make-requires : tie.Need-make-requires
 make-requires c κs =
@@ -29,11 +29,15 @@ returns c =
     let a = (start p.before.before).args in
     made.make.ensures a.shape (withdraw a.ids.now) (planned p)
 
-pub withdraw-spec : {M : Type 1} → statement M
-withdraw-spec =
+pub withdraw_spec : {M : Type 1} → statement M
+withdraw_spec =
     tie.close
     (tie.spec
-    (λ c κs. search rules) (λ c κs. search rules) (λ c κs. search rules)
+    (λ c κs. search rules)
+    (λ c κs. search rules)
+    (λ c κs. search rules)
     make-requires
-    (λ c. search rules) (λ c. search rules) (λ c. search rules)
+    (λ c. search rules)
+    (λ c. search rules)
+    (λ c. search rules)
     returns)

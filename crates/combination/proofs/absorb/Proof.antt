@@ -15,60 +15,64 @@ use borrow.Author.Rules.{rules}
 use Rattle.combination.proofs.absorb.Statement.{statement}
 use Rattle.combination.proofs.absorb.Tie as tie
 
-abbrev invariant-loop : tie.invariant-loop
+abbrev invariant-loop : tie.invariant-loop-i
 invariant-loop masks members set grown₀ i₀ grown i =
     (i ≤ length members) × (absorbed masks (drop i members) grown ≡ absorbed masks members set)
 
-abbrev decreases-loop : tie.decreases-loop
+abbrev decreases-loop : tie.decreases-loop-i
 decreases-loop masks members set grown₀ i₀ grown i = length members - i
 
-exists : (c : tie.In-loop invariant-loop decreases-loop) → get_or c.before.before.before.args.members.now c.before.loop.i 0 < max_relations
-exists c = member_below max_relations c.before.before.before.args.members.now c.before.loop.i c.before.before.before.requires c.loop-test.true
+exists : (c : tie.In-loop-i invariant-loop decreases-loop) → get_or c.before.before.before.args.members.now c.before.loop-i.i 0 < max_relations
+exists c = member_below max_relations c.before.before.before.args.members.now c.before.loop-i.i c.before.before.before.requires c.loop-i-test.true
 
 -- the set once member i is taken in
-taken_in : (c : tie.Joined1 invariant-loop decreases-loop) → c.if1.grown ≡ grown c.before.before.before.before.before.before.before.args.masks.now c.before.before.before.before.before.loop.grown (get_or c.before.before.before.before.before.before.before.args.members.now c.before.before.before.before.before.loop.i 0)
+taken_in : (c : tie.Joined-mask-grown-ne0 invariant-loop decreases-loop) → c.if-mask-grown-ne0.grown ≡ grown c.before.before.before.before.before.before.before.args.masks.now c.before.before.before.before.before.loop-i.grown (get_or c.before.before.before.before.before.before.before.args.members.now c.before.before.before.before.before.loop-i.i 0)
 taken_in c =
     let turn = c.before.before.before.before in
     let ms = turn.before.before.before.args.masks.now in
-    let w = turn.before.loop.grown in
+    let w = turn.before.loop-i.grown in
     let r = c.before.before.wide.result in
     ⊎_elim
     (λ h. h.1 ∙ sym (ap (λ (b : Bool). cond (not b) (bit_or w (get_or ms r 0)) w) (ne_eqb (bit_and (get_or ms r 0) w) 0 h.0.taken)))
     (λ h. h.1 ∙ sym (ap (λ (b : Bool). cond (not b) (bit_or w (get_or ms r 0)) w) (eq-eqb (bit_and (get_or ms r 0) w) 0 h.0.left)))
-    c.if1.branch
+    c.if-mask-grown-ne0.branch-raw
     ∙ ap (grown ms w) c.before.before.wide.ensures.0
 
-loop-holds : tie.Need-loop-init invariant-loop decreases-loop
+loop-holds : tie.Need-loop-i-init invariant-loop decreases-loop
 loop-holds c = (search rules, refl)
 
-element-copy-out-mask : tie.Need-element-copy-out-mask invariant-loop decreases-loop
+element-copy-out-mask : tie.Need-bounds-masks-wide invariant-loop decreases-loop
 element-copy-out-mask c = omega (arith, exists c.before.before)
 
-loop-again : tie.Need-loop-preserved invariant-loop decreases-loop
+loop-again : tie.Need-loop-i-preserved invariant-loop decreases-loop
 loop-again c =
     let turn = c.before.before.before.before in
     let args = turn.before.before.before.args in
-    let i = turn.before.loop.i in (
+    let i = turn.before.loop-i.i in (
       search rules,
       ap (absorbed args.masks.now (drop (i + 1) args.members.now)) (taken_in c)
-          ∙ sym (absorbed-next args.masks.now args.members.now i turn.before.loop.grown turn.loop-test.true)
-          ∙ turn.before.loop.invariant.1,
+          ∙ sym (absorbed-next args.masks.now args.members.now i turn.before.loop-i.grown turn.loop-i-test.true)
+          ∙ turn.before.loop-i.invariant.1,
     )
 
 returns : tie.Need-returns invariant-loop decreases-loop
 returns c =
     let args = c.before.before.before.args in
-    sym (absorbed-end args.masks.now args.members.now c.before.loop.i c.before.loop.grown c.loop-test.false) ∙ c.before.loop.invariant.1
+    sym (absorbed-end args.masks.now args.members.now c.before.loop-i.i c.before.loop-i.grown c.loop-i-test.false) ∙ c.before.loop-i.invariant.1
 
-pub absorb-spec : {M : Type 1} → statement M
-absorb-spec =
+pub absorb_spec : {M : Type 1} → statement M
+absorb_spec =
     tie.close
     (tie.spec
     invariant-loop
     decreases-loop
     loop-holds
-    (λ c. search rules) (λ c. search rules) (λ c κs. search rules) (λ c. search rules)
+    (λ c. search rules)
+    (λ c. search rules)
+    (λ c κs. search rules)
+    (λ c. search rules)
     element-copy-out-mask
-    (λ c. search rules) (λ c. search rules)
+    (λ c. search rules)
+    (λ c. search rules)
     loop-again
     returns)

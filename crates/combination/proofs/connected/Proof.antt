@@ -18,61 +18,63 @@ use Rattle.combination.proofs.connected.Tie as tie
 abbrev first : List ℕ → List ℕ → ℕ
 first masks members = get_or masks (get_or members 0 0) 0
 
-abbrev invariant-loop : tie.invariant-loop
+abbrev invariant-loop : tie.invariant-loop-reached
 invariant-loop masks members reached₀ reached = Passed masks members (first masks members) reached
 
-abbrev decreases-loop : tie.decreases-loop
+abbrev decreases-loop : tie.decreases-loop-reached
 decreases-loop masks members reached₀ reached = 18446744073709551616 - reached
 
-not-empty : (c : tie.Else1 invariant-loop decreases-loop) → 0 < length c.before.before.args.members.now
-not-empty c = omega (arith, c.if1.false)
+not-empty : (c : tie.Else-members-eq0 invariant-loop decreases-loop) → 0 < length c.before.before.args.members.now
+not-empty c = omega (arith, c.if-members-eq0.false)
 
 below_all : (c : tie.Start invariant-loop decreases-loop) → below max_relations c.args.members.now ≡ true
 below_all c = known-below c.args.masks.now c.args.members.now c.requires
 
-returns : tie.Need-returns invariant-loop decreases-loop
-returns c = let args = c.before.before.args in sym (connected-none args.masks.now args.members.now c.if1.true)
+returns : tie.Need-returns-then-members-eq0 invariant-loop decreases-loop
+returns c = let args = c.before.before.args in sym (connected-none args.masks.now args.members.now c.if-members-eq0.true)
 
-element-copy-out-reached : tie.Need-element-copy-out-reached invariant-loop decreases-loop
+element-copy-out-reached : tie.Need-bounds-masks-wide invariant-loop decreases-loop
 element-copy-out-reached c =
     let some = c.before.before in
     let start = some.before.before in
     omega (arith, member_below max_relations start.args.members.now 0 (below_all start) (not-empty some))
 
-loop-holds : tie.Need-loop-init invariant-loop decreases-loop
+loop-holds : tie.Need-loop-reached-init invariant-loop decreases-loop
 loop-holds c =
     let args = c.before.before.before.before.before.args in
     subst (λ (r : ℕ). Passed args.masks.now args.members.now (first args.masks.now args.members.now) (get_or args.masks.now r 0)) (sym c.before.wide.ensures.0) none
 
-returns-2 : tie.Need-returns-2 invariant-loop decreases-loop
+returns-2 : tie.Need-returns-then-next-reached invariant-loop decreases-loop
 returns-2 c =
     let turn = c.before.before.before in
     let some = turn.before.before.before.before in
     let start = some.before.before in
     let args = start.args in
     c.all_meet.ensures
-    ∙ connected-meets args.masks.now args.members.now start.requires (first_member args.members.now (not-empty some)) turn.loop.reached turn.loop.invariant (sym c.before.before.absorb.ensures ∙ c.before.if2.true)
+    ∙ connected-meets args.masks.now args.members.now start.requires (first_member args.members.now (not-empty some)) turn.loop-reached.reached turn.loop-reached.invariant (sym c.before.before.absorb-next.ensures ∙ c.before.if-next-reached.true)
 
-loop-less : tie.Need-loop-smaller invariant-loop decreases-loop
+loop-less : tie.Need-loop-reached-smaller invariant-loop decreases-loop
 loop-less c =
     let turn = c.before.before in
     let args = turn.before.before.before.before.before.before.args in
-    omega (arith, absorbed-le args.masks.now args.members.now turn.loop.reached, c.before.absorb.ensures, c.if2.false)
+    omega (arith, absorbed-le args.masks.now args.members.now turn.loop-reached.reached, c.before.absorb-next.ensures, c.if-next-reached.false)
 
-loop-again : tie.Need-loop-preserved invariant-loop decreases-loop
+loop-again : tie.Need-loop-reached-preserved invariant-loop decreases-loop
 loop-again c =
     let turn = c.before.before in
     let args = turn.before.before.before.before.before.before.args in
-    subst (Passed args.masks.now args.members.now (first args.masks.now args.members.now)) (sym c.before.absorb.ensures) (again turn.loop.invariant)
+    subst (Passed args.masks.now args.members.now (first args.masks.now args.members.now)) (sym c.before.absorb-next.ensures) (again turn.loop-reached.invariant)
 
-pub connected-spec : {M : Type 1} → statement M
-connected-spec =
+pub connected_spec : {M : Type 1} → statement M
+connected_spec =
     tie.close
     (tie.spec
     invariant-loop
     decreases-loop
     returns
-    (λ c. search rules) (λ c κs. search rules) (λ c. search rules)
+    (λ c. search rules)
+    (λ c κs. search rules)
+    (λ c. search rules)
     element-copy-out-reached
     loop-holds
     (λ c κs. below_all c.before.before.before.before.before.before)

@@ -21,11 +21,11 @@ use borrow.Author.Rules.{rules}
 use Rattle.combination.proofs.mask_of.Statement.{statement}
 use Rattle.combination.proofs.mask_of.Tie as tie
 
-abbrev invariant-loop : tie.invariant-loop
+abbrev invariant-loop : tie.invariant-loop-column
 invariant-loop scope mask₀ column₀ mask column =
     (column ≤ length scope) × ((x : ℕ) → (is_set mask x || elem x (drop column scope)) ≡ elem x scope)
 
-abbrev decreases-loop : tie.decreases-loop
+abbrev decreases-loop : tie.decreases-loop-column
 decreases-loop scope mask₀ column₀ mask column = length scope - column
 
 eqb-sym : (a b : ℕ) → eqb a b ≡ eqb b a
@@ -46,45 +46,47 @@ added scope w i x h l =
 collected : (scope : List ℕ) (w i x : ℕ) → length scope ≤ i → is_set w x ≡ (is_set w x || elem x (drop i scope))
 collected scope w i x h = sym (ap (λ (ys : List ℕ). is_set w x || elem x ys) (drop_of_length-le scope h) ∙ or-false (is_set w x))
 
-variable : (c : tie.In-loop invariant-loop decreases-loop) → get_or c.before.before.args.scope.now c.before.loop.column 0 < variable_count
+variable : (c : tie.In-loop-column invariant-loop decreases-loop) → get_or c.before.before.args.scope.now c.before.loop-column.column 0 < variable_count
 variable c =
     let scope = c.before.before.args.scope.now in
-    let i = c.before.loop.column in
-    ltb-true (get_or scope i 0) variable_count (all_get_d (λ (x : ℕ). ltb x variable_count) scope i 0 c.before.before.requires c.loop-test.true)
+    let i = c.before.loop-column.column in
+    ltb-true (get_or scope i 0) variable_count (all_get_d (λ (x : ℕ). ltb x variable_count) scope i 0 c.before.before.requires c.loop-column-test.true)
 
-loop-holds : tie.Need-loop-init invariant-loop decreases-loop
+loop-holds : tie.Need-loop-column-init invariant-loop decreases-loop
 loop-holds c = (search rules, λ x. ap (λ (b : Bool). b || elem x c.args.scope.now) (is_set-high 0 0 x (omega arith) (omega arith)))
 
-cast-mask : tie.Need-overflow-cast-mask invariant-loop decreases-loop
+cast-mask : tie.Need-overflow_cast-mask invariant-loop decreases-loop
 cast-mask c = omega (arith, variable c.before)
 
-shl-mask : tie.Need-overflow-shl-mask invariant-loop decreases-loop
+shl-mask : tie.Need-overflow_shl-mask invariant-loop decreases-loop
 shl-mask c = variable c.before
 
-loop-again : tie.Need-loop-preserved invariant-loop decreases-loop
+loop-again : tie.Need-loop-column-preserved invariant-loop decreases-loop
 loop-again c =
     let turn = c.before in
     let scope = turn.before.before.args.scope.now in
-    let i = turn.before.loop.column in (
+    let i = turn.before.loop-column.column in (
       search rules,
-      λ x. added scope turn.before.loop.mask i x turn.loop-test.true (variable turn) ∙ turn.before.loop.invariant.1 x,
+      λ x. added scope turn.before.loop-column.mask i x turn.loop-column-test.true (variable turn) ∙ turn.before.loop-column.invariant.1 x,
     )
 
 returns : tie.Need-returns invariant-loop decreases-loop
 returns c =
     let scope = c.before.before.args.scope.now in
-    λ x. collected scope c.before.loop.mask c.before.loop.column x c.loop-test.false ∙ c.before.loop.invariant.1 x
+    λ x. collected scope c.before.loop-column.mask c.before.loop-column.column x c.loop-column-test.false ∙ c.before.loop-column.invariant.1 x
 
-pub mask-of-spec : {M : Type 1} → statement M
-mask-of-spec =
+pub mask_of_spec : {M : Type 1} → statement M
+mask_of_spec =
     tie.close
     (tie.spec
     invariant-loop
     decreases-loop
     loop-holds
-    (λ c. search rules) (λ c. search rules)
+    (λ c. search rules)
+    (λ c. search rules)
     cast-mask
     shl-mask
-    (λ c. search rules) (λ c. search rules)
+    (λ c. search rules)
+    (λ c. search rules)
     loop-again
     returns)

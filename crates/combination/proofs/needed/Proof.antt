@@ -22,53 +22,53 @@ use Rattle.combination.proofs.needed.Tie as tie
 abbrev sizes : List ℕ → List ℕ → ℕ
 sizes starts members = sum (map (size (outline starts)) members)
 
-abbrev invariant-loop : tie.invariant-loop
+abbrev invariant-loop : tie.invariant-loop-place
 invariant-loop starts members m tuples₀ place₀ tuples place =
     (place ≤ length members) × ((tuples + sizes starts (drop place members) ≡ sizes starts members) × (tuples ≤ 4096 * place))
 
-abbrev decreases-loop : tie.decreases-loop
+abbrev decreases-loop : tie.decreases-loop-place
 decreases-loop starts members m tuples₀ place₀ tuples place = length members - place
 
-abbrev start : tie.In-loop invariant-loop decreases-loop → tie.Start invariant-loop decreases-loop
+abbrev start : tie.In-loop-place invariant-loop decreases-loop → tie.Start invariant-loop decreases-loop
 start c = c.before.before.before
 
-abbrev member : tie.In-loop invariant-loop decreases-loop → ℕ
-member c = get_or (start c).args.members.now c.before.loop.place 0
+abbrev member : tie.In-loop-place invariant-loop decreases-loop → ℕ
+member c = get_or (start c).args.members.now c.before.loop-place.place 0
 
-exists : (c : tie.In-loop invariant-loop decreases-loop) → member c < max_relations
-exists c = member_below (start c).requires.0 (start c).requires.1 c.before.loop.place c.loop-test.true
+exists : (c : tie.In-loop-place invariant-loop decreases-loop) → member c < max_relations
+exists c = member_below (start c).requires.0 (start c).requires.1 c.before.loop-place.place c.loop-place-test.true
 
-rises : (c : tie.After-tuple-start2 invariant-loop decreases-loop) → c.tuple-start2.result ≤ c.before.tuple-start.result
+rises : (c : tie.After-tuple_start-in-loop-place invariant-loop decreases-loop) → c.tuple_start-in-loop-place.result ≤ c.before.tuple_start.result
 rises c =
     let turn = c.before.before.before in
-    omega (arith, c.tuple-start2.ensures, c.before.tuple-start.ensures, ids-rise (start turn).requires.0 (member turn) (exists turn))
+    omega (arith, c.tuple_start-in-loop-place.ensures, c.before.tuple_start.ensures, ids-rise (start turn).requires.0 (member turn) (exists turn))
 
 -- the size of that member
-sized : (c : tie.After-wide invariant-loop decreases-loop) → c.wide.result ≡ size (outline (start c.before.before.before.before).args.starts.now) (member c.before.before.before.before)
+sized : (c : tie.After-wide-tuples invariant-loop decreases-loop) → c.wide-tuples.result ≡ size (outline (start c.before.before.before.before).args.starts.now) (member c.before.before.before.before)
 sized c =
     let turn = c.before.before.before.before in
-    c.wide.ensures.0
-    ∙ ap₂ (λ (e s : ℕ). e - s) c.before.before.tuple-start.ensures c.before.tuple-start2.ensures
+    c.wide-tuples.ensures.0
+    ∙ ap₂ (λ (e s : ℕ). e - s) c.before.before.tuple_start.ensures c.before.tuple_start-in-loop-place.ensures
     ∙ size_in (start turn).requires.0 (member turn) (exists turn)
 
-few : (c : tie.After-wide invariant-loop decreases-loop) → c.wide.result ≤ 4096
+few : (c : tie.After-wide-tuples invariant-loop decreases-loop) → c.wide-tuples.result ≤ 4096
 few c =
     let turn = c.before.before.before.before in
-    omega (arith, c.wide.ensures.0, c.before.before.tuple-start.ensures, ids-few (start turn).requires.0 (member turn) (exists turn))
+    omega (arith, c.wide-tuples.ensures.0, c.before.before.tuple_start.ensures, ids-few (start turn).requires.0 (member turn) (exists turn))
 
 -- m times all sizes is few
-product : (c : tie.After-wide2 invariant-loop decreases-loop) → c.before.before.loop.tuples * c.wide2.result ≤ 4194304 * 4
+product : (c : tie.After-wide invariant-loop decreases-loop) → c.before.before.loop-place.tuples * c.wide.result ≤ 4194304 * 4
 product c =
     let entry = c.before.before.before.before in
-    mul-le-mul {n₂ = 4194304} {m₂ = 4} (omega (arith, entry.requires.1.list.short)) (omega (arith, c.wide2.ensures.0, entry.requires.1.list.few))
+    mul-le-mul {n₂ = 4194304} {m₂ = 4} (omega (arith, entry.requires.1.list.short)) (omega (arith, c.wide.ensures.0, entry.requires.1.list.few))
 
-loop-again : tie.Need-loop-preserved invariant-loop decreases-loop
+loop-again : tie.Need-loop-place-preserved invariant-loop decreases-loop
 loop-again c =
     let turn = c.before.before.before.before in
     let args = (start turn).args in (
       search rules,
       (
-        omega (arith, turn.before.loop.invariant.1.0, sized c, sum-next (size (outline args.starts.now)) args.members.now turn.before.loop.place turn.loop-test.true),
+        omega (arith, turn.before.loop-place.invariant.1.0, sized c, sum-next (size (outline args.starts.now)) args.members.now turn.before.loop-place.place turn.loop-place-test.true),
         omega (arith, few c),
       ),
     )
@@ -77,26 +77,28 @@ returns : tie.Need-returns invariant-loop decreases-loop
 returns c =
     let entry = c.before.before.before.before in
     let args = entry.args in
-    let l = c.before.before.loop in
-    let done : l.tuples ≡ sizes args.starts.now args.members.now = omega (arith, l.invariant.1.0, sum-end (size (outline args.starts.now)) args.members.now l.place c.before.loop-test.false) in
+    let l = c.before.before.loop-place in
+    let done : l.tuples ≡ sizes args.starts.now args.members.now = omega (arith, l.invariant.1.0, sum-end (size (outline args.starts.now)) args.members.now l.place c.before.loop-place-test.false) in
     let whole : length args.members.now % args.m ≡ 0 = omega (arith, div-add-mod' (length args.members.now) args.m, entry.requires.1.list.whole) in
-    ap₂ (λ (a b : ℕ). a * b) done c.wide2.ensures.0 ∙ sym (needed-whole (outline args.starts.now) args.m args.members.now whole)
+    ap₂ (λ (a b : ℕ). a * b) done c.wide.ensures.0 ∙ sym (needed-whole (outline args.starts.now) args.m args.members.now whole)
 
-pub needed-spec : {M : Type 1} → statement M
-needed-spec =
+pub needed_spec : {M : Type 1} → statement M
+needed_spec =
     tie.close
     (tie.spec
     invariant-loop
     decreases-loop
     (λ c. (search rules, (omega arith, search rules)))
-    (λ c. search rules) (λ c. search rules)
+    (λ c. search rules)
+    (λ c. search rules)
     (λ c. omega (arith, exists c.before))
     (λ c κs. omega (arith, exists c.before))
     (λ c κs. omega (arith, exists c.before.before))
     rises
     (λ c κs. search rules)
-    (λ c. omega (arith, few c, (start c.before.before.before.before).pre.1.list.short))
-    (λ c. search rules) (λ c. search rules)
+    (λ c. omega (arith, few c, (start c.before.before.before.before).requires.1.list.short))
+    (λ c. search rules)
+    (λ c. search rules)
     loop-again
     (λ c κs. search rules)
     (λ c. omega (arith, product c))

@@ -9,15 +9,19 @@ use borrow.Author.Rules.{rules}
 use Rattle.combination.proofs.proper.Statement.{statement}
 use Rattle.combination.proofs.proper.Tie as tie
 
-returns : tie.Need-returns
+returns : tie.Need-returns-then-not-all_below
 returns c =
     let args = c.before.before.before.args in
-    ap (λ (b : Bool). b && pairwise ltb args.members.now) (sym (not-true _ c.if1.true) ∙ c.before.all-below.ensures)
+    ap (λ (b : Bool). b && pairwise ltb args.members.now) (sym (not-true _ c.if-not-all_below.true-raw) ∙ c.before.all_below.ensures)
 
-returns-2 : tie.Need-returns-2
+returns-2 : tie.Need-returns
 returns-2 c =
-    ap₂ (λ (a b : Bool). a && b) (sym (not-false _ c.before.if1.false) ∙ c.before.before.all-below.ensures) c.rising.ensures
+    ap₂ (λ (a b : Bool). a && b) (sym (not-false _ c.before.if-not-all_below.false-raw) ∙ c.before.before.all_below.ensures) c.rising.ensures
 
-pub proper-spec : {M : Type 1} → statement M
-proper-spec =
-    tie.close (tie.spec (λ c κs. search rules) returns (λ c κs. search rules) returns-2)
+pub proper_spec : {M : Type 1} → statement M
+proper_spec =
+    tie.close (tie.spec
+    (λ c κs. search rules)
+    returns
+    (λ c κs. search rules)
+    returns-2)

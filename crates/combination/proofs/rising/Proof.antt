@@ -10,41 +10,46 @@ use borrow.Author.Rules.{rules}
 use Rattle.combination.proofs.rising.Statement.{statement}
 use Rattle.combination.proofs.rising.Tie as tie
 
-abbrev invariant-loop : tie.invariant-loop
+abbrev invariant-loop : tie.invariant-loop-i
 invariant-loop members i₀ i = (1 ≤ i) × (pairwise ltb (drop (i - 1) members) ≡ pairwise ltb members)
 
-abbrev decreases-loop : tie.decreases-loop
+abbrev decreases-loop : tie.decreases-loop-i
 decreases-loop members i₀ i = length members - i
 
-loop-holds : tie.Need-loop-init invariant-loop decreases-loop
+loop-holds : tie.Need-loop-i-init invariant-loop decreases-loop
 loop-holds c = (search rules, refl)
 
-returns : tie.Need-returns invariant-loop decreases-loop
+returns : tie.Need-returns-then-members-i invariant-loop decreases-loop
 returns c =
     let turn = c.before.before.before in
-    let i = turn.before.loop.i in
-    sym (rising-stop turn.before.before.args.members.now i turn.before.loop.invariant.0 turn.loop-test.true c.if1.true) ∙ turn.before.loop.invariant.1
+    let i = turn.before.loop-i.i in
+    sym (rising-stop turn.before.before.args.members.now i turn.before.loop-i.invariant.0 turn.loop-i-test.true c.if-members-i.true) ∙ turn.before.loop-i.invariant.1
 
-loop-again : tie.Need-loop-preserved invariant-loop decreases-loop
+loop-again : tie.Need-loop-i-preserved invariant-loop decreases-loop
 loop-again c =
     let turn = c.before.before.before in
-    let i = turn.before.loop.i in (
+    let i = turn.before.loop-i.i in (
       search rules,
-      sym (rising-next turn.before.before.args.members.now i turn.before.loop.invariant.0 turn.loop-test.true c.if1.false) ∙ turn.before.loop.invariant.1,
+      sym (rising-next turn.before.before.args.members.now i turn.before.loop-i.invariant.0 turn.loop-i-test.true c.if-members-i.false) ∙ turn.before.loop-i.invariant.1,
     )
 
-returns-2 : tie.Need-returns-2 invariant-loop decreases-loop
-returns-2 c = sym (rising-end c.before.before.args.members.now c.before.loop.i c.loop-test.false) ∙ c.before.loop.invariant.1
+returns-2 : tie.Need-returns invariant-loop decreases-loop
+returns-2 c = sym (rising-end c.before.before.args.members.now c.before.loop-i.i c.loop-i-test.false) ∙ c.before.loop-i.invariant.1
 
-pub rising-spec : {M : Type 1} → statement M
-rising-spec =
+pub rising_spec : {M : Type 1} → statement M
+rising_spec =
     tie.close
     (tie.spec
     invariant-loop
     decreases-loop
     loop-holds
-    (λ c. search rules) (λ c. search rules) (λ c. search rules) (λ c. search rules) (λ c. search rules)
+    (λ c. search rules)
+    (λ c. search rules)
+    (λ c. search rules)
+    (λ c. search rules)
+    (λ c. search rules)
     returns
-    (λ c. search rules) (λ c. search rules)
+    (λ c. search rules)
+    (λ c. search rules)
     loop-again
     returns-2)

@@ -16,21 +16,24 @@ use Rattle.combination.proofs.supports_fault.Tie as tie
 abbrev verdict : Bool → ℕ
 verdict b = refusal (cond b (some 12) none)
 
-returns : tie.Need-returns
+returns : tie.Need-returns-then-count-gt-MAX_SUPPORT_NUMBERS
 returns c =
     let args = c.before.args in
-    ap verdict (sym (or_left (ltb args.numbers args.count) (lt-ltb max_support_numbers args.count c.if1.true)))
+    ap verdict (sym (or_left (ltb args.numbers args.count) (lt-ltb max_support_numbers args.count c.if-count-gt-MAX_SUPPORT_NUMBERS.true)))
 
-returns-2 : tie.Need-returns-2
+returns-2 : tie.Need-returns-then-numbers-count
 returns-2 c =
     let args = c.before.before.args in
-    ap verdict (sym (or_right (ltb max_support_numbers args.count) (lt-ltb args.numbers args.count c.if2.true)))
+    ap verdict (sym (or_right (ltb max_support_numbers args.count) (lt-ltb args.numbers args.count c.if-numbers-count.true)))
 
-returns-3 : tie.Need-returns-3
+returns-3 : tie.Need-returns
 returns-3 c =
     let args = c.before.before.args in
     ap verdict
     (sym (ap₂ (λ (a b : Bool). a || b) (le-ltb max_support_numbers args.count (omega arith)) (le-ltb args.numbers args.count (omega arith))))
 
-pub supports-fault-spec : {M : Type 1} → statement M
-supports-fault-spec = tie.close (tie.spec returns returns-2 returns-3)
+pub supports_fault_spec : {M : Type 1} → statement M
+supports_fault_spec = tie.close (tie.spec
+    returns
+    returns-2
+    returns-3)

@@ -14,18 +14,18 @@ use Rattle.combination.proofs.words_fault.Tie as tie
 abbrev verdict : Bool → ℕ
 verdict b = refusal (cond b (some 11) none)
 
-returns : tie.Need-returns
+returns : tie.Need-returns-then-words-words_for
 returns c =
     let args = c.before.before.args in
-    ap verdict (sym (lt-ltb (args.words * 64) args.tuples (omega (arith, c.if1.true, c.before.words-for.ensures))))
+    ap verdict (sym (lt-ltb (args.words * 64) args.tuples (omega (arith, c.if-words-words_for.true, c.before.words_for.ensures))))
 
-returns-2 : tie.Need-returns-2
+returns-2 : tie.Need-returns
 returns-2 c =
     let args = c.before.before.args in
-    ap verdict (sym (le-ltb (args.words * 64) args.tuples (omega (arith, c.if1.false, c.before.words-for.ensures))))
+    ap verdict (sym (le-ltb (args.words * 64) args.tuples (omega (arith, c.if-words-words_for.false, c.before.words_for.ensures))))
 
-pub words-fault-spec : {M : Type 1} → statement M
-words-fault-spec =
+pub words_fault_spec : {M : Type 1} → statement M
+words_fault_spec =
     tie.close
     (tie.spec
     (λ c κs. search rules)

@@ -37,14 +37,15 @@ returns : tie.Need-returns
 returns c =
     let a = c.before.before.before.before.before.before.before in
     let Q = search_of a in (
-      support_from-any (net_of Q) (live_of Q) (seeker Q) Q.low Q.members (none-earlier a) (is_found c.first-support.result.kind) (take (length Q.members) c.first-support.result.tuples) c.first-support.ensures.0,
-      c.first-support.ensures.1,
+      support_from-any (net_of Q) (live_of Q) (seeker Q) Q.low Q.members (none-earlier a) (is_found c.first_support-found.result.kind) (take (length Q.members) c.first_support-found.result.tuples) c.first_support-found.ensures.0,
+      c.first_support-found.ensures.1,
     )
 
-pub has-support-spec : {M : Type 1} → statement M
-has-support-spec =
+pub has_support_spec : {M : Type 1} → statement M
+has_support_spec =
     tie.close
     (tie.spec
-    (λ c. search rules) (λ c. search rules)
+    (λ c. search rules)
+    (λ c. search rules)
     (λ c κs. let a = c.before.before.before.before.before.before in (a.requires.0, ((a.requires.1.0.0, record { meets = a.requires.1.0.1; lowest = none-earlier a }), a.requires.1.1)))
     returns)

@@ -36,7 +36,7 @@ FreshIn G p words fresh = Long fresh × (1 < length (combination_of G p) → Mee
 abbrev LeanIn : Setting → ℕ → List ℕ → List ℕ → Type 0
 LeanIn G p words lean = Lean G.lists (combination_of G p) (p % G.m) words lean
 
-abbrev invariant-loop : tie.invariant-loop
+abbrev invariant-loop : tie.invariant-loop-g
 invariant-loop variables values starts index words members m p steps₀ base stop r first end lean₀ tried₀ fresh₀ candidates₀ spare₀ g₀ steps lean tried fresh candidates spare g =
     WalkAt (setting (λ xs. xs) variables values starts members m) words p first end g
     × FreshIn (setting (λ xs. xs) variables values starts members m) p lean fresh
@@ -44,7 +44,7 @@ invariant-loop variables values starts index words members m p steps₀ base sto
     × Long candidates
     × Long spare
 
-abbrev decreases-loop : tie.decreases-loop
+abbrev decreases-loop : tie.decreases-loop-g
 decreases-loop variables values starts index words members m p steps₀ base stop r first end lean₀ tried₀ fresh₀ candidates₀ spare₀ g₀ steps lean tried fresh candidates spare g = end - g
 
 -- ---- What it is called on
@@ -54,7 +54,7 @@ module _ (a : tie.Start invariant-loop decreases-loop) where
   G = setting (λ x. x.now) a.args.variables a.args.values a.args.starts a.args.members a.args.m
 
   abbrev asked : PairAt G a.args.index.now a.args.p
-  asked = a.pre.1
+  asked = a.requires.1
 
   abbrev base : ℕ
   base = a.args.p / a.args.m * a.args.m
@@ -67,98 +67,98 @@ module _ (a : tie.Start invariant-loop decreases-loop) where
 
 -- ---- The pair's row
 
-abbrev entry : tie.After-tuple-start2 invariant-loop decreases-loop → tie.Start invariant-loop decreases-loop
+abbrev entry : tie.After-tuple_start-end invariant-loop decreases-loop → tie.Start invariant-loop decreases-loop
 entry c = c.before.before.before.before.before.before.before
 
-abbrev first : tie.After-tuple-start2 invariant-loop decreases-loop → ℕ
-first c = c.before.tuple-start.result
+abbrev first : tie.After-tuple_start-end invariant-loop decreases-loop → ℕ
+first c = c.before.tuple_start-first.result
 
-row : (c : tie.After-tuple-start2 invariant-loop decreases-loop) → (let a = entry c in Row (G a) a.args.p (first c) c.tuple-start2.result)
-row c = let a = entry c in row-of (asked a).sound a.args.p (first c) c.tuple-start2.result (asked a).pair c.before.tuple-start.ensures c.tuple-start2.ensures
+row : (c : tie.After-tuple_start-end invariant-loop decreases-loop) → (let a = entry c in Row (G a) a.args.p (first c) c.tuple_start-end.result)
+row c = let a = entry c in row-of (asked a).sound a.args.p (first c) c.tuple_start-end.result (asked a).pair c.before.tuple_start-first.ensures c.tuple_start-end.ensures
 
-abbrev words_of : tie.After-tuple-start2 invariant-loop decreases-loop → List ℕ
+abbrev words_of : tie.After-tuple_start-end invariant-loop decreases-loop → List ℕ
 words_of c = (entry c).args.words.now
 
-long : (c : tie.After-tuple-start2 invariant-loop decreases-loop) → Long (words_of c)
+long : (c : tie.After-tuple_start-end invariant-loop decreases-loop) → Long (words_of c)
 long c = (entry c).requires.0
 
 -- what `next` asks from id g on
-asks : (c : tie.After-tuple-start2 invariant-loop decreases-loop) (g : ℕ) → g ≤ c.tuple-start2.result → (g ≤ c.tuple-start2.result) × (c.tuple-start2.result ≤ 64 * length (entry c).args.words.now) × (c.tuple-start2.result ≤ 4096)
+asks : (c : tie.After-tuple_start-end invariant-loop decreases-loop) (g : ℕ) → g ≤ c.tuple_start-end.result → (g ≤ c.tuple_start-end.result) × (c.tuple_start-end.result ≤ 64 * length (entry c).args.words.now) × (c.tuple_start-end.result ≤ 4096)
 asks c g h = row-asks (row c) (entry c).args.words.now g (words-enough (words_of c) (long c) (row c)) h
 
 -- ---- One turn
 
-abbrev begun : tie.In-loop invariant-loop decreases-loop → tie.After-tuple-start2 invariant-loop decreases-loop
+abbrev begun : tie.In-loop-g invariant-loop decreases-loop → tie.After-tuple_start-end invariant-loop decreases-loop
 begun c = c.before.before.before.before.before
 
-has-support-requires : tie.Need-has-support-requires invariant-loop decreases-loop
+has-support-requires : tie.Need-has_support-kind-requires invariant-loop decreases-loop
 has-support-requires c κs =
     let turn = c.before.before.before.before.before in
     let b = begun turn in
     let a = entry b in
-    let l = turn.before.loop in (
+    let l = turn.before.loop-g in (
       (
         l.invariant.2.long,
         record {
-          sound = rw add-sub_cancel_left (searched-sound (words_of b) (long b) (row b) l.invariant.0 turn.loop-test.true l.invariant.2.long);
+          sound = rw add-sub_cancel_left (searched-sound (words_of b) (long b) (row b) l.invariant.0 turn.loop-g-test.true l.invariant.2.long);
           indexed = (asked a).indexed;
         },
       ),
       ((l.invariant.1.0, rw add-sub_cancel_left l.invariant.1.1), (l.invariant.3, l.invariant.4)),
     )
 
-abbrev turning : tie.After-has-support invariant-loop decreases-loop → tie.In-loop invariant-loop decreases-loop
+abbrev turning : tie.After-has_support-kind invariant-loop decreases-loop → tie.In-loop-g invariant-loop decreases-loop
 turning c = c.before.before.before.before.before.before
 
 -- what is answered of the tuple at g
-decided : (c : tie.After-has-support invariant-loop decreases-loop) → (let turn = turning c in let b = begun turn in is_found c.has-support.result ≡ has_support (searched (words_of b) (long b) (row b) turn.before.loop.inv.0 turn.loop-test.taken (words_of b)))
+decided : (c : tie.After-has_support-kind invariant-loop decreases-loop) → (let turn = turning c in let b = begun turn in is_found c.has_support-kind.result ≡ has_support (searched (words_of b) (long b) (row b) turn.before.loop-g.inv.0 turn.loop-g-test.taken (words_of b)))
 decided c =
     let turn = turning c in
     let b = begun turn in
-    let l = turn.before.loop in
-    let answered : is_found c.has-support.result ≡ has_support (searched (words_of b) (long b) (row b) l.inv.0 turn.loop-test.taken l.lean) = rw add-sub_cancel_left at c.has-support.ensures.0 in
-    answered ∙ searched-lean (words_of b) (long b) (row b) l.inv.0 turn.loop-test.taken l.inv.2
+    let l = turn.before.loop-g in
+    let answered : is_found c.has_support-kind.result ≡ has_support (searched (words_of b) (long b) (row b) l.inv.0 turn.loop-g-test.taken l.lean-1) = rw add-sub_cancel_left at c.has_support-kind.ensures.0 in
+    answered ∙ searched-lean (words_of b) (long b) (row b) l.inv.0 turn.loop-g-test.taken l.inv.2
 
-returns : tie.Need-returns invariant-loop decreases-loop
+returns : tie.Need-returns-then-kind-ne-FOUND invariant-loop decreases-loop
 returns c =
     let h = c.before in
     let turn = turning h in
-    walk-fails (words_of (begun turn)) (long (begun turn)) (row (begun turn)) turn.before.loop.inv.0 turn.loop-test.taken (sym (ne_eqb (h.has-support.result % 2) 1 c.if1.true) ∙ decided h)
+    walk-fails (words_of (begun turn)) (long (begun turn)) (row (begun turn)) turn.before.loop-g.inv.0 turn.loop-g-test.taken (sym (ne_eqb (h.has_support-kind.result % 2) 1 c.if-kind-ne-FOUND.true) ∙ decided h)
 
 -- ---- After the words are made lean
 
-lean-once-hard-requires : tie.Need-lean-once-hard-requires invariant-loop decreases-loop
+lean-once-hard-requires : tie.Need-lean_once_hard-tried-requires invariant-loop decreases-loop
 lean-once-hard-requires c κs =
     let turn = turning c.before.before.before in
     let a = entry (begun turn) in
-    (turn.before.loop.inv.2.long, rw add-sub_cancel_left (pair-asks (asked a).sound a.args.p (asked a).pair))
+    (turn.before.loop-g.inv.2.long, rw add-sub_cancel_left (pair-asks (asked a).sound a.args.p (asked a).pair))
 
-abbrev sought : tie.After-lean-once-hard invariant-loop decreases-loop → tie.After-has-support invariant-loop decreases-loop
+abbrev sought : tie.After-lean_once_hard-tried invariant-loop decreases-loop → tie.After-has_support-kind invariant-loop decreases-loop
 sought c = c.before.before.before.before
 
-abbrev lean-after : tie.After-lean-once-hard invariant-loop decreases-loop → List ℕ
-lean-after c = c.lean-once-hard.new.1.1.1.1.1.1.1.0
+abbrev lean-after : tie.After-lean_once_hard-tried invariant-loop decreases-loop → List ℕ
+lean-after c = c.lean_once_hard-tried.new.1.1.1.1.1.1.1.0
 
-leaner : (c : tie.After-lean-once-hard invariant-loop decreases-loop) → (let turn = turning (sought c) in let a = entry (begun turn) in LeanFrom (G a).lists (combination_of (G a) a.args.p) (a.args.p % a.args.m) turn.before.loop.lean (lean-after c))
-leaner c = rw add-sub_cancel_left at c.lean-once-hard.ensures
+leaner : (c : tie.After-lean_once_hard-tried invariant-loop decreases-loop) → (let turn = turning (sought c) in let a = entry (begun turn) in LeanFrom (G a).lists (combination_of (G a) a.args.p) (a.args.p % a.args.m) turn.before.loop-g.lean (lean-after c))
+leaner c = rw add-sub_cancel_left at c.lean_once_hard-tried.ensures
 
 -- the fresh tuples
-beside : (c : tie.After-lean-once-hard invariant-loop decreases-loop) → (let h = sought c in let a = entry (begun (turning h)) in FreshIn (G a) a.args.p (lean-after c) h.has-support.last.1.1.1.1.1.1.1.1.1.0)
+beside : (c : tie.After-lean_once_hard-tried invariant-loop decreases-loop) → (let h = sought c in let a = entry (begun (turning h)) in FreshIn (G a) a.args.p (lean-after c) h.has_support-kind.last.1.1.1.1.1.1.1.1.1.0)
 beside c =
     let h = sought c in
     let turn = turning h in
     let a = entry (begun turn) in
-    let fresh = h.has-support.last.1.1.1.1.1.1.1.1.1.0 in
-    let met : 1 < length (combination_of (G a) a.args.p) → Meets (network (G a)) (combination_of (G a) a.args.p) (a.args.p % a.args.m) turn.before.loop.lean fresh = rw add-sub_cancel_left at h.has-support.ensures.1.0.1 in
-    (h.has-support.ensures.1.0.0, λ two. meets-fewer (network (G a)) (combination_of (G a) a.args.p) (a.args.p % a.args.m) turn.before.loop.lean (lean-after c) fresh (leaner c).1 (met two))
+    let fresh = h.has_support-kind.last.1.1.1.1.1.1.1.1.1.0 in
+    let met : 1 < length (combination_of (G a) a.args.p) → Meets (network (G a)) (combination_of (G a) a.args.p) (a.args.p % a.args.m) turn.before.loop-g.lean fresh = rw add-sub_cancel_left at h.has_support-kind.ensures.1.0.1 in
+    (h.has_support-kind.ensures.1.0.0, λ two. meets-fewer (network (G a)) (combination_of (G a) a.args.p) (a.args.p % a.args.m) turn.before.loop-g.lean (lean-after c) fresh (leaner c).1 (met two))
 
-lean : (c : tie.After-lean-once-hard invariant-loop decreases-loop) → (let a = entry (begun (turning (sought c))) in LeanIn (G a) a.args.p a.args.words.now (lean-after c))
+lean : (c : tie.After-lean_once_hard-tried invariant-loop decreases-loop) → (let a = entry (begun (turning (sought c))) in LeanIn (G a) a.args.p a.args.words.now (lean-after c))
 lean c =
     let turn = turning (sought c) in
     let a = entry (begun turn) in
-    lean-both (G a).lists (combination_of (G a) a.args.p) (a.args.p % a.args.m) turn.before.loop.inv.2 (leaner c).0
+    lean-both (G a).lists (combination_of (G a) a.args.p) (a.args.p % a.args.m) turn.before.loop-g.inv.2 (leaner c).0
 
-steps-once-hard-requires : tie.Need-steps-once-hard-requires invariant-loop decreases-loop
+steps-once-hard-requires : tie.Need-steps_once_hard-steps-requires invariant-loop decreases-loop
 steps-once-hard-requires c κs =
     let k = c.before.before in
     let a = entry (begun (turning (sought k))) in
@@ -166,29 +166,29 @@ steps-once-hard-requires c κs =
     let numbers : Numbers (combination_of (G a) a.args.p) = (E.members.few, λ j h. member-few E.laid E.members j h) in
     ((lean k).long, rw add-sub_cancel_left ((asked a).sound.laid, (numbers, E.inside)))
 
-loop-less : tie.Need-loop-smaller invariant-loop decreases-loop
+loop-less : tie.Need-loop-g-smaller invariant-loop decreases-loop
 loop-less c =
     let turn = turning (sought c.before.before.before.before.before) in
-    let f = next-ahead (entry (begun turn)).args.words.now turn.loop-test.taken in
-    omega (arith, f.0, f.1, c.next2.ensures, turn.loop-test.taken)
+    let f = next-ahead (entry (begun turn)).args.words.now turn.loop-g-test.taken in
+    omega (arith, f.0, f.1, c.next-g-in-loop-g.ensures, turn.loop-g-test.taken)
 
-loop-again : tie.Need-loop-preserved invariant-loop decreases-loop
+loop-again : tie.Need-loop-g-preserved invariant-loop decreases-loop
 loop-again c =
     let k = c.before.before.before.before.before in
     let h = sought k in
     let turn = turning h in
     let b = begun turn in
     let a = entry b in (
-      subst (WalkAt (G a) a.args.words.now a.args.p (first b) b.tuple-start2.result) (sym c.next2.ensures)
-          (walk-goes (words_of b) (long b) (row b) turn.before.loop.inv.0 turn.loop-test.taken (sym (eq-eqb (h.has-support.result % 2) 1 k.before.before.before.if1.false) ∙ decided h)),
+      subst (WalkAt (G a) a.args.words.now a.args.p (first b) b.tuple_start-end.result) (sym c.next-g-in-loop-g.ensures)
+          (walk-goes (words_of b) (long b) (row b) turn.before.loop-g.inv.0 turn.loop-g-test.taken (sym (eq-eqb (h.has_support-kind.result % 2) 1 k.before.before.before.if-kind-ne-FOUND.false) ∙ decided h)),
       beside k,
       lean k,
-      h.has-support.ensures.1.1.0,
-      h.has-support.ensures.1.1.1,
+      h.has_support-kind.ensures.1.1.0,
+      h.has_support-kind.ensures.1.1.1,
     )
 
-pub pair-supported-spec : {M : Type 1} → statement M
-pair-supported-spec =
+pub pair_supported_spec : {M : Type 1} → statement M
+pair_supported_spec =
     tie.close
     (tie.spec
     invariant-loop
@@ -197,18 +197,19 @@ pair-supported-spec =
     (λ c. omega (arith, (asked c.before.before.before.before).sound.paired.list.positive))
     (λ c. omega (arith, within c.before.before.before.before))
     (λ c. omega (arith, within c.before.before.before.before))
-    (λ c. search rules) (λ c. search rules)
+    (λ c. search rules)
+    (λ c. search rules)
     (λ c κs. omega (arith, few c.before.before.before.before.before))
     (λ c. omega (arith, few c.before.before.before.before.before.before))
     (λ c κs. omega (arith, few c.before.before.before.before.before.before))
     (λ c κs. let b = c.before.before in asks b (first b) (omega (arith, (row b).is-end)))
-    (λ c. let b = c.before.before.before in let a = entry b in (subst (WalkAt (G a) a.args.words.now a.args.p (first b) b.tuple-start2.result) (sym c.next.ensures) (walk-starts (words_of b) (long b) (row b)), (refl, meets-ones (network (G a)) (tuples-few (asked a).sound.laid.framed) (combination_of (G a) a.args.p) (a.args.p % a.args.m) a.args.words.now), (lean-same (G a).lists (combination_of (G a) a.args.p) (a.args.p % a.args.m) a.args.words.now a.pre.0).0, refl, refl))
+    (λ c. let b = c.before.before.before in let a = entry b in (subst (WalkAt (G a) a.args.words.now a.args.p (first b) b.tuple_start-end.result) (sym c.next-g.ensures) (walk-starts (words_of b) (long b) (row b)), (refl, meets-ones (network (G a)) (tuples-few (asked a).sound.laid.framed) (combination_of (G a) a.args.p) (a.args.p % a.args.m) a.args.words.now), (lean-same (G a).lists (combination_of (G a) a.args.p) (a.args.p % a.args.m) a.args.words.now a.requires.0).0, refl, refl))
     (λ c. omega (arith, within (entry (begun c.before))))
     (λ c. omega (arith, within (entry (begun c.before))))
     (λ c. omega (arith, within (entry (begun c.before))))
     (λ c. omega (arith, within (entry (begun c.before))))
     (λ c. omega (arith, (asked (entry (begun c.before.before))).sound.paired.list.positive))
-    (λ c. c.before.before.before.loop.invariant.0.from_First)
+    (λ c. c.before.before.before.loop-g.invariant.0.from_First)
     has-support-requires
     returns
     (λ c. let a = entry (begun (turning c.before)) in omega (arith, within a, (asked a).sound.paired.list.short))
@@ -223,8 +224,8 @@ pair-supported-spec =
     (λ c. within (entry (begun (turning (sought c.before)))))
     (λ c. omega (arith, (asked (entry (begun (turning (sought c.before.before))))).sound.paired.list.positive))
     steps-once-hard-requires
-    (λ c. let turn = turning (sought c.before.before.before.before) in omega (arith, turn.loop-test.taken, (asks (begun turn) turn.before.loop.g turn.before.loop.inv.0.to_end).2))
-    (λ c κs. let turn = turning (sought c.before.before.before.before) in asks (begun turn) (turn.before.loop.g + 1) (omega (arith, turn.loop-test.taken)))
+    (λ c. let turn = turning (sought c.before.before.before.before) in omega (arith, turn.loop-g-test.taken, (asks (begun turn) turn.before.loop-g.g turn.before.loop-g.inv.0.to_end).2))
+    (λ c κs. let turn = turning (sought c.before.before.before.before) in asks (begun turn) (turn.before.loop-g.g + 1) (omega (arith, turn.loop-g-test.taken)))
     loop-less
     loop-again
-    (λ c. let l = c.before in let b = l.before.before.before.before in walk_ends (words_of b) (long b) (row b) l.loop.invariant.0 c.loop-test.false))
+    (λ c. let l = c.before in let b = l.before.before.before.before in walk_ends (words_of b) (long b) (row b) l.loop-g.invariant.0 c.loop-g-test.false))

@@ -32,45 +32,48 @@ asked-some input m text e = ap asked_for (sym e)
 behind : (n : ℕ) (input : List ℕ) → take (length input - n) (drop n input) ≡ drop n input
 behind n input = ap (λ (k : ℕ). take k (drop n input)) (sym (length-drop n input)) ∙ take-length (drop n input)
 
-returns : tie.Need-returns
+returns : tie.Need-returns-then-m-eq0
 returns c =
-    let f = c.before.before.before.before.field in
+    let f = c.before.before.before.before.field-m in
     let input = c.before.before.before.before.before.before.args.input.now in
-    let absent = sym f.ensures.0 ∙ found_none input f.result.next f.result.value c.before.before.if1.true in
+    let absent = sym f.ensures.0 ∙ found_none input f.result.next f.result.value c.before.before.if-m-eq0.true in
     written (asked_listing input) (asked-none input absent) c.refused.ensures
 
-module _ (c : tie.Else1) where
+module _ (c : tie.Else-m-eq0) where
   abbrev input : List ℕ
   input = c.before.before.before.before.args.input.now
 
   abbrev m : ℕ
-  m = c.before.before.field.result.value
+  m = c.before.before.field-m.result.value
 
   abbrev next : ℕ
-  next = c.before.before.field.result.next
+  next = c.before.before.field-m.result.next
 
   read : read_field max_field newline input ≡ some (m, drop next input)
-  read = sym c.before.before.field.ensures.0 ∙ found-at input next m c.if1.false
+  read = sym c.before.before.field-m.ensures.0 ∙ found-at input next m c.if-m-eq0.false
 
   small : m ≤ max_field
   small = (read_field-sound max_field field_bound newline input read).0
 
-returns-2 : tie.Need-returns-2
+returns-2 : tie.Need-returns
 returns-2 c =
     let e = c.before.before.before.before in
-    let k = c.combination-listing in
+    let k = c.combination_listing in
     let told : combination_listing (m e) (take (length (input e) - next e) (drop (next e) (input e))) ≡ asked_listing (input e) =
     ap (combination_listing (m e)) (behind (next e) (input e)) ∙ asked-some (input e) (m e) (drop (next e) (input e)) (read e)
     in
     (k.ensures.0, subst (λ (t : List ℕ). (k.result ≡ length t) × (k.new.1.1.0 ≡ t ++ drop k.result e.before.before.before.before.args.out.now)) told k.ensures.1)
 
-pub asked-listing-spec : {M : Type 1} → statement M
-asked-listing-spec =
+pub asked_listing_spec : {M : Type 1} → statement M
+asked_listing_spec =
     tie.close
     (tie.spec
-    (λ c κs. search rules) (λ c κs. search rules)
+    (λ c κs. search rules)
+    (λ c κs. search rules)
     returns
     (λ c. omega (arith, small c.before))
-    (λ c. search rules) (λ c. search rules) (λ c. search rules)
+    (λ c. search rules)
+    (λ c. search rules)
+    (λ c. search rules)
     (λ c κs. search rules)
     returns-2)

@@ -20,21 +20,21 @@ use borrow.Author.Rules.{rules}
 use Rattle.desk.proofs.filtered.Statement.{statement}
 use Rattle.desk.proofs.filtered.Tie as tie
 
-abbrev start : tie.After-filter → tie.Start
+abbrev start : tie.After-filter-answer → tie.Start
 start c = c.before.before.before.before.before.before.before.before
 
 abbrev instance : tie.Start → Instance
 instance c = instance_of c.args.shape c.args.variables.now c.args.values.now c.args.m c.args.members.now
 
 -- the words, the support numbers and the counts that the call leaves
-abbrev words : tie.After-filter → List ℕ
-words c = c.filter.new.1.1.1.1.1.0
+abbrev words : tie.After-filter-answer → List ℕ
+words c = c.filter-answer.new.1.1.1.1.1.0
 
-abbrev numbers : tie.After-filter → List ℕ
-numbers c = c.filter.new.1.1.1.1.1.1.0
+abbrev numbers : tie.After-filter-answer → List ℕ
+numbers c = c.filter-answer.new.1.1.1.1.1.1.0
 
-abbrev counts : tie.After-filter → List ℕ
-counts c = c.filter.new.1.1.1.1.1.1.1.0
+abbrev counts : tie.After-filter-answer → List ℕ
+counts c = c.filter-answer.new.1.1.1.1.1.1.1.0
 
 few : (s : tie.Start) → s.args.shape.count ≤ length s.args.shape.tuples
 few s =
@@ -42,18 +42,18 @@ few s =
     omega (arith, e, writable-few (instance s) s.requires, relation-count s.args.shape)
 
 -- what the call replies is the reply with every tuple live and counted
-answered : (c : tie.After-filter) → replied c.filter.result (words c) (numbers c) (counts c) ≡ reply (fresh (instance (start c)))
+answered : (c : tie.After-filter-answer) → replied c.filter-answer.result (words c) (numbers c) (counts c) ≡ reply (fresh (instance (start c)))
 unfolding fresh all_live
 answered c =
     let s = start c in
-    c.filter.ensures
+    c.filter-answer.ensures
     ∙ ap (λ (ks : List ℕ). reply (request (instance s) all_live (replicate max_support_numbers 0) ks filter)) (all-counted s.args.shape (few s))
 
 print-requires : tie.Need-print-requires
 print-requires c κs =
     let f = c.before.before.before.before.before in
     let a = (start f).args in
-    reply-printable a.shape a.variables.now a.values.now a.m a.members.now _ _ _ (start f).requires f.filter.result (words f) _ _ f.filter.ensures
+    reply-printable a.shape a.variables.now a.values.now a.m a.members.now _ _ _ (start f).requires f.filter-answer.result (words f) _ _ f.filter-answer.ensures
 
 returns : tie.Need-returns
 returns c =
@@ -62,11 +62,12 @@ returns c =
     appended-same (ap (λ (r : Reply). text_of (reply_lines (network_of a.shape a.variables.now a.values.now) r)) (answered f))
     (c.print.ensures (numbers f) (counts f))
 
-pub filtered-spec : {M : Type 1} → statement M
-filtered-spec =
+pub filtered_spec : {M : Type 1} → statement M
+filtered_spec =
     tie.close
     (tie.spec
-    (λ c. search rules) (λ c. search rules)
+    (λ c. search rules)
+    (λ c. search rules)
     (λ c. few c.before.before.before.before.before.before)
     (λ c. let s = c.before.before.before.before.before.before.before in sym (length-take-le s.args.shape.count s.args.shape.tuples (few s)))
     (λ c κs. search rules)

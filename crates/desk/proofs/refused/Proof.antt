@@ -12,7 +12,10 @@ returns : tie.Need-returns
 unfolding text_of
 returns c = appended-same (sym (append-nil (line_text (2 ∷ 1 ∷ 0 ∷ 0 ∷ [])))) c.line.ensures
 
-pub refused-spec : {M : Type 1} → statement M
+pub refused_spec : {M : Type 1} → statement M
 unfolding decimal
-refused-spec =
-    tie.close (tie.spec (λ c. search rules) (λ c κs. search rules) returns)
+refused_spec =
+    tie.close (tie.spec
+    (λ c. search rules)
+    (λ c κs. search rules)
+    returns)

@@ -6,24 +6,24 @@ use Rattle.doubles.proofs.Entries.{entered-none}
 use Rattle.doubles.proofs.alike_soon.Statement.{statement}
 use Rattle.doubles.proofs.alike_soon.Tie as tie
 
-abbrev start : tie.After-y → tie.Start
+abbrev start : tie.After-y-1 → tie.Start
 start c = c.before.before.before.before
 
-pub alike-soon-spec : {M : Type 1} → statement M
-alike-soon-spec =
+pub alike_soon_spec : {M : Type 1} → statement M
+alike_soon_spec =
     tie.close
     (tie.spec
     (λ c κs. (c.before.before.requires.0, omega arith))
-    (λ c. omega (arith, c.tuple-hash.ensures))
-    (λ c. c.tuple-hash.ensures)
-    (λ c κs. let s = start c.before in (s.pre.0, record { laid = s.pre.0.laid; own = omega (arith, s.pre.0.own, c.if1.true) }))
+    (λ c. omega (arith, c.tuple_hash-place.ensures))
+    (λ c. c.tuple_hash-place.ensures)
+    (λ c κs. let s = start c.before in (s.requires.0, record { laid = s.requires.0.laid; own = omega (arith, s.requires.0.own, c.if-y-x.true) }))
     (λ c.
     let h = c.before.before.before.before in
     let s = start c.before.before.before in
     record {
       entered = entered-none s.args.x s.args.table.now;
-      entry = λ _. (h.tuple-hash.result, omega (arith, h.tuple-hash.ensures, s.pre.1), refl);
-      alike = λ _. c.before.same-values.ensures c.if2.true;
+      entry = λ _. (h.tuple_hash-place.result, omega (arith, h.tuple_hash-place.ensures, s.requires.1), refl);
+      alike = λ _. c.before.same_values.ensures c.if-same_values.true;
     })
-    (λ c κs. let t = c.before.before in let s = start t in (s.pre.0, s.pre.1, t.before.tuple-hash.ensures))
-    (λ c. c.alike-by.ensures))
+    (λ c κs. let t = c.before.before in let s = start t in (s.requires.0, s.requires.1, t.before.tuple_hash-place.ensures))
+    (λ c. c.alike_by.ensures))

@@ -11,25 +11,31 @@ use Rattle.doubles.proofs.tuple_hash.Tie as tie
 few : (s : tie.Start) → s.args.r < max_relations
 few s = below-limit s.requires.0.laid s.args.r s.args.x s.requires.0.own
 
-abbrev start : tie.After-place-of → tie.Start
+abbrev start : tie.After-place_of-p → tie.Start
 start c = c.before.before.before
 
 -- the place lies within the lists
-within : (c : tie.After-place-of) → (let s = start c in Within s.pre.0.laid s.args.r s.args.x s.pre.0.own c.place_of.result)
-within c = let s = start c in place-within s.pre.0.laid s.args.r s.args.x s.pre.0.own c.place_of.result c.place_of.ensures
+within : (c : tie.After-place_of-p) → (let s = start c in Within s.requires.0.laid s.args.r s.args.x s.requires.0.own c.place_of-p.result)
+within c = let s = start c in place-within s.requires.0.laid s.args.r s.args.x s.requires.0.own c.place_of-p.result c.place_of-p.ensures
 
-hash-in-requires : tie.Need-hash-in-requires
+hash-in-requires : tie.Need-hash_in-requires
 hash-in-requires c κs =
     let p = c.before.before in
     let s = start p in
-    (place-lengths s.pre.0.laid s.args.r s.args.x s.pre.0.own p.place_of.result p.place_of.ensures, s.pre.1)
+    (place-lengths s.requires.0.laid s.args.r s.args.x s.requires.0.own p.place_of-p.result p.place_of-p.ensures, s.requires.1)
 
-pub tuple-hash-spec : {M : Type 1} → statement M
-tuple-hash-spec =
+pub tuple_hash_spec : {M : Type 1} → statement M
+tuple_hash_spec =
     tie.close
     (tie.spec
     (λ c κs. let s = c.before.before in (s.requires.0.laid.framed, few s))
-    (λ c. omega (arith, within c)) (λ c. omega (arith, within c)) (λ c. omega (arith, within c)) (λ c. omega (arith, within c))
-    (λ c. omega (arith, within c.before)) (λ c. omega (arith, within c.before)) (λ c. omega (arith, within c.before)) (λ c. omega (arith, within c.before))
+    (λ c. omega (arith, within c))
+    (λ c. omega (arith, within c))
+    (λ c. omega (arith, within c))
+    (λ c. omega (arith, within c))
+    (λ c. omega (arith, within c.before))
+    (λ c. omega (arith, within c.before))
+    (λ c. omega (arith, within c.before))
+    (λ c. omega (arith, within c.before))
     hash-in-requires
     (λ c. search rules))

@@ -16,7 +16,7 @@ use Rattle.enumeration.proofs.combinations.Statement.{statement}
 use Rattle.enumeration.proofs.combinations.Tie as tie
 
 module _ (c : tie.After-wide) where
-  abbrev asked : tie.After-enumerate
+  abbrev asked : tie.After-enumerate-a
   asked = c.before.before.before.before.before
 
   abbrev start : tie.Start
@@ -26,14 +26,14 @@ module _ (c : tie.After-wide) where
   network = network_of start.args.shape start.args.variables.now start.args.values.now
 
   abbrev found : List ℕ
-  found = asked.enumerate.last.1.1.1.1.1.0
+  found = asked.enumerate-a.last.1.1.1.1.1.0
 
   -- so many numbers are copied
-  numbers : c.before.listed.result * c.wide.result ≡ listed_in asked.enumerate.result * start.args.m
+  numbers : c.before.listed.result * c.wide.result ≡ listed_in asked.enumerate-a.result * start.args.m
   numbers = ap₂ (λ (n m : ℕ). n * m) c.before.listed.ensures c.wide.ensures.0
 
   room : (c.before.listed.result * c.wide.result ≤ length start.args.list.now) × (c.before.listed.result * c.wide.result ≤ max_member_list)
-  room = let f = fits network start.args.m start.args.list.now asked.enumerate.ensures in (omega (arith, numbers, f), omega (arith, numbers, f))
+  room = let f = fits network start.args.m start.args.list.now asked.enumerate-a.ensures in (omega (arith, numbers, f), omega (arith, numbers, f))
 
   sized : length found ≡ max_member_list
   sized = search rules
@@ -43,11 +43,11 @@ returns c =
     let p = c.before.before in
     let w = p.before in
     let s = start w in
-    ap (enumerated (asked w).enumerate.result) (p.paste.ensures ∙ ap (paste s.args.list.now 0 (found w)) (numbers w))
-    ∙ left (network w) s.args.m s.args.list.now (found w) (asked w).enumerate.ensures
+    ap (enumerated (asked w).enumerate-a.result) (p.paste.ensures ∙ ap (paste s.args.list.now 0 (found w)) (numbers w))
+    ∙ left (network w) s.args.m s.args.list.now (found w) (asked w).enumerate-a.ensures
 
-pub combinations-spec : {M : Type 1} → statement M
-combinations-spec =
+pub combinations_spec : {M : Type 1} → statement M
+combinations_spec =
     tie.close
     (tie.spec
     (λ c. search rules)

@@ -13,16 +13,16 @@ use Rattle.enumeration.proofs.Whole.{neighbours-of, near-mutual, whole-adds}
 use Rattle.enumeration.proofs.list_all.Statement.{statement}
 use Rattle.enumeration.proofs.list_all.Tie as tie
 
-abbrev start : tie.After-relation-count → tie.Start
+abbrev start : tie.After-relation_count-count → tie.Start
 start c = c.before.before.before.before
 
 abbrev given : tie.Start → Lists
 given s = lists (λ x. x.now) s.args.variables s.args.values s.args.starts
 
-counted : (c : tie.After-relation-count) → c.relation-count.result ≡ length (records_in (start c).args.starts.now)
-counted c = c.relation-count.ensures ∙ relation-count (start c).requires.0.framed
+counted : (c : tie.After-relation_count-count) → c.relation_count-count.result ≡ length (records_in (start c).args.starts.now)
+counted c = c.relation_count-count.ensures ∙ relation-count (start c).requires.0.framed
 
-few : (c : tie.After-relation-count) → c.relation-count.result ≤ max_relations
+few : (c : tie.After-relation_count-count) → c.relation_count-count.result ≤ max_relations
 few c = omega (arith, counted c, relations-few (start c).requires.0.framed)
 
 returns : tie.Need-returns
@@ -33,11 +33,11 @@ returns c =
     let k = m.before in
     let s = start k in
     let N = network_in (given s) in
-    let near = neighbours-of N k.relation-count.result (counted k) m.masks.result n.neighbours.result m.masks.ensures n.neighbours.ensures in
-    whole-adds N k.relation-count.result (counted k) n.neighbours.result (replicate 2 0) (replicate 4 0) s.args.m (faultless N s.pre.0.faultless) near e.extend.ensures
+    let near = neighbours-of N k.relation_count-count.result (counted k) m.masks.result n.neighbours-near.result m.masks.ensures n.neighbours-near.ensures in
+    whole-adds N k.relation_count-count.result (counted k) n.neighbours-near.result (replicate 2 0) (replicate 4 0) s.args.m (faultless N s.requires.0.faultless) near e.extend.ensures
 
-pub list-all-spec : {M : Type 1} → statement M
-list-all-spec =
+pub list_all_spec : {M : Type 1} → statement M
+list_all_spec =
     tie.close
     (tie.spec
     (λ c κs. search rules)
@@ -49,11 +49,11 @@ list-all-spec =
     let k = m.before in
     let s = start k in
     record {
-      both_ways = near-mutual m.masks.result n.neighbours.result k.relation-count.result n.neighbours.ensures;
+      both_ways = near-mutual m.masks.result n.neighbours-near.result k.relation_count-count.result n.neighbours-near.ensures;
       sized = refl;
-      two = omega (arith, s.pre.1.0);
-      most = s.pre.1.1;
-      choice = record { few = omega arith; low = omega arith; relations = few k; room = s.pre.2; under = omega arith };
+      two = omega (arith, s.requires.1.0);
+      most = s.requires.1.1;
+      choice = record { few = omega arith; low = omega arith; relations = few k; room = s.requires.2; under = omega arith };
     })
     (λ c. c.before.before.extend.ensures.long)
     returns)

@@ -12,7 +12,10 @@ returns : tie.Need-returns
 unfolding fit
 returns c =
     let a = c.before.before.args in
-    ap₂ (λ (x y : Bool). eqb a.a a.b || (x || y)) c.before.is_any.ensures c.is-any2.ensures
+    ap₂ (λ (x y : Bool). eqb a.a a.b || (x || y)) c.before.is_any.ensures c.is_any-2.ensures
 
 pub fit_spec : {M : Type 1} → statement M
-fit_spec = tie.close (tie.spec (λ c κs. search rules) (λ c κs. search rules) returns)
+fit_spec = tie.close (tie.spec
+    (λ c κs. search rules)
+    (λ c κs. search rules)
+    returns)

@@ -9,5 +9,6 @@ returns : tie.Need-returns
 unfolding is_any
 returns c = refl
 
-pub is-any-spec : {M : Type 1} → statement M
-is-any-spec = tie.close (tie.spec returns)
+pub is_any_spec : {M : Type 1} → statement M
+is_any_spec = tie.close (tie.spec
+    returns)

@@ -9,31 +9,34 @@ use Rattle.layout.proofs.place_of.Statement.{statement}
 use Rattle.layout.proofs.place_of.Tie as tie
 
 -- the width, and the product with it
-rises : (c : tie.After-variable-start2) → c.before.variable-start.result ≤ c.variable-start2.result
+rises : (c : tie.After-variable_start-scope_end) → c.before.variable_start-scope.result ≤ c.variable_start-scope_end.result
 rises c =
     let start = c.before.before in
-    omega (arith, c.before.variable-start.ensures.0, c.variable-start2.ensures.0, scope-rises start.requires.0 start.args.r start.requires.1)
+    omega (arith, c.before.variable_start-scope.ensures.0, c.variable_start-scope_end.ensures.0, scope-rises start.requires.0 start.args.r start.requires.1)
 
-product : (c : tie.After-wide) → c.wide.result * (c.before.before.variable-start2.result - c.before.before.before.variable-start.result) ≤ 65535 * 65535
-product c = mul-le-mul {n₂ = 65535} {m₂ = 65535} (omega (arith, c.wide.ensures.1)) (omega (arith, c.before.before.variable-start2.ensures.1))
+product : (c : tie.After-wide) → c.wide.result * (c.before.before.variable_start-scope_end.result - c.before.before.before.variable_start-scope.result) ≤ 65535 * 65535
+product c = mul-le-mul {n₂ = 65535} {m₂ = 65535} (omega (arith, c.wide.ensures.1)) (omega (arith, c.before.before.variable_start-scope_end.ensures.1))
 
 returns : tie.Need-returns
 returns c =
     simp (
-      c.before.before.before.variable-start.ensures.0,
-      c.before.before.variable-start2.ensures.0,
-      c.before.value-start.ensures.0,
+      c.before.before.before.variable_start-scope.ensures.0,
+      c.before.before.variable_start-scope_end.ensures.0,
+      c.before.value_start.ensures.0,
       c.wide.ensures.0,
     )
 
-pub place-of-spec : {M : Type 1} → statement M
-place-of-spec =
+pub place_of_spec : {M : Type 1} → statement M
+place_of_spec =
     tie.close
     (tie.spec
-    (λ c κs. search rules) (λ c. search rules) (λ c κs. search rules)
+    (λ c κs. search rules)
+    (λ c. search rules)
+    (λ c κs. search rules)
     (λ c. rises c)
-    (λ c κs. search rules) (λ c κs. search rules)
+    (λ c κs. search rules)
+    (λ c κs. search rules)
     (λ c. omega (arith, product c))
-    (λ c. omega (arith, product c, c.before.value-start.ensures.1))
-    (λ c. omega (arith, product c, c.before.value-start.ensures.1, c.before.before.variable-start2.ensures.1))
+    (λ c. omega (arith, product c, c.before.value_start.ensures.1))
+    (λ c. omega (arith, product c, c.before.value_start.ensures.1, c.before.before.variable_start-scope_end.ensures.1))
     returns)

@@ -21,10 +21,10 @@ use Rattle.layout.proofs.put.Tie as tie
 abbrev passed : List ℕ → ℕ → ℕ → ℕ → List ℕ
 passed numbers k x j = cond (ltb k j) (set numbers k x) numbers
 
-abbrev invariant-loop : tie.invariant-loop
+abbrev invariant-loop : tie.invariant-loop-j
 invariant-loop k x t₀ j₀ t j = (j ≤ 4) × (t ≡ passed t₀ k x j)
 
-abbrev decreases-loop : tie.decreases-loop
+abbrev decreases-loop : tie.decreases-loop-j
 decreases-loop k x t₀ j₀ t j = 4 - j
 
 module _ (numbers : List ℕ) (k x : ℕ) where
@@ -58,16 +58,19 @@ put_spec =
     invariant-loop
     decreases-loop
     (λ c. let a = c.args in (omega arith, sym (ap (λ (b : Bool). cond b (set a.numbers a.k a.x) a.numbers) (le-ltb a.k 0 (omega arith)))))
-    (λ c. search rules) (λ c. search rules) (λ c. search rules) (λ c. search rules)
+    (λ c. search rules)
+    (λ c. search rules)
+    (λ c. search rules)
+    (λ c. search rules)
     (λ c.
     let i = c.before in
     let a = i.before.before.args in
-    let l = i.before.loop in
+    let l = i.before.loop-j in
     let now = passed a.numbers a.k a.x in
-    (omega (arith, i.loop-test.true), ⊎_elim {C = c.if1.t ≡ now (l.j + 1)} (λ w. w.1 ∙ ap (λ (u : List ℕ). set u l.j a.x) l.invariant.1 ∙ passed-own a.numbers a.k a.x l.j w.0.taken) (λ w. w.1 ∙ l.invariant.1 ∙ passed-other a.numbers a.k a.x l.j w.0.left) c.if1.branch))
+    (omega (arith, i.loop-j-test.true), ⊎_elim {C = c.if-j-k.t ≡ now (l.j + 1)} (λ w. w.1 ∙ ap (λ (u : List ℕ). set u l.j a.x) l.invariant.1 ∙ passed-own a.numbers a.k a.x l.j w.0.taken) (λ w. w.1 ∙ l.invariant.1 ∙ passed-other a.numbers a.k a.x l.j w.0.left) c.if-j-k.branch-raw))
     (λ c.
     let s = c.before.before in
     let a = s.args in
-    let l = c.before.loop in
-    let four : l.j ≡ 4 = omega (arith, c.loop-test.false, l.invariant.0) in
+    let l = c.before.loop-j in
+    let four : l.j ≡ 4 = omega (arith, c.loop-j-test.false, l.invariant.0) in
     l.invariant.1 ∙ ap (passed a.numbers a.k a.x) four ∙ passed-all a.numbers a.k a.x (good_length (e_int w16) 4 a.numbers _ s.well-formed.0)))

@@ -10,6 +10,11 @@ use Rattle.layout.proofs.tuple_start.Tie as tie
 returns : tie.Need-returns
 returns c = ap (λ (k : ℕ). get_or c.before.before.args.starts.now (65 + k) 0) c.before.wide.ensures.0
 
-pub tuple-start-spec : {M : Type 1} → statement M
-tuple-start-spec =
-    tie.close (tie.spec (λ c κs. search rules) (λ c. search rules) (λ c. search rules) (λ c. search rules) returns)
+pub tuple_start_spec : {M : Type 1} → statement M
+tuple_start_spec =
+    tie.close (tie.spec
+    (λ c κs. search rules)
+    (λ c. search rules)
+    (λ c. search rules)
+    (λ c. search rules)
+    returns)

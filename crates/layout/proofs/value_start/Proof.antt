@@ -9,12 +9,16 @@ use Rattle.layout.proofs.value_start.Tie as tie
 
 returns : tie.Need-returns
 returns c =
-    (c.wide2.ensures.0 ∙ ap (λ (k : ℕ). get_or c.before.before.before.args.starts.now (130 + k) 0) c.before.before.wide.ensures.0, c.wide2.ensures.1)
+    (c.wide-2.ensures.0 ∙ ap (λ (k : ℕ). get_or c.before.before.before.args.starts.now (130 + k) 0) c.before.before.wide.ensures.0, c.wide-2.ensures.1)
 
-pub value-start-spec : {M : Type 1} → statement M
-value-start-spec =
+pub value_start_spec : {M : Type 1} → statement M
+value_start_spec =
     tie.close
     (tie.spec
-    (λ c. search rules) (λ c κs. search rules) (λ c. search rules) (λ c. search rules) (λ c. search rules)
+    (λ c. search rules)
+    (λ c κs. search rules)
+    (λ c. search rules)
+    (λ c. search rules)
+    (λ c. search rules)
     (λ c κs. search rules)
     returns)

@@ -9,9 +9,14 @@ use Rattle.layout.proofs.variable_start.Tie as tie
 
 returns : tie.Need-returns
 returns c =
-    (c.wide2.ensures.0 ∙ ap (λ (k : ℕ). get_or c.before.before.before.args.starts.now k 0) c.before.before.wide.ensures.0, c.wide2.ensures.1)
+    (c.wide-2.ensures.0 ∙ ap (λ (k : ℕ). get_or c.before.before.before.args.starts.now k 0) c.before.before.wide.ensures.0, c.wide-2.ensures.1)
 
-pub variable-start-spec : {M : Type 1} → statement M
-variable-start-spec =
+pub variable_start_spec : {M : Type 1} → statement M
+variable_start_spec =
     tie.close
-    (tie.spec (λ c κs. search rules) (λ c. search rules) (λ c. search rules) (λ c κs. search rules) returns)
+    (tie.spec
+    (λ c κs. search rules)
+    (λ c. search rules)
+    (λ c. search rules)
+    (λ c κs. search rules)
+    returns)

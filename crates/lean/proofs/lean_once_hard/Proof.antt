@@ -12,13 +12,13 @@ stays s =
     let a = s.args in
     lean-same (record { variables = a.variables.now; values = a.values.now; starts = a.starts.now }) a.members.now a.place a.words.now s.requires.0
 
-pub lean-once-hard-spec : {M : Type 1} → statement M
-lean-once-hard-spec =
+pub lean_once_hard_spec : {M : Type 1} → statement M
+lean_once_hard_spec =
     tie.close
     (tie.spec
     (λ c κs. search rules)
     (λ c. stays c.before.before.before.before.before)
     (λ c. search rules)
     (λ c κs. c.before.before.before.before.before.before.requires)
-    (λ c. c.without-doubles.ensures)
+    (λ c. c.without_doubles.ensures)
     (λ c. stays c.before.before.before.before.before))

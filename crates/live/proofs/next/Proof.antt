@@ -16,10 +16,10 @@ use Rattle.live.proofs.Bits.{is_set-shr, is_set-high, is_set-below, is_live-shr,
 use Rattle.live.proofs.next.Statement.{statement}
 use Rattle.live.proofs.next.Tie as tie
 
-abbrev invariant-loop : tie.invariant-loop
+abbrev invariant-loop : tie.invariant-loop-at
 invariant-loop words start end at₀ at = next_live words at end ≡ next_live words start end
 
-abbrev decreases-loop : tie.decreases-loop
+abbrev decreases-loop : tie.decreases-loop-at
 decreases-loop words start end at₀ at = end - at
 
 -- the word of id `at`, from its bit on
@@ -58,52 +58,58 @@ module _ (ws : List ℕ) (at end : ℕ) where
     found-past : end ≤ at + zeros ws at → next_live ws at end ≡ end
     found-past h = found_first ∙ next_live-past ws (at + zeros ws at) end h
 
-loop-holds : tie.Need-loop-init invariant-loop decreases-loop
+loop-holds : tie.Need-loop-at-init invariant-loop decreases-loop
 loop-holds c = refl
 
-cast-g : tie.Need-overflow-cast-g invariant-loop decreases-loop
-cast-g c = omega (arith, trailing_le 64 (rest c.before.before.before.before.args.words.now c.before.before.before.loop.at))
+cast-g : tie.Need-overflow_cast-g invariant-loop decreases-loop
+cast-g c = omega (arith, trailing_le 64 (rest c.before.before.before.before.args.words.now c.before.before.before.loop-at.at))
 
-add-g : tie.Need-overflow-add-g invariant-loop decreases-loop
-add-g c = omega (arith, trailing_le 64 (rest c.before.before.before.before.args.words.now c.before.before.before.loop.at))
+add-g : tie.Need-overflow_add-g invariant-loop decreases-loop
+add-g c = omega (arith, trailing_le 64 (rest c.before.before.before.before.args.words.now c.before.before.before.loop-at.at))
 
-returns : tie.Need-returns invariant-loop decreases-loop
+returns : tie.Need-returns-then-g-end invariant-loop decreases-loop
 returns c =
     let a = c.before.before.before.before.before.args in
-    let l = c.before.before.before.before.loop in
-    let f = (c.before.before.shared-slice-known.given (l.at / 64)).fits in
-    sym (found_here a.words.now l.at a.end f c.before.if1.true c.if2.true) ∙ l.invariant
+    let l = c.before.before.before.before.loop-at in
+    let f = (c.before.before.shared_slice_known-1.given (l.at / 64)).fits in
+    sym (found_here a.words.now l.at a.end f c.before.if-w-ne0.true c.if-g-end.true) ∙ l.invariant
 
-returns-2 : tie.Need-returns-2 invariant-loop decreases-loop
+returns-2 : tie.Need-returns-else-g-end invariant-loop decreases-loop
 returns-2 c =
     let a = c.before.before.before.before.before.args in
-    let l = c.before.before.before.before.loop in
-    let f = (c.before.before.shared-slice-known.given (l.at / 64)).fits in
-    sym (found-past a.words.now l.at a.end f c.before.if1.true c.if2.false) ∙ l.invariant
+    let l = c.before.before.before.before.loop-at in
+    let f = (c.before.before.shared_slice_known-1.given (l.at / 64)).fits in
+    sym (found-past a.words.now l.at a.end f c.before.if-w-ne0.true c.if-g-end.false) ∙ l.invariant
 
-loop-again : tie.Need-loop-preserved invariant-loop decreases-loop
+loop-again : tie.Need-loop-at-preserved invariant-loop decreases-loop
 loop-again c =
-    let l = c.before.before.before.loop in
+    let l = c.before.before.before.loop-at in
     let a = c.before.before.before.before.args in
-    sym (rest-empty a.words.now l.at a.end c.if1.false) ∙ l.invariant
+    sym (rest-empty a.words.now l.at a.end c.if-w-ne0.false) ∙ l.invariant
 
-returns-3 : tie.Need-returns-3 invariant-loop decreases-loop
+returns-3 : tie.Need-returns invariant-loop decreases-loop
 returns-3 c =
     let a = c.before.before.args in
-    sym (next_live-past a.words.now c.before.loop.at a.end c.loop-test.false) ∙ c.before.loop.invariant
+    sym (next_live-past a.words.now c.before.loop-at.at a.end c.loop-at-test.false) ∙ c.before.loop-at.invariant
 
-pub next-spec : {M : Type 1} → statement M
-next-spec =
+pub next_spec : {M : Type 1} → statement M
+next_spec =
     tie.close
     (tie.spec
     invariant-loop
     decreases-loop
     loop-holds
-    (λ c. search rules) (λ c. search rules) (λ c. search rules) (λ c. search rules) (λ c. search rules)
+    (λ c. search rules)
+    (λ c. search rules)
+    (λ c. search rules)
+    (λ c. search rules)
+    (λ c. search rules)
     cast-g
     add-g
     returns
     returns-2
-    (λ c. search rules) (λ c. search rules) (λ c. search rules)
+    (λ c. search rules)
+    (λ c. search rules)
+    (λ c. search rules)
     loop-again
     returns-3)

@@ -15,12 +15,18 @@ unfolding raised
 returns c =
     let ws = c.before.args.words.now in
     let g = c.before.args.g in
-    ap (set ws (g / 64)) (word-raise (get_or ws (g / 64) 0) (g % 64) (c.slice-known.given (g / 64)).fits (omega arith))
+    ap (set ws (g / 64)) (word-raise (get_or ws (g / 64) 0) (g % 64) (c.slice_known-1.given (g / 64)).fits (omega arith))
 
 pub set_spec : {M : Type 1} → statement M
 set_spec =
     tie.close
     (tie.spec
-    (λ c. search rules) (λ c. search rules) (λ c. search rules) (λ c. search rules) (λ c. search rules)
-    (λ c. search rules) (λ c. search rules) (λ c. search rules)
+    (λ c. search rules)
+    (λ c. search rules)
+    (λ c. search rules)
+    (λ c. search rules)
+    (λ c. search rules)
+    (λ c. search rules)
+    (λ c. search rules)
+    (λ c. search rules)
     returns)

@@ -15,58 +15,58 @@ use Rattle.moves.proofs.Replies.{fault-of, reply-network, reply-wide, reply-shor
 use Rattle.moves.proofs.narrow.Statement.{statement}
 use Rattle.moves.proofs.narrow.Tie as tie
 
-module _ (c : tie.After-fault-on) where
+module _ (c : tie.After-fault_on-f) where
   abbrev start : tie.Start
   start = c.before.before.before.before
 
   abbrev network : Network
   network = network_of start.args.shape start.args.variables.now start.args.values.now
 
-  tested : c.fault-on.result ≡ refusal (first_fault (network_faults network))
-  tested = fault-of network c.fault-on.result c.fault-on.ensures
+  tested : c.fault_on-f.result ≡ refusal (first_fault (network_faults network))
+  tested = fault-of network c.fault_on-f.result c.fault_on-f.ensures
 
-returns : tie.Need-returns
+returns : tie.Need-returns-then-f-ne0
 returns c =
     let f = c.before in
-    reply-network narrow (network f) (start f).args.target.now f.fault-on.result (tested f) c.if1.true
+    reply-network narrow (network f) (start f).args.target.now f.fault_on-f.result (tested f) c.if-f-ne0.true
 
-sound : (c : tie.Else1) → 0 ≡ refusal (first_fault (network_faults (network c.before)))
-sound c = sym c.if1.false ∙ tested c.before
+sound : (c : tie.Else-f-ne0) → 0 ≡ refusal (first_fault (network_faults (network c.before)))
+sound c = sym c.if-f-ne0.false ∙ tested c.before
 
 -- the test of the values
-module _ (c : tie.After-any-too-wide) where
-  abbrev passed : tie.Else1
+module _ (c : tie.After-any_too_wide) where
+  abbrev passed : tie.Else-f-ne0
   passed = c.before
 
-  abbrev fault : tie.After-fault-on
+  abbrev fault : tie.After-fault_on-f
   fault = passed.before
 
-returns-2 : tie.Need-returns-2
+returns-2 : tie.Need-returns-then-any_too_wide
 returns-2 c =
     let t = c.before in
     let f = fault t in
-    reply-wide narrow (network f) (start f).args.target.now (sound (passed t)) (rw (sym t.any-too-wide.ensures ∙ c.if2.true) refl)
+    reply-wide narrow (network f) (start f).args.target.now (sound (passed t)) (rw (sym t.any_too_wide.ensures ∙ c.if-any_too_wide.true) refl)
 
-fit : (c : tie.Else2) → first_fault (too_wide_faults narrow (network (fault c.before)).values) ≡ none
-fit c = rw (sym c.before.any-too-wide.ensures ∙ c.if2.false) refl
+fit : (c : tie.Else-any_too_wide) → first_fault (too_wide_faults narrow (network (fault c.before)).values) ≡ none
+fit c = rw (sym c.before.any_too_wide.ensures ∙ c.if-any_too_wide.false) refl
 
-returns-3 : tie.Need-returns-3
+returns-3 : tie.Need-returns-then-target-values
 returns-3 c =
     let t = c.before.before in
     let f = fault t in
-    reply-short narrow (network f) (start f).args.target.now (sound (passed t)) (fit c.before) c.if3.true
+    reply-short narrow (network f) (start f).args.target.now (sound (passed t)) (fit c.before) c.if-target-values.true
 
-returns-4 : tie.Need-returns-4
+returns-4 : tie.Need-returns
 returns-4 c =
     let put = c.before.before in
     let enough = put.before.before in
     let t = enough.before.before in
     let f = fault t in
-    ap (λ (after : List ℕ). record { answer = (0, 0); target = after }) put.put-narrowed.ensures
-    ∙ reply-done narrow (network f) (start f).args.target.now (sound (passed t)) (fit enough.before) enough.if3.false
+    ap (λ (after : List ℕ). record { answer = (0, 0); target = after }) put.put_narrowed.ensures
+    ∙ reply-done narrow (network f) (start f).args.target.now (sound (passed t)) (fit enough.before) enough.if-target-values.false
 
-pub narrow-spec : {M : Type 1} → statement M
-narrow-spec =
+pub narrow_spec : {M : Type 1} → statement M
+narrow_spec =
     tie.close
     (tie.spec
     (λ c κs. search rules)

@@ -13,19 +13,19 @@ use Rattle.model.proofs.Moves.{not_wide}
 use Rattle.moves.proofs.narrowed.Statement.{statement}
 use Rattle.moves.proofs.narrowed.Tie as tie
 
-returns : tie.Need-returns
+returns : tie.Need-returns-then-is_any
 unfolding narrowed
-returns c = rw (sym c.before.is_any.ensures ∙ c.if1.true) refl
+returns c = rw (sym c.before.is_any.ensures ∙ c.if-is_any.true) refl
 
-other : (c : tie.Else1) → is_any c.before.before.args.v ≡ false
-other c = sym c.before.is_any.ensures ∙ c.if1.false
+other : (c : tie.Else-is_any) → is_any c.before.before.args.v ≡ false
+other c = sym c.before.is_any.ensures ∙ c.if-is_any.false
 
-returns-2 : tie.Need-returns-2
+returns-2 : tie.Need-returns
 unfolding narrowed
 returns-2 c = rw (other c) refl
 
-pub narrowed-spec : {M : Type 1} → statement M
-narrowed-spec =
+pub narrowed_spec : {M : Type 1} → statement M
+narrowed_spec =
     tie.close
     (tie.spec
     (λ c κs. search rules)

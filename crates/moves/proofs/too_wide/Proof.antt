@@ -6,11 +6,14 @@ use Rattle.model.specs.Moves.{old_any}
 use Rattle.moves.proofs.too_wide.Statement.{statement}
 use Rattle.moves.proofs.too_wide.Tie as tie
 
-returns : tie.Need-returns
-returns c = simp (lt-leb old_any _ c.if1.true)
+returns : tie.Need-returns-then-v
+returns c = simp (lt-leb old_any _ c.if-v.true)
 
-returns-2 : tie.Need-returns-2
-returns-2 c = simp (le-leb old_any _ c.if1.false)
+returns-2 : tie.Need-returns
+returns-2 c = simp (le-leb old_any _ c.if-v.false)
 
-pub too-wide-spec : {M : Type 1} → statement M
-too-wide-spec = tie.close (tie.spec (λ c. search rules) returns returns-2)
+pub too_wide_spec : {M : Type 1} → statement M
+too_wide_spec = tie.close (tie.spec
+    (λ c. search rules)
+    returns
+    returns-2)

@@ -6,13 +6,15 @@ use Rattle.model.specs.Moves.{old_any, widened}
 use Rattle.moves.proofs.widened.Statement.{statement}
 use Rattle.moves.proofs.widened.Tie as tie
 
-returns : tie.Need-returns
+returns : tie.Need-returns-then-v-eq-OLD_ANY
 unfolding widened
-returns c = rw (eq-eqb _ old_any c.if1.true) refl
+returns c = rw (eq-eqb _ old_any c.if-v-eq-OLD_ANY.true) refl
 
-returns-2 : tie.Need-returns-2
+returns-2 : tie.Need-returns
 unfolding widened
-returns-2 c = rw (ne_eqb _ old_any c.if1.false) refl
+returns-2 c = rw (ne_eqb _ old_any c.if-v-eq-OLD_ANY.false) refl
 
-pub widened-spec : {M : Type 1} → statement M
-widened-spec = tie.close (tie.spec returns returns-2)
+pub widened_spec : {M : Type 1} → statement M
+widened_spec = tie.close (tie.spec
+    returns
+    returns-2)

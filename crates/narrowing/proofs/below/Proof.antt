@@ -9,36 +9,37 @@ use Rattle.narrowing.proofs.Words.{below_none, below_all, below-some}
 use Rattle.narrowing.proofs.below.Statement.{statement}
 use Rattle.narrowing.proofs.below.Tie as tie
 
-returns : tie.Need-returns
+returns : tie.Need-returns-then-bound-base
 returns c =
     let a = c.before.args in
-    (omega arith, λ j l. below_none a.base a.bound j c.if1.true)
+    (omega arith, λ j l. below_none a.base a.bound j c.if-bound-base.true)
 
-returns-2 : tie.Need-returns-2
+returns-2 : tie.Need-returns-then-k-ge64
 returns-2 c =
     let a = c.before.before.args in
-    (omega arith, λ j l. below_all a.base a.bound j c.if2.true l)
+    (omega arith, λ j l. below_all a.base a.bound j c.if-k-ge64.true l)
 
-sub-result : tie.Need-overflow-sub-result
+sub-result : tie.Need-overflow_sub-result
 sub-result c =
     let k = c.before.before.args.bound - c.before.before.args.base in
-    rw (one_shl k c.if2.false) (pow_pos k)
+    rw (one_shl k c.if-k-ge64.false) (pow_pos k)
 
-returns-3 : tie.Need-returns-3
+returns-3 : tie.Need-returns
 returns-3 c =
     let a = c.before.before.args in
     let k = a.bound - a.base in (
-      rw (one_shl k c.if2.false) (omega (arith, pow-lt c.if2.false)),
-      λ j l. below-some a.base a.bound j c.before.if1.false c.if2.false,
+      rw (one_shl k c.if-k-ge64.false) (omega (arith, pow-lt c.if-k-ge64.false)),
+      λ j l. below-some a.base a.bound j c.before.if-bound-base.false c.if-k-ge64.false,
     )
 
-pub below-spec : {M : Type 1} → statement M
-below-spec =
+pub below_spec : {M : Type 1} → statement M
+below_spec =
     tie.close
     (tie.spec
     returns
     (λ c. search rules)
     returns-2
-    (λ c. search rules) (λ c. search rules)
+    (λ c. search rules)
+    (λ c. search rules)
     sub-result
     returns-3)

@@ -8,15 +8,17 @@ use Rattle.narrowing.proofs.between.Tie as tie
 
 returns : tie.Need-returns
 returns c =
-    let high = c.below2 in
+    let high = c.below-2 in
     let low = c.before.below in
     let a = c.before.before.args in
     between-bits a.i a.start a.end low.result high.result low.ensures.0 low.ensures.1 high.ensures.0 high.ensures.1
 
-pub between-spec : {M : Type 1} → statement M
-between-spec =
+pub between_spec : {M : Type 1} → statement M
+between_spec =
     tie.close
     (tie.spec
-    (λ c. omega (arith, c.requires)) (λ c. omega (arith, c.requires))
-    (λ c κs. search rules) (λ c κs. search rules)
+    (λ c. omega (arith, c.requires))
+    (λ c. omega (arith, c.requires))
+    (λ c κs. search rules)
+    (λ c κs. search rules)
     returns)

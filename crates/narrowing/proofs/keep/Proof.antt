@@ -11,7 +11,7 @@ use Rattle.narrowing.proofs.Words.{Edges, edges-rise, kept-none, kept-only, kept
 use Rattle.narrowing.proofs.keep.Statement.{statement}
 use Rattle.narrowing.proofs.keep.Tie as tie
 
-module _ (w : tie.After-wide2) where
+module _ (w : tie.After-wide-last) where
   abbrev start : tie.Start
   start = w.before.before.before.before
 
@@ -20,40 +20,40 @@ module _ (w : tie.After-wide2) where
 
   -- the words of the first id and of the last one
   abbrev i : ℕ
-  i = w.before.wide.result
+  i = w.before.wide-i.result
 
   abbrev last : ℕ
-  last = w.wide2.result
+  last = w.wide-last.result
 
   edges : Edges start.args.start start.args.end i last
-  edges = record { some = w.before.before.if1.left; first = omega (arith, w.before.wide.ensures.0); final = omega (arith, w.wide2.ensures.0) }
+  edges = record { some = w.before.before.if-end-start.left; first = omega (arith, w.before.wide-i.ensures.0); final = omega (arith, w.wide-last.ensures.0) }
 
   -- their words have a place in the row
   inside : start.args.first + (last + 1) ≤ length start.args.rows.now
-  inside = omega (arith, edges, start.pre.1.1)
+  inside = omega (arith, edges, start.requires.1.1)
 
   short : last < 64
-  short = omega (arith, edges, start.pre.1.0)
+  short = omega (arith, edges, start.requires.1.0)
 
-returns : tie.Need-returns
+returns : tie.Need-returns-then-end-start
 returns c =
     let s = c.before.before in
     let a = s.args in
-    (s.requires.0, kept-none (row_bit a.rows.now a.first) a.start a.end a.words.now c.if1.true)
+    (s.requires.0, kept-none (row_bit a.rows.now a.first) a.start a.end a.words.now c.if-end-start.true)
 
-returns-2 : tie.Need-returns-2
+returns-2 : tie.Need-returns-then-i-last
 returns-2 c =
     let between = c.before.before in
     let more = between.before.before in
     let one = more.before in
     let w = one.before.before in
-    (c.keep-word2.ensures.0, kept-edges (test w) (edges w) (start w).args.words.now _ _ _ more.if2.true one.keep_word.ensures.1 between.keep-words.ensures.1 c.keep-word2.ensures.1)
+    (c.keep_word-then-i-last.ensures.0, kept-edges (test w) (edges w) (start w).args.words.now _ _ _ more.if-i-last.true one.keep_word.ensures.1 between.keep_words.ensures.1 c.keep_word-then-i-last.ensures.1)
 
-returns-3 : tie.Need-returns-3
+returns-3 : tie.Need-returns-else-i-last
 returns-3 c =
     let one = c.before in
     let w = one.before.before in
-    let only : i w ≡ last w = omega (arith, edges-rise (edges w), c.if2.false) in
+    let only : i w ≡ last w = omega (arith, edges-rise (edges w), c.if-i-last.false) in
     (one.keep_word.ensures.0, kept-only (test w) (edges w) (start w).args.words.now _ only one.keep_word.ensures.1)
 
 pub keep_spec : {M : Type 1} → statement M
@@ -61,10 +61,12 @@ keep_spec =
     tie.close
     (tie.spec
     returns
-    (λ c κs. search rules) (λ c. search rules) (λ c κs. search rules)
+    (λ c κs. search rules)
+    (λ c. search rules)
+    (λ c κs. search rules)
     (λ c κs. let w = c.before in let n = inside w in let r = edges-rise (edges w) in ((start w).requires.0, (omega arith, omega (arith, short w))))
     (λ c. search rules)
-    (λ c κs. let w = c.before.before.before.before in let n = inside w in (c.before.before.keep_word.ensures.0, (omega arith, (omega (arith, c.before.if2.true), omega (arith, short w)))))
-    (λ c κs. let w = c.before.before.before.before.before.before in let n = inside w in (c.before.keep-words.ensures.0, (omega arith, short w)))
+    (λ c κs. let w = c.before.before.before.before in let n = inside w in (c.before.before.keep_word.ensures.0, (omega arith, (omega (arith, c.before.if-i-last.true), omega (arith, short w)))))
+    (λ c κs. let w = c.before.before.before.before.before.before in let n = inside w in (c.before.keep_words.ensures.0, (omega arith, short w)))
     returns-2
     returns-3)

@@ -28,10 +28,16 @@ returns c =
           (stays_at a.rows.now a.first a.start a.end a.i mask.result j mask.ensures l)),
     )
 
-pub keep-word-spec : {M : Type 1} → statement M
-keep-word-spec =
+pub keep_word_spec : {M : Type 1} → statement M
+keep_word_spec =
     tie.close
     (tie.spec
-    (λ c. search rules) (λ c. search rules) (λ c κs. search rules)
-    (λ c. search rules) (λ c. search rules) (λ c. search rules) (λ c. search rules) (λ c. search rules)
+    (λ c. search rules)
+    (λ c. search rules)
+    (λ c κs. search rules)
+    (λ c. search rules)
+    (λ c. search rules)
+    (λ c. search rules)
+    (λ c. search rules)
+    (λ c. search rules)
     returns)

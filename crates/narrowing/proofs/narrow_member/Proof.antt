@@ -16,7 +16,7 @@ use Rattle.narrowing.proofs.Narrowing.{IdsOf, ids-of, agreeing-none, kept-agreei
 use Rattle.narrowing.proofs.narrow_member.Statement.{statement}
 use Rattle.narrowing.proofs.narrow_member.Tie as tie
 
-module _ (c : tie.After-tuple-start2) where
+module _ (c : tie.After-tuple_start-end) where
   abbrev start : tie.Start
   start = c.before.before.before.before
 
@@ -24,29 +24,29 @@ module _ (c : tie.After-tuple-start2) where
   L = record { variables = start.args.variables.now; values = start.args.values.now; starts = start.args.starts.now }
 
   abbrev laid : SoundLists L
-  laid = start.pre.1.0.laid
+  laid = start.requires.1.0.laid
 
   abbrev s : ℕ
   s = start.args.s
 
   abbrev from-id : ℕ
-  from-id = c.before.tuple-start.result
+  from-id = c.before.tuple_start-start.result
 
   abbrev to-id : ℕ
-  to-id = c.tuple-start2.result
+  to-id = c.tuple_start-end.result
 
   own-ids : IdsOf (network_in L) start.args.index.now s from-id to-id
-  own-ids = ids-of laid start.pre.1.0.indexed s _ _ start.pre.1.1 c.before.tuple-start.ensures c.tuple-start2.ensures
+  own-ids = ids-of laid start.requires.1.0.indexed s _ _ start.requires.1.1 c.before.tuple_start-start.ensures c.tuple_start-end.ensures
 
   -- the relation of the tuple
   own : start.args.r ≤ 63
-  own = omega (arith, below-limit laid start.args.r start.args.x start.pre.1.0.own)
+  own = omega (arith, below-limit laid start.args.r start.args.x start.requires.1.0.own)
 
   bounds : (from-id ≤ to-id) × (to-id ≤ 64 * length start.args.words.now) × (to-id ≤ 4096)
-  bounds = (omega (arith, own-ids), omega (arith, own-ids.bits.1, start.pre.0), own-ids.bits.1)
+  bounds = (omega (arith, own-ids), omega (arith, own-ids.bits.1, start.requires.0), own-ids.bits.1)
 
 -- they share no variable
-returns : tie.Need-returns
+returns : tie.Need-returns-then-scope_bits-eq0
 returns c =
     let w = c.before.before.before.before.before.before in
     let a = (start w).args in
@@ -60,42 +60,44 @@ returns c =
       ),
     )
 
-abbrev ids : tie.After-rows-for → tie.After-tuple-start2
+abbrev ids : tie.After-rows_for-n → tie.After-tuple_start-end
 ids c = c.before.before.before.before.before
 
-keep-rows-requires : tie.Need-keep-rows-requires
+keep-rows-requires : tie.Need-keep_rows-requires
 keep-rows-requires c κs =
     let found = c.before.before in
     let w = ids found in
-    let p = (start w).pre in
-    (p.0, (rows-for-within (laid w) p.1.0.indexed (start w).args.r (start w).args.x (s w) p.1.1 found.rows-for.ensures, (own-ids w).bits))
+    let p = (start w).requires in
+    (p.0, (rows-for-within (laid w) p.1.0.indexed (start w).args.r (start w).args.x (s w) p.1.1 found.rows_for-n.ensures, (own-ids w).bits))
 
-returns-2 : tie.Need-returns-2
+returns-2 : tie.Need-returns
 returns-2 c =
     let found = c.before.before.before in
     let w = ids found in
-    let p = (start w).pre in
+    let p = (start w).requires in
     let a = (start w).args in
     let N = network_in (L w) in
-    let left = c.keep-rows.result in
-    let rows = found.rows-for.new.1.1.1.1.1.1.1.0 in
-    let kept = c.keep-rows.ensures in (
+    let left = c.keep_rows.result in
+    let rows = found.rows_for-n.new.1.1.1.1.1.1.1.0 in
+    let kept = c.keep_rows.ensures in (
       kept.long,
       (
-        kept-agreeing N a.s (from-id w) (to-id w) (own-ids w).begin (own-ids w).stop a.r a.x (in_rows a.index.now rows found.rows-for.result) a.words.now _
-            (λ z h g. agreeing-rows (laid w) p.1.0.indexed a.r a.x a.s z p.1.0.own h g found.rows-for.ensures)
+        kept-agreeing N a.s (from-id w) (to-id w) (own-ids w).begin (own-ids w).stop a.r a.x (in_rows a.index.now rows found.rows_for-n.result) a.words.now _
+            (λ z h g. agreeing-rows (laid w) p.1.0.indexed a.r a.x a.s z p.1.0.own h g found.rows_for-n.ensures)
             kept.kept,
         λ e. dead-none N a.s (from-id w) (to-id w) (own-ids w).begin (own-ids w).stop _ (kept.none (eqb-true left 0 (not-false (eqb left 0) e))),
       ),
     )
 
-pub narrow-member-spec : {M : Type 1} → statement M
-narrow-member-spec =
+pub narrow_member_spec : {M : Type 1} → statement M
+narrow_member_spec =
     tie.close
     (tie.spec
-    (λ c κs. search rules) (λ c. search rules) (λ c κs. search rules)
+    (λ c κs. search rules)
+    (λ c. search rules)
+    (λ c κs. search rules)
     (λ c κs. omega (arith, own c))
-    (λ c κs. (start c.before).pre.1.1)
+    (λ c κs. (start c.before).requires.1.1)
     (λ c κs. bounds c.before.before.before.before.before)
     returns
     (λ c κs. search rules)

@@ -16,16 +16,16 @@ use Rattle.narrowing.proofs.Narrowing.{narrowed_none, narrowed-on, narrowed-one}
 use Rattle.narrowing.proofs.narrow_members.Statement.{statement}
 use Rattle.narrowing.proofs.narrow_members.Tie as tie
 
-abbrev invariant-loop : tie.invariant-loop
+abbrev invariant-loop : tie.invariant-loop-j
 invariant-loop variables values starts index words₀ members place k r x j₀ words j =
     let N = network_in (record { variables = variables; values = values; starts = starts }) in
     (k ≤ j) × ((length words ≡ 64) × Narrowed N (first_id N r + x) words₀ words)
 
-abbrev decreases-loop : tie.decreases-loop
+abbrev decreases-loop : tie.decreases-loop-j
 decreases-loop variables values starts index words₀ members place k r x j₀ words j =
     length members - j
 
-abbrev start : tie.At-loop invariant-loop decreases-loop → tie.Start invariant-loop decreases-loop
+abbrev start : tie.At-loop-j invariant-loop decreases-loop → tie.Start invariant-loop decreases-loop
 start c = c.before.before.before.before
 
 abbrev network : tie.Start invariant-loop decreases-loop → Network
@@ -36,90 +36,92 @@ abbrev own : tie.Start invariant-loop decreases-loop → ℕ
 own s = first_id (network s) s.args.r + s.args.x
 
 -- the member reached is one to narrow
-later : (c : tie.Then1 invariant-loop decreases-loop) → let s = start c.before.before in Later s.args.members.now s.args.place s.args.k c.before.before.loop.j
+later : (c : tie.Then-j-place invariant-loop decreases-loop) → let s = start c.before.before in Later s.args.members.now s.args.place s.args.k c.before.before.loop-j.j
 later c =
     record {
-      from-k = c.before.before.loop.invariant.0;
-      inside = c.before.loop-test.true;
-      other = c.if1.true;
+      from-k = c.before.before.loop-j.invariant.0;
+      inside = c.before.loop-j-test.true;
+      other = c.if-j-place.true;
     }
 
-abbrev after : tie.After-narrow-member invariant-loop decreases-loop → List ℕ
-after n = n.narrow-member.new.1.1.1.1.0
+abbrev after : tie.After-narrow_member invariant-loop decreases-loop → List ℕ
+after n = n.narrow_member.new.1.1.1.1.0
 
 -- .. and narrowed
-one_more : (n : tie.After-narrow-member invariant-loop decreases-loop) → let l = n.before.before.before.before.before in Narrowed (network (start l)) (own (start l)) (start l).args.words.now (after n)
+one_more : (n : tie.After-narrow_member invariant-loop decreases-loop) → let l = n.before.before.before.before.before in Narrowed (network (start l)) (own (start l)) (start l).args.words.now (after n)
 one_more n =
     let turn = n.before.before.before in
     let l = turn.before.before in
     let s = start l in
     let N = network s in
-    narrowed-on N (own s) s.args.words.now l.loop.words (after n) l.loop.invariant.1.1
-    (narrowed-one N s.args.r s.args.x (get_or s.args.members.now l.loop.j 0) s.pre.1.0.own (s.pre.1.1.other l.loop.j (later turn)) l.loop.words (after n) n.narrow-member.ensures.1.0)
+    narrowed-on N (own s) s.args.words.now l.loop-j.words (after n) l.loop-j.invariant.1.1
+    (narrowed-one N s.args.r s.args.x (get_or s.args.members.now l.loop-j.j 0) s.requires.1.0.own (s.requires.1.1.other l.loop-j.j (later turn)) l.loop-j.words (after n) n.narrow_member.ensures.1.0)
 
-loop-holds : tie.Need-loop-init invariant-loop decreases-loop
+loop-holds : tie.Need-loop-j-init invariant-loop decreases-loop
 loop-holds c =
     let s = c.before.before.before in
     (omega arith, (s.requires.0, narrowed_none (network s) (own s) s.args.words.now))
 
-narrow-member-requires : tie.Need-narrow-member-requires invariant-loop decreases-loop
+narrow-member-requires : tie.Need-narrow_member-requires invariant-loop decreases-loop
 narrow-member-requires c κs =
     let turn = c.before.before in
     let l = turn.before.before in
     let s = start l in
-    (l.loop.invariant.1.0, (s.pre.1.0, s.pre.1.1.few l.loop.j (later turn)))
+    (l.loop-j.invariant.1.0, (s.requires.1.0, s.requires.1.1.few l.loop-j.j (later turn)))
 
-returns : tie.Need-returns invariant-loop decreases-loop
+returns : tie.Need-returns-then-not-narrow_member invariant-loop decreases-loop
 returns c =
     let n = c.before in
     let turn = n.before.before.before in (
-      n.narrow-member.ensures.0,
+      n.narrow_member.ensures.0,
       (
         one_more n,
         λ e.
             record {
-              j = turn.before.before.loop.j;
+              j = turn.before.before.loop-j.j;
               later = later turn;
-              dead = n.narrow-member.ensures.1.1 (not-true n.narrow-member.result c.if2.true);
+              dead = n.narrow_member.ensures.1.1 (not-true n.narrow_member.result c.if-not-narrow_member.true-raw);
             },
       ),
     )
 
 -- the words once the member is passed
-passed : (c : tie.Joined1 invariant-loop decreases-loop) → let s = start c.before.before in (length c.if1.words ≡ 64) × Narrowed (network s) (own s) s.args.words.now c.if1.words
+passed : (c : tie.Joined-j-place invariant-loop decreases-loop) → let s = start c.before.before in (length c.if-j-place.words ≡ 64) × Narrowed (network s) (own s) s.args.words.now c.if-j-place.words
 passed c =
     let l = c.before.before in
     let s = start l in
     let Passed : List ℕ → Type 0 = λ ws. (length ws ≡ 64) × Narrowed (network s) (own s) s.args.words.now ws in
     ⊎_elim
     (λ w.
-    let n : tie.After-narrow-member invariant-loop decreases-loop =
+    let n : tie.After-narrow_member invariant-loop decreases-loop =
     record {
       before = record { before = record { before = record { before = c.before; if1 = w.0 }; narrow-member-arg = w.1 }; shared-slice-known4 = w.2 };
       narrow-member = w.3;
     } in
-    subst Passed (sym w.5) (n.narrow-member.ensures.0, one_more n))
-    (λ w. subst Passed (sym w.1) l.loop.invariant.1)
-    c.if1.branch
+    subst Passed (sym w.5) (n.narrow_member.ensures.0, one_more n))
+    (λ w. subst Passed (sym w.1) l.loop-j.invariant.1)
+    c.if-j-place.branch-raw
 
-loop-again : tie.Need-loop-preserved invariant-loop decreases-loop
-loop-again c = let k = c.before.before.loop.invariant.0 in (omega arith, passed c)
+loop-again : tie.Need-loop-j-preserved invariant-loop decreases-loop
+loop-again c = let k = c.before.before.loop-j.invariant.0 in (omega arith, passed c)
 
-returns-2 : tie.Need-returns-2 invariant-loop decreases-loop
+returns-2 : tie.Need-returns invariant-loop decreases-loop
 returns-2 c =
-    let l = c.before.loop in
+    let l = c.before.loop-j in
     (l.invariant.1.0, (l.invariant.1.1, λ e. absurd (not-both refl e)))
 
-pub narrow-members-spec : {M : Type 1} → statement M
-narrow-members-spec =
+pub narrow_members_spec : {M : Type 1} → statement M
+narrow_members_spec =
     tie.close
     (tie.spec
     invariant-loop
     decreases-loop
     loop-holds
-    (λ c. search rules) (λ c. search rules)
+    (λ c. search rules)
+    (λ c. search rules)
     narrow-member-requires
     returns
-    (λ c. search rules) (λ c. search rules)
+    (λ c. search rules)
+    (λ c. search rules)
     loop-again
     returns-2)

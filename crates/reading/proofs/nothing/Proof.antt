@@ -11,5 +11,7 @@ use Rattle.reading.proofs.nothing.Tie as tie
 returns : tie.Need-returns
 returns c = ap (λ (S : Shape). record { ok = false; shape = S; m = 0; variables = 0; values = 0; members = 0 }) c.blank.ensures
 
-pub nothing-spec : {M : Type 1} → statement M
-nothing-spec = tie.close (tie.spec (λ c κs. search rules) returns)
+pub nothing_spec : {M : Type 1} → statement M
+nothing_spec = tie.close (tie.spec
+    (λ c κs. search rules)
+    returns)

@@ -122,10 +122,10 @@ module _ {M : Type 1} {𝓤 : Ura M} (𝓛 : Logic 𝓤) (mem : Memory → SProp
   to-with s u i h = ((tt, tt, tt, (s, (i, (h, tt))), (u ∷ [], (vint w64 i ∷ [], (vals h, tt)))), tt)
 
   -- both are passed the count
-  goes-count : n < 2 ^ 64 → ent 𝓤 (emp 𝓤) ((Most 𝓛 mem run).pre to-most)
+  goes-count : n < 2 ^ 64 → ent 𝓤 (emp 𝓤) ((Most 𝓛 mem run).requires to-most)
   goes-count g = qed 𝓛 [] ∵ nothing ! $ owned ! usize (Is usize) (uint_Makes 𝓛 w64) n _ (refl, g) $ fjoin ! $ nothing ! $ join ! $ frame ! $ done !
 
-  goes_with : (s : Parts) (u : Val) (i : ℕ) (h : Record) → i < 64 → Is T.the_row h (vals h) → ent 𝓤 (sem 𝓛 ((S.the_row).own_val s (u ∷ []))) ((With 𝓛 mem run).pre (to-with s u i h))
+  goes_with : (s : Parts) (u : Val) (i : ℕ) (h : Record) → i < 64 → Is T.the_row h (vals h) → ent 𝓤 (sem 𝓛 ((S.the_row).own_val s (u ∷ []))) ((With 𝓛 mem run).requires (to-with s u i h))
   goes_with s u i h l p =
       qed 𝓛 (‵ ((S.the_row).own_val s (u ∷ [])) ∷ []) ∵ says ! l $ nothing ! $ frame ! $
       nothing ! $ owned ! T.the_row (Is T.the_row) ((LL.makes T.the_type T'.the_plain) 𝓛) h _ p $ fjoin ! $ owned ! usize (Is usize) (uint_Makes 𝓛 w64) i _ (refl, fits64 i l) $ fjoin ! $ move ! (1 ∷ 0 ∷ []) $ fjoin ! $ done !
@@ -182,7 +182,7 @@ module _ {M : Type 1} {𝓤 : Ura M} (𝓛 : Logic 𝓤) (mem : Memory → SProp
           elem_back ! T.the_row q' ys i no_record (vals (get_or ys i no_record)) b o (below i m n n (lesser-is n).0 refl l) $
           move ! (2 ∷ []) $ fpick ! (λ u. fsplit ! $ move ! (1 ∷ []) $
           -- [what the parts own; _3; the row; _4; _6; _7; _8; _9; _1; …]
-          use1 𝓛 (raw ((With 𝓛 mem run).pre (to-with (taken ys i) u i (get_or ys i no_record)))) (goes_with (taken ys i) u i (get_or ys i no_record) (small i m (lesser-is n).1 l) p) $
+          use1 𝓛 (raw ((With 𝓛 mem run).requires (to-with (taken ys i) u i (get_or ys i no_record)))) (goes_with (taken ys i) u i (get_or ys i no_record) (small i m (lesser-is n).1 l) p) $
           calls_at ! (fm_of 𝓤 H 𝓛.laws 𝓣) (With 𝓛 mem run) known-with (to-with (taken ys i) u i (get_or ys i no_record))
           (and_then ! (load ! (from ! (stop !)) (look ! 1 refl)) (and_then ! (load ! (from ! (stop !)) (look ! 3 refl)) (and_then ! (load ! (from ! (stop !)) (look ! 7 refl)) (no_more !)))) (λ v.
           hears 𝓛 with.ended (with.clauses 𝓛 mem run) tt tt (taken ys i, (i, (get_or ys i no_record, tt))) tt (λ r. r ≡ with_record (taken ys i) i (get_or ys i no_record)) (λ r e. id⊢ 𝓤 _) ! tt v (λ r e is. move ! (1 ∷ []) $ drop ! $
@@ -234,7 +234,7 @@ module _ {M : Type 1} {𝓤 : Ura M} (𝓛 : Logic 𝓤) (mem : Memory → SProp
     blanked : Triple 𝓤 (𝓣.C #records·blank) (Blank 𝓛 mem run) → Sq 𝓛 (Before (‵ (froom S'.mir l₃ 0))) (runs 𝓣.C 𝓣.Λ En mir.t-3 (at_ret En Post))
     blanked known-blank =
         assigns ! (of_opd ! (load ! (from ! (fld ! refl (stop !))) (look_in ! 16 (sub ! 1 refl (whole !))))) (from ! (stop !)) (store ! 8 refl (tt, record { fits = gn.0 })) $
-        use0 𝓛 (raw ((Blank 𝓛 mem run).pre to-blank)) (goes-count gn.0) $
+        use0 𝓛 (raw ((Blank 𝓛 mem run).requires to-blank)) (goes-count gn.0) $
         calls_at ! (fm_of 𝓤 H 𝓛.laws 𝓣) (Blank 𝓛 mem run) known-blank to-blank (and_then ! (load ! (from ! (stop !)) (look ! 9 refl)) (no_more !)) (λ u.
         hears 𝓛 blank.ended (blank.clauses 𝓛 mem run) tt tt (n, tt) tt (λ s. s ≡ unread n) (λ s e. id⊢ 𝓤 _) ! tt u (λ s e is. move ! (1 ∷ []) $ drop ! $
         land ! (from ! (stop !)) (init ! 13 refl ((LL.lawful S.the_type S'.the_laws 𝓛).typed s _ is).0) $ rewrite ! 0 (λ (s' : Parts). ‵ ((S.the_row).own_val s' (u ∷ []))) (e ∙ sym (taken_none ys)) refl $ opened u))
@@ -248,7 +248,7 @@ module _ {M : Type 1} {𝓤 : Ura M} (𝓛 : Logic 𝓤) (mem : Memory → SProp
       pass1 ! (init ! 16 refl (tt, (tt, (record { fits = gn.0 }, tt)))) $ pass0 ! $
       -- n = at_most_64(relations.len())
       assigns ! (of_opd ! (load ! (from ! (fld ! refl (stop !))) (look_in ! 16 (sub ! 1 refl (whole !))))) (from ! (stop !)) (init ! 8 refl (tt, record { fits = gn.0 })) $
-      use0 𝓛 (raw ((Most 𝓛 mem run).pre to-most)) (goes-count gn.0) $
+      use0 𝓛 (raw ((Most 𝓛 mem run).requires to-most)) (goes-count gn.0) $
       calls_at ! (fm_of 𝓤 H 𝓛.laws 𝓣) (Most 𝓛 mem run) known-most to-most (and_then ! (load ! (from ! (stop !)) (look ! 9 refl)) (no_more !)) (λ v.
       hears 𝓛 most.ended (most.clauses 𝓛 mem run) tt tt (n, tt) tt (λ r. r ≡ m) (λ r e. id⊢ 𝓤 _) ! tt v (λ r e is. drop ! $ drop ! $
       land ! (from ! (stop !)) (init ! 14 refl ((uint_Lawful 𝓛 w64).typed r _ is).0) $ rewrite ! 14 (λ (w : Val). ‵ (fat full_share (ty_int w64) l₂ 0 w)) (ap only is.0 ∙ ap (vint w64) e) refl $
@@ -263,9 +263,9 @@ module _ {M : Type 1} {𝓤 : Ura M} (𝓛 : Logic 𝓤) (mem : Memory → SProp
       met 𝓛 f.signature (f.spec 𝓛 mem run) (WpFn 𝓤 H 𝓣.C 𝓣.Λ code.function) (λ κs. (shr_slice_vals, tt)) (λ κs. (shr_slice_Tells (named 0) κs.0 T.the_row, tt))
       (λ κs qs os a g are. walk 𝓛 mem run κs.0 qs.0 a.0.ref_ptr.0 a.0.ref_ptr.1 0 a.0.now 𝓣 known-most known-blank known-with are.0.0.1)
 
-pub parts-of-spec : {M : Type 1} → stated.statement M
+pub parts_of_spec : {M : Type 1} → stated.statement M
 unfolding code.routine tables_of
-parts-of-spec 𝓤 𝓛 𝓜 𝓡 =
+parts_of_spec 𝓤 𝓛 𝓜 𝓡 =
     entered 𝓤 𝓛.H (triple_of 𝓛 f.signature (f.spec 𝓛 𝓜.mem 𝓡.run))
     (tables 𝓤 𝓛.H 𝓜 𝓡 code.env).C (tables 𝓤 𝓛.H 𝓜 𝓡 code.env).Λ #records·parts-of code.function (code.unfolded 𝓤 𝓛.H 𝓜 𝓡)
     (meets 𝓛 𝓜.mem 𝓡.run (tables_of 𝓤 𝓛.H 𝓜 (tables 𝓤 𝓛.H 𝓜 𝓡 code.env))

@@ -114,9 +114,9 @@ module _ {M : Type 1} {𝓤 : Ura M} (𝓛 : Logic 𝓤) (mem : Memory → SProp
       (λ κs. (mut_slice_Tells (named 0) κs.0 T.the_row, (shr_slice_Tells (named 1) κs.1.0 u16, (shr_slice_Tells (named 2) κs.1.1.0 u32, (uint_Tells w16, (shr_slice_Tells (named 3) κs.1.1.1.0 u16, (mut_slice_Tells (named 4) κs.1.1.1.1.0 u64, (mut_slice_Tells (named 5) κs.1.1.1.1.1.0 u16, (uint_Tells w16, (uint_Tells w32, tt))))))))))
       (λ κs qs os a g are. walk 𝓛 mem run κs qs a.0 a.1.0 a.1.1.0 a.1.1.1.0 a.1.1.1.1.0 a.1.1.1.1.1.0 a.1.1.1.1.1.1.0 a.1.1.1.1.1.1.1.0 a.1.1.1.1.1.1.1.1.0 𝓣 known-parts known-work known-back are)
 
-pub wakhvosi-choose-records-spec : {M : Type 1} → stated.statement M
+pub wakhvosi_choose_records_spec : {M : Type 1} → stated.statement M
 unfolding code.routine tables_of
-wakhvosi-choose-records-spec 𝓤 𝓛 𝓜 𝓡 =
+wakhvosi_choose_records_spec 𝓤 𝓛 𝓜 𝓡 =
     entered 𝓤 𝓛.H (triple_of 𝓛 f.signature (f.spec 𝓛 𝓜.mem 𝓡.run))
     (tables 𝓤 𝓛.H 𝓜 𝓡 code.env).C (tables 𝓤 𝓛.H 𝓜 𝓡 code.env).Λ #records·wakhvosi-choose-records code.function (code.unfolded 𝓤 𝓛.H 𝓜 𝓡)
     (meets 𝓛 𝓜.mem 𝓡.run (tables_of 𝓤 𝓛.H 𝓜 (tables 𝓤 𝓛.H 𝓜 𝓡 code.env))

@@ -139,10 +139,10 @@ module _ {M : Type 1} {𝓤 : Ura M} (𝓛 : Logic 𝓤) (mem : Memory → SProp
   abbrev to-live : ℕ → (LiveAt 𝓛 mem run).Ghost
   to-live i = ((tt, tt, tt, (c, (i, tt)), (mach c ∷ [], (vint w64 i ∷ [], tt))), tt)
 
-  goes-bound : n < 2 ^ 64 → ent 𝓤 (emp 𝓤) ((ToWrite 𝓛 mem run).pre to-bound)
+  goes-bound : n < 2 ^ 64 → ent 𝓤 (emp 𝓤) ((ToWrite 𝓛 mem run).requires to-bound)
   goes-bound g = qed 𝓛 [] ∵ nothing ! $ owned ! N.the_row (Is N.the_row) ((LL.makes N.the_type N'.the_plain) 𝓛) c _ gc $ fjoin ! $ owned ! usize (Is usize) (uint_Makes 𝓛 w64) n _ (refl, g) $ fjoin ! $ nothing ! $ join ! $ frame ! $ done !
 
-  goes-live : (i : ℕ) → i < 64 → ent 𝓤 (emp 𝓤) ((LiveAt 𝓛 mem run).pre (to-live i))
+  goes-live : (i : ℕ) → i < 64 → ent 𝓤 (emp 𝓤) ((LiveAt 𝓛 mem run).requires (to-live i))
   goes-live i l = qed 𝓛 [] ∵ says ! l $ nothing ! $ frame ! $ nothing ! $ owned ! usize (Is usize) (uint_Makes 𝓛 w64) i _ (refl, fits64 i l) $ fjoin ! $ owned ! N.the_row (Is N.the_row) ((LL.makes N.the_type N'.the_plain) 𝓛) c _ gc $ fjoin ! $ done !
 
   module _ (𝓣 : Tables 𝓤 H) (known-live : Triple 𝓤 (𝓣.C #records·live-at) (LiveAt 𝓛 mem run)) (gn : Room T.the_row n) (l₀ l₁ l₂ l₃ l₄ l₅ l₆ l₇ l₈ l₉ : ℕ) where
@@ -182,7 +182,7 @@ module _ {M : Type 1} {𝓤 : Ura M} (𝓛 : Logic 𝓤) (mem : Memory → SProp
         qed 𝓛 (At i) ∵ exec ! C Λ En mir.turn-1 (any_q (after_turn 𝓤 H X Left)) $
         assigns ! (bin ! (load ! (from ! (stop !)) (look ! 1 refl)) (load ! (from ! (stop !)) (look ! 8 refl)) tt) (from ! (stop !)) (init ! 2 refl (tt, tt)) $
         rewrite ! 2 (λ (t : Bool). ‵ (fat full_share ty_bool l₆ 0 (vbool t))) (lt-ltb i m l) refl $ stays ! (load ! (from ! (stop !)) (look ! 2 refl)) $
-        use0 𝓛 (raw ((LiveAt 𝓛 mem run).pre (to-live i))) (goes-live i (small i m (bounded n c.written).1 l)) $
+        use0 𝓛 (raw ((LiveAt 𝓛 mem run).requires (to-live i))) (goes-live i (small i m (bounded n c.written).1 l)) $
         calls_at ! (fm_of 𝓤 H 𝓛.laws 𝓣) (LiveAt 𝓛 mem run) known-live (to-live i) (and_then ! (load ! (from ! (stop !)) (look ! 8 refl)) (and_then ! (load ! (from ! (stop !)) (look ! 2 refl)) (no_more !))) (λ w.
         hears 𝓛 live.ended (live.clauses 𝓛 mem run) tt tt (c, (i, tt)) tt (λ r. r ≡ v) (λ r e. id⊢ 𝓤 _) ! tt w (λ r e is. drop ! $ drop ! $
         land ! (from ! (stop !)) (init ! 3 refl ((uint_Lawful 𝓛 w16).typed r _ is).0) $ rewrite ! 3 (λ (u : Val). ‵ (fat full_share (ty_int w16) l₇ 0 u)) (ap only is.0 ∙ ap (vint w16) e) refl $
@@ -248,7 +248,7 @@ module _ {M : Type 1} {𝓤 : Ura M} (𝓛 : Logic 𝓤) (mem : Memory → SProp
       pass1 ! (init ! 16 refl (tt, (tt, (record { fits = gn.0 }, tt)))) $ pass1 ! (init ! 14 refl ((LL.lawful N.the_type N'.the_laws 𝓛).typed c _ gc).0) $ pass0 ! $
       -- n = to_write(relations.len(), done)
       assigns ! (of_opd ! (load ! (from ! (fld ! refl (stop !))) (look_in ! 16 (sub ! 1 refl (whole !))))) (from ! (stop !)) (init ! 8 refl (tt, record { fits = gn.0 })) $
-      use0 𝓛 (raw ((ToWrite 𝓛 mem run).pre to-bound)) (goes-bound gn.0) $
+      use0 𝓛 (raw ((ToWrite 𝓛 mem run).requires to-bound)) (goes-bound gn.0) $
       calls_at ! (fm_of 𝓤 H 𝓛.laws 𝓣) (ToWrite 𝓛 mem run) known-bound to-bound (and_then ! (load ! (from ! (stop !)) (look ! 9 refl)) (and_then ! (load ! (from ! (stop !)) (look ! 15 refl)) (no_more !))) (λ w.
       hears 𝓛 bound_of.ended (bound_of.clauses 𝓛 mem run) tt tt (n, (c, tt)) tt (λ r. r ≡ m) (λ r e. id⊢ 𝓤 _) ! tt w (λ r e is. drop ! $ drop ! $
       land ! (from ! (stop !)) (init ! 12 refl ((uint_Lawful 𝓛 w64).typed r _ is).0) $ rewrite ! 12 (λ (u : Val). ‵ (fat full_share (ty_int w64) l₃ 0 u)) (ap only is.0 ∙ ap (vint w64) e) refl $
@@ -268,9 +268,9 @@ module _ {M : Type 1} {𝓤 : Ura M} (𝓛 : Logic 𝓤) (mem : Memory → SProp
       walk_Meets 𝓛 f.ended stayed (Goes-slice 𝓛 1 0 tt (plain (λ _. T.the_row)), (Goes-none 𝓛 1 (λ _. N.the_row) yes (λ κs x f. refl), tt)) (f.clauses 𝓛 mem run)
       (WpFn 𝓤 H 𝓣.C 𝓣.Λ code.function) (WpFn-mono 𝓤 H 𝓛.laws 𝓣 code.function) walks
 
-pub write-back-spec : {M : Type 1} → stated.statement M
+pub write_back_spec : {M : Type 1} → stated.statement M
 unfolding code.routine tables_of
-write-back-spec 𝓤 𝓛 𝓜 𝓡 =
+write_back_spec 𝓤 𝓛 𝓜 𝓡 =
     entered 𝓤 𝓛.H (triple_of 𝓛 f.signature (f.spec 𝓛 𝓜.mem 𝓡.run))
     (tables 𝓤 𝓛.H 𝓜 𝓡 code.env).C (tables 𝓤 𝓛.H 𝓜 𝓡 code.env).Λ #records·write-back code.function (code.unfolded 𝓤 𝓛.H 𝓜 𝓡)
     (meets 𝓛 𝓜.mem 𝓡.run (tables_of 𝓤 𝓛.H 𝓜 (tables 𝓤 𝓛.H 𝓜 𝓡 code.env))

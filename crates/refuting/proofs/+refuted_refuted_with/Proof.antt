@@ -66,11 +66,11 @@ refuted-with-callees t =
 abbrev lists_of : List ℕ → List ℕ → List ℕ → Lists
 lists_of variables values starts = record { variables = variables; values = values; starts = starts }
 
-abbrev invariant-loop : refuted-lts.invariant-loop
+abbrev invariant-loop : refuted-lts.invariant-loop-g
 invariant-loop variables values starts index words members place own left by w steps last best rest first end over₀ g₀ over g =
     ((first ≤ g) × (g ≤ end)) × ((over ≤ steps) × Past (network_in (lists_of variables values starts)) members place own words by w left best g)
 
-abbrev decreases-loop : refuted-lts.decreases-loop
+abbrev decreases-loop : refuted-lts.decreases-loop-g
 decreases-loop variables values starts index words members place own left by w steps last best rest first end over₀ g₀ over g = end - g
 
 -- ---- refuted
@@ -84,27 +84,27 @@ module _ (t : ℕ) where
     given = lists_of s.args.variables.now s.args.values.now s.args.starts.now
 
     abbrev asked : Refutable given s.args.index.now s.args.members.now s.args.place s.args.own
-    asked = s.pre.1.0.1
+    asked = s.requires.1.0.1
 
     abbrev narrowed-by : Taken (network_in given) s.args.members.now s.args.place s.args.left s.args.by s.args.w
-    narrowed-by = s.pre.1.1
+    narrowed-by = s.requires.1.1
 
     below : (j : ℕ) → j < length s.args.members.now → get_or s.args.members.now j 0 < 64
     below = member_below asked.0.0.0.laid asked.0.0.1
 
   -- the member that is taken
-  module _ (e : refuted-lts.Else1 (refuted-callees t) (refuted-at t) refuted.Post invariant-loop decreases-loop) where
+  module _ (e : refuted-lts.Else-members-best (refuted-callees t) (refuted-at t) refuted.Post invariant-loop decreases-loop) where
     abbrev entered : Entry
     entered = e.before.before.before.before.before
 
     abbrev best : ℕ
-    best = e.before.fewest.result
+    best = e.before.fewest-best.result
 
     inside : best < length entered.args.members.now
-    inside = omega (arith, e.if1.left)
+    inside = omega (arith, e.if-members-best.left)
 
     at : Left entered.args.members.now entered.args.left best
-    at = record { inside = inside; in-set = e.before.fewest.ensures inside }
+    at = record { inside = inside; in-set = e.before.fewest-best.ensures inside }
 
     abbrev r : ℕ
     r = get_or entered.args.members.now best 0
@@ -113,8 +113,8 @@ module _ (t : ℕ) where
     few = (below entered best inside, omega (arith, inside, (asked entered).0.0.1.few))
 
   -- its ids
-  module _ (c : refuted-lts.After-tuple-start2 (refuted-callees t) (refuted-at t) refuted.Post invariant-loop decreases-loop) where
-    abbrev chosen : refuted-lts.Else1 (refuted-callees t) (refuted-at t) refuted.Post invariant-loop decreases-loop
+  module _ (c : refuted-lts.After-tuple_start-end (refuted-callees t) (refuted-at t) refuted.Post invariant-loop decreases-loop) where
+    abbrev chosen : refuted-lts.Else-members-best (refuted-callees t) (refuted-at t) refuted.Post invariant-loop decreases-loop
     chosen = c.before.before.before.before.before
 
     abbrev start : Entry
@@ -123,84 +123,84 @@ module _ (t : ℕ) where
     abbrev net : Network
     net = network_in (given start)
 
-    first-is : c.before.before.tuple-start.result ≡ first_id net (r chosen)
-    first-is = c.before.before.tuple-start.ensures ∙ tuple-start (asked start).0.0.0.laid.framed (r chosen) (omega (arith, few chosen))
+    first-is : c.before.before.tuple_start-first.result ≡ first_id net (r chosen)
+    first-is = c.before.before.tuple_start-first.ensures ∙ tuple-start (asked start).0.0.0.laid.framed (r chosen) (omega (arith, few chosen))
 
-    end_is : c.tuple-start2.result ≡ first_id net (r chosen) + size net (r chosen)
-    end_is = c.tuple-start2.ensures ∙ tuple-end (asked start).0.0.0.laid.framed (r chosen) (few chosen).0
+    end_is : c.tuple_start-end.result ≡ first_id net (r chosen) + size net (r chosen)
+    end_is = c.tuple_start-end.ensures ∙ tuple-end (asked start).0.0.0.laid.framed (r chosen) (few chosen).0
 
-    end-few : c.tuple-start2.result ≤ 4096
-    end-few = omega (arith, c.tuple-start2.ensures, ids-few (asked start).0.0.0.laid.framed (r chosen) (few chosen).0)
+    end-few : c.tuple_start-end.result ≤ 4096
+    end-few = omega (arith, c.tuple_start-end.ensures, ids-few (asked start).0.0.0.laid.framed (r chosen) (few chosen).0)
 
     -- a walk from id g on
-    walks : (g : ℕ) → g ≤ c.tuple-start2.result → (g ≤ c.tuple-start2.result) × (c.tuple-start2.result ≤ 64 * length start.args.words.now) × (c.tuple-start2.result ≤ 4096)
-    walks g h = (h, omega (arith, end-few, start.pre.1.0.0), end-few)
+    walks : (g : ℕ) → g ≤ c.tuple_start-end.result → (g ≤ c.tuple_start-end.result) × (c.tuple_start-end.result ≤ 64 * length start.args.words.now) × (c.tuple_start-end.result ≤ 4096)
+    walks g h = (h, omega (arith, end-few, start.requires.1.0.0), end-few)
 
-    next-is : (g n : ℕ) → n ≡ next_live start.args.words.now g c.tuple-start2.result → g ≤ c.tuple-start2.result → First (is_live start.args.words.now) g c.tuple-start2.result n
-    next-is g n e h = subst (First (is_live start.args.words.now) g c.tuple-start2.result) (sym e) (next_live-first start.args.words.now g c.tuple-start2.result h)
+    next-is : (g n : ℕ) → n ≡ next_live start.args.words.now g c.tuple_start-end.result → g ≤ c.tuple_start-end.result → First (is_live start.args.words.now) g c.tuple_start-end.result n
+    next-is g n e h = subst (First (is_live start.args.words.now) g c.tuple_start-end.result) (sym e) (next_live-first start.args.words.now g c.tuple_start-end.result h)
 
     -- those before id g lead to nothing
     abbrev Passed : ℕ → Type 0
     Passed = Past net start.args.members.now start.args.place start.args.own start.args.words.now start.args.by start.args.w start.args.left (best chosen)
 
-  abbrev read : refuted-lts.At-loop (refuted-callees t) (refuted-at t) refuted.Post invariant-loop decreases-loop → refuted-lts.After-tuple-start2 (refuted-callees t) (refuted-at t) refuted.Post invariant-loop decreases-loop
+  abbrev read : refuted-lts.At-loop-g (refuted-callees t) (refuted-at t) refuted.Post invariant-loop decreases-loop → refuted-lts.After-tuple_start-end (refuted-callees t) (refuted-at t) refuted.Post invariant-loop decreases-loop
   read l = l.before.before.before
 
-  refuted-loop-holds : refuted-lts.Need-loop-init (refuted-callees t) (refuted-at t) refuted.Post invariant-loop decreases-loop
+  refuted-loop-holds : refuted-lts.Need-loop-g-init (refuted-callees t) (refuted-at t) refuted.Post invariant-loop decreases-loop
   refuted-loop-holds c =
       let b = c.before.before in
       let s = start b in
-      let f = next-is b b.before.before.tuple-start.result c.next.result c.next.ensures (omega (arith, first-is b, end_is b)) in (
+      let f = next-is b b.before.before.tuple_start-first.result c.next-g.result c.next-g.ensures (omega (arith, first-is b, end_is b)) in (
         (f.from-i, f.to_end),
         (
           omega arith,
-          past_next (net b) s.args.members.now s.args.place s.args.own s.args.words.now s.args.by s.args.w s.args.left (best (chosen b)) (at (chosen b)) b.before.before.tuple-start.result b.tuple-start2.result c.next.result
+          past_next (net b) s.args.members.now s.args.place s.args.own s.args.words.now s.args.by s.args.w s.args.left (best (chosen b)) (at (chosen b)) b.before.before.tuple_start-first.result b.tuple_start-end.result c.next-g.result
               (subst (Passed b) (sym (first-is b)) (past-none (net b) s.args.members.now s.args.place s.args.own s.args.words.now s.args.by s.args.w s.args.left (best (chosen b)) (at (chosen b)))) f,
         ),
       )
 
-  module _ (l : refuted-lts.In-loop (refuted-callees t) (refuted-at t) refuted.Post invariant-loop decreases-loop) where
+  module _ (l : refuted-lts.In-loop-g (refuted-callees t) (refuted-at t) refuted.Post invariant-loop decreases-loop) where
     abbrev x : ℕ
-    x = l.before.loop.g - (read l.before).before.before.tuple-start.result
+    x = l.before.loop-g.g - (read l.before).before.before.tuple_start-first.result
 
-    is-g : first_id (net (read l.before)) (r (chosen (read l.before))) + x ≡ l.before.loop.g
-    is-g = omega (arith, first-is (read l.before), l.before.loop.inv.0.0)
+    is-g : first_id (net (read l.before)) (r (chosen (read l.before))) + x ≡ l.before.loop-g.g
+    is-g = omega (arith, first-is (read l.before), l.before.loop-g.inv.0.0)
 
     -- the tuple reached
-    taken : let b = read l.before in TakenTwo (net b) (start b).args.members.now (start b).args.place b.before.before.before.before.without.result (start b).args.by (start b).args.w (best (chosen b)) x
+    taken : let b = read l.before in TakenTwo (net b) (start b).args.members.now (start b).args.place b.before.before.before.before.without-rest.result (start b).args.by (start b).args.w (best (chosen b)) x
     taken =
         let b = read l.before in
-        taken-two (narrowed-by (start b)) b.before.before.before.before.without.ensures (at (chosen b)) (omega (arith, is-g, end_is b, l.loop-test.taken))
+        taken-two (narrowed-by (start b)) b.before.before.before.before.without-rest.ensures (at (chosen b)) (omega (arith, is-g, end_is b, l.loop-g-test.taken))
 
-  refuted-refuted-with-requires : refuted-lts.Need-refuted-with-requires (refuted-callees t) (refuted-at t) refuted.Post invariant-loop decreases-loop
+  refuted-refuted-with-requires : refuted-lts.Need-refuted_with-over-requires (refuted-callees t) (refuted-at t) refuted.Post invariant-loop decreases-loop
   refuted-refuted-with-requires c κs =
       let s = start (read c.before) in
-      (omega (arith, s.pre.0, c.before.loop.invariant.1.0), (s.pre.1.0, taken c))
+      (omega (arith, s.requires.0, c.before.loop-g.invariant.1.0), (s.requires.1.0, taken c))
 
-  refuted-loop-again : refuted-lts.Need-loop-preserved (refuted-callees t) (refuted-at t) refuted.Post invariant-loop decreases-loop
+  refuted-loop-again : refuted-lts.Need-loop-g-preserved (refuted-callees t) (refuted-at t) refuted.Post invariant-loop decreases-loop
   refuted-loop-again c =
       let e = c.before.before in
       let l = e.before.before in
       let b = read l.before in
       let s = start b in
-      let i = l.before.loop.invariant in
-      let f = next-is b (l.before.loop.g + 1) c.next2.result c.next2.ensures (omega (arith, l.loop-test.true)) in (
+      let i = l.before.loop-g.invariant in
+      let f = next-is b (l.before.loop-g.g + 1) c.next-g-in-loop-g.result c.next-g-in-loop-g.ensures (omega (arith, l.loop-g-test.true)) in (
         (omega (arith, f.from-i, i.0.0), f.to_end),
         (
-          omega (arith, e.before.refuted-with.ensures.0, i.1.0),
-          past_next (net b) s.args.members.now s.args.place s.args.own s.args.words.now s.args.by s.args.w s.args.left (best (chosen b)) (at (chosen b)) (l.before.loop.g + 1) b.tuple-start2.result c.next2.result
-              (past_one (net b) s.args.members.now s.args.place s.args.own s.args.words.now s.args.by s.args.w s.args.left (best (chosen b)) (at (chosen b)) b.before.before.before.before.without.result (x l) l.before.loop.g b.before.before.before.before.without.ensures (is-g l)
-              (e.before.refuted-with.ensures.1 e.if2.false) i.1.1) f,
+          omega (arith, e.before.refuted_with-over.ensures.0, i.1.0),
+          past_next (net b) s.args.members.now s.args.place s.args.own s.args.words.now s.args.by s.args.w s.args.left (best (chosen b)) (at (chosen b)) (l.before.loop-g.g + 1) b.tuple_start-end.result c.next-g-in-loop-g.result
+              (past_one (net b) s.args.members.now s.args.place s.args.own s.args.words.now s.args.by s.args.w s.args.left (best (chosen b)) (at (chosen b)) b.before.before.before.before.without-rest.result (x l) l.before.loop-g.g b.before.before.before.before.without-rest.ensures (is-g l)
+              (e.before.refuted_with-over.ensures.1 e.if-over-eq0.false) i.1.1) f,
         ),
       )
 
-  refuted-returns-3 : refuted-lts.Need-returns-3 (refuted-callees t) (refuted-at t) refuted.Post invariant-loop decreases-loop
+  refuted-returns-3 : refuted-lts.Need-returns (refuted-callees t) (refuted-at t) refuted.Post invariant-loop decreases-loop
   refuted-returns-3 c =
       let l = c.before in
       let b = read l in
       let s = start b in (
-        l.loop.invariant.1.0,
-        λ d. past_all (net b) s.args.members.now s.args.place s.args.own s.args.words.now s.args.by s.args.w s.args.left (best (chosen b)) (at (chosen b)) l.loop.g (omega (arith, c.loop-test.false, end_is b)) l.loop.invariant.1.1,
+        l.loop-g.invariant.1.0,
+        λ d. past_all (net b) s.args.members.now s.args.place s.args.own s.args.words.now s.args.by s.args.w s.args.left (best (chosen b)) (at (chosen b)) l.loop-g.g (omega (arith, c.loop-g-test.false, end_is b)) l.loop-g.invariant.1.1,
       )
 
 -- ---- refuted_with
@@ -217,27 +217,27 @@ module _ (t : ℕ) where
     network = network_in laid
 
     abbrev ready : Refutable laid s.args.index.now s.args.members.now s.args.place s.args.own
-    ready = s.pre.1.0.1
+    ready = s.requires.1.0.1
 
     abbrev tried : TakenTwo network s.args.members.now s.args.place s.args.left s.args.by s.args.w s.args.i s.args.x
-    tried = s.pre.1.1
+    tried = s.requires.1.1
 
     members-few : length s.args.members.now ≤ 4
     members-few = ready.0.0.1.few
 
-  abbrev begun : refuted-with-lts.After-tuples-agree (refuted-with-callees t) (refuted-with-at t) refuted-with.Post → Begun
+  abbrev begun : refuted-with-lts.After-tuples_agree (refuted-with-callees t) (refuted-with-at t) refuted-with.Post → Begun
   begun c = c.before.before.before.before.before.before.before
 
   -- the steps suffice
-  enough : (c : refuted-with-lts.After-tuples-agree (refuted-with-callees t) (refuted-with-at t) refuted-with.Post) → 4 < (begun c).args.steps
-  enough c = omega (arith, c.before.before.before.if1.false)
+  enough : (c : refuted-with-lts.After-tuples_agree (refuted-with-callees t) (refuted-with-at t) refuted-with.Post) → 4 < (begun c).args.steps
+  enough c = omega (arith, c.before.before.before.if-members-best.false)
 
   -- the comparison with the seeking tuple, before that with the tuple taken earlier
-  abbrev compared : refuted-with-lts.After-tuples-agree2 (refuted-with-callees t) (refuted-with-at t) refuted-with.Post → refuted-with-lts.After-tuples-agree (refuted-with-callees t) (refuted-with-at t) refuted-with.Post
+  abbrev compared : refuted-with-lts.After-tuples_agree-2 (refuted-with-callees t) (refuted-with-at t) refuted-with.Post → refuted-with-lts.After-tuples_agree (refuted-with-callees t) (refuted-with-at t) refuted-with.Post
   compared c = c.before.before.before
 
   -- the last member left
-  module _ (c : refuted-with-lts.Then5 (refuted-with-callees t) (refuted-with-at t) refuted-with.Post) where
+  module _ (c : refuted-with-lts.Then-left-last-eq1 (refuted-with-callees t) (refuted-with-at t) refuted-with.Post) where
     abbrev before_last : Begun
     before_last = begun (compared c.before.before.before)
 
@@ -246,56 +246,56 @@ module _ (t : ℕ) where
 
     last-left : Left before_last.args.members.now before_last.args.left last
     unfolding is_set bit
-    last-left = record { inside = omega (arith, c.before.if4.false); in-set = ap (λ (n : ℕ). eqb (n % 2) 1) c.if5.true }
+    last-left = record { inside = omega (arith, c.before.if-members-last.false); in-set = ap (λ (n : ℕ). eqb (n % 2) 1) c.if-left-last-eq1.true }
 
   refuted-with-meets-requires : refuted-with-lts.Need-meets-requires (refuted-with-callees t) (refuted-with-at t) refuted-with.Post
   refuted-with-meets-requires c κs =
       let l = c.before in
       let s = before_last l in
-      ((s.pre.1.0.0, (record { laid = (ready s).0.0.0.laid; indexed = (ready s).0.0.0.indexed; own = (tried s).latest.index }, member_below (ready s).0.0.0.laid (ready s).0.0.1 (last l) (last-left l).inside)), ((ready s).1, (tried s).earlier.index))
+      ((s.requires.1.0.0, (record { laid = (ready s).0.0.0.laid; indexed = (ready s).0.0.0.indexed; own = (tried s).latest.index }, member_below (ready s).0.0.0.laid (ready s).0.0.1 (last l) (last-left l).inside)), ((ready s).1, (tried s).earlier.index))
 
-  refuted-with-returns-6 : refuted-with-lts.Need-returns-6 (refuted-with-callees t) (refuted-with-at t) refuted-with.Post
+  refuted-with-returns-6 : refuted-with-lts.Need-returns-then-left-last-eq1 (refuted-with-callees t) (refuted-with-at t) refuted-with.Post
   refuted-with-returns-6 c =
       let l = c.before.before.before in
       let s = before_last l in
-      (omega arith, λ d. with-unmet (network s) s.args.members.now s.args.place s.args.own s.args.words.now s.args.left s.args.by s.args.w s.args.i s.args.x (ready s).0.1 (tried s) (last l) (last-left l) (c.before.meets.ensures c.if6.false))
+      (omega arith, λ d. with-unmet (network s) s.args.members.now s.args.place s.args.own s.args.words.now s.args.left s.args.by s.args.w s.args.i s.args.x (ready s).0.1 (tried s) (last l) (last-left l) (c.before.meets.ensures c.if-meets.false))
 
   -- .. or more than one
-  abbrev several : refuted-with-lts.Else5 (refuted-with-callees t) (refuted-with-at t) refuted-with.Post → Begun
+  abbrev several : refuted-with-lts.Else-left-last-eq1 (refuted-with-callees t) (refuted-with-at t) refuted-with.Post → Begun
   several e = begun (compared e.before.before.before)
 
-  refuted-with-narrow-left-requires : refuted-with-lts.Need-narrow-left-requires (refuted-with-callees t) (refuted-with-at t) refuted-with.Post
+  refuted-with-narrow-left-requires : refuted-with-lts.Need-narrow_left-requires (refuted-with-callees t) (refuted-with-at t) refuted-with.Post
   refuted-with-narrow-left-requires c κs =
       let s = several c.before.before in
-      (s.pre.1.0.0, (record { laid = (ready s).0.0.0.laid; indexed = (ready s).0.0.0.indexed; own = (tried s).latest.index }, (others-left (ready s).0.0.0.laid (ready s).0.0.1 (tried s).latest, omega (arith, members-few s))))
+      (s.requires.1.0.0, (record { laid = (ready s).0.0.0.laid; indexed = (ready s).0.0.0.indexed; own = (tried s).latest.index }, (others-left (ready s).0.0.0.laid (ready s).0.0.1 (tried s).latest, omega (arith, members-few s))))
 
-  module _ (n : refuted-with-lts.After-narrow-left (refuted-with-callees t) (refuted-with-at t) refuted-with.Post) where
+  module _ (n : refuted-with-lts.After-narrow_left (refuted-with-callees t) (refuted-with-at t) refuted-with.Post) where
     abbrev narrowing : Begun
     narrowing = several n.before.before.before
 
     abbrev fewer : List ℕ
-    fewer = n.narrow-left.last.1.1.1.1.0
+    fewer = n.narrow_left.last.1.1.1.1.0
 
-  refuted-with-returns-7 : refuted-with-lts.Need-returns-7 (refuted-with-callees t) (refuted-with-at t) refuted-with.Post
+  refuted-with-returns-7 : refuted-with-lts.Need-returns-then-not-narrow_left (refuted-with-callees t) (refuted-with-at t) refuted-with.Post
   refuted-with-returns-7 c =
       let n = c.before in
       let s = narrowing n in
-      (omega arith, λ d. with-bare (network s) s.args.members.now s.args.place s.args.own s.args.words.now s.args.left s.args.by s.args.w s.args.i s.args.x (ready s).0.1 (tried s) (fewer n) n.narrow-left.ensures.1.0 (n.narrow-left.ensures.1.1 (not-true _ c.if7.true)))
+      (omega arith, λ d. with-bare (network s) s.args.members.now s.args.place s.args.own s.args.words.now s.args.left s.args.by s.args.w s.args.i s.args.x (ready s).0.1 (tried s) (fewer n) n.narrow_left.ensures.1.0 (n.narrow_left.ensures.1.1 (not-true _ c.if-not-narrow_left.true-raw)))
 
   refuted-with-refuted-requires : refuted-with-lts.Need-refuted-requires (refuted-with-callees t) (refuted-with-at t) refuted-with.Post
   refuted-with-refuted-requires c κs =
       let n = c.before.before in
       let s = narrowing n in
-      (omega (arith, s.pre.0, enough (compared n.before.before.before.before.before.before)), ((n.narrow-left.ensures.0, ready s), (tried s).latest))
+      (omega (arith, s.requires.0, enough (compared n.before.before.before.before.before.before)), ((n.narrow_left.ensures.0, ready s), (tried s).latest))
 
-  refuted-with-returns-8 : refuted-with-lts.Need-returns-8 (refuted-with-callees t) (refuted-with-at t) refuted-with.Post
+  refuted-with-returns-8 : refuted-with-lts.Need-returns (refuted-with-callees t) (refuted-with-at t) refuted-with.Post
   refuted-with-returns-8 c =
       let n = c.before.before.before in
       let s = narrowing n in
-      (omega (arith, c.refuted.ensures.0), λ d. with-refuted (network s) s.args.members.now s.args.place s.args.own s.args.words.now s.args.left s.args.by s.args.w s.args.i s.args.x (ready s).0.1 (tried s) (fewer n) n.narrow-left.ensures.1.0 (c.refuted.ensures.1 d))
+      (omega (arith, c.refuted.ensures.0), λ d. with-refuted (network s) s.args.members.now s.args.place s.args.own s.args.words.now s.args.left s.args.by s.args.w s.args.i s.args.x (ready s).0.1 (tried s) (fewer n) n.narrow_left.ensures.1.0 (c.refuted.ensures.1 d))
 
-pub +refuted-refuted-with-spec : {M : Type 1} → statement M
-+refuted-refuted-with-spec =
+pub +refuted_refuted_with_spec : {M : Type 1} → statement M
++refuted_refuted_with_spec =
     close μ-refuted μ-refuted-with
     (λ t. refuted-lts.spec (refuted-callees t) (refuted-at t) refuted.Post invariant-loop decreases-loop
     (λ c κs. let s = c.before.before.before in (s.requires.1.0.0, ((asked t s).0.0.0.laid.framed, ((asked t s).0.0.1.few, below t s))))
@@ -308,17 +308,17 @@ pub +refuted-refuted-with-spec : {M : Type 1} → statement M
     (λ c. inside t c.before.before.before.before)
     (λ c. omega (arith, few t c.before.before.before.before))
     (λ c κs. omega (arith, few t c.before.before.before.before))
-    (λ c κs. let b = c.before in walks t b b.before.before.tuple-start.result (omega (arith, first-is t b, end_is t b)))
+    (λ c κs. let b = c.before in walks t b b.before.before.tuple_start-first.result (omega (arith, first-is t b, end_is t b)))
     (refuted-loop-holds t)
-    (λ c. c.before.loop.invariant.0.0)
+    (λ c. c.before.loop-g.invariant.0.0)
     (refuted-refuted-with-requires t)
     (λ c. (omega arith, λ d. absurd (d refl)))
-    (λ c. let l = c.before.before.before in omega (arith, l.loop-test.true, end-few t (read t l.before)))
-    (λ c κs. let l = c.before.before.before in walks t (read t l.before) (l.before.loop.g + 1) (omega (arith, l.loop-test.true)))
+    (λ c. let l = c.before.before.before in omega (arith, l.loop-g-test.true, end-few t (read t l.before)))
+    (λ c κs. let l = c.before.before.before in walks t (read t l.before) (l.before.loop-g.g + 1) (omega (arith, l.loop-g-test.true)))
     (λ c.
     let l = c.before.before.before.before in
-    let f = next-is t (read t l.before) (l.before.loop.g + 1) c.next2.result c.next2.ensures (omega (arith, l.loop-test.true)) in
-    omega (arith, f.from-i, f.to_end, l.loop-test.true))
+    let f = next-is t (read t l.before) (l.before.loop-g.g + 1) c.next-g-in-loop-g.result c.next-g-in-loop-g.ensures (omega (arith, l.loop-g-test.true)) in
+    omega (arith, f.from-i, f.to_end, l.loop-g-test.true))
     (refuted-loop-again t)
     (refuted-returns-3 t))
     λ t. refuted-with-lts.spec (refuted-with-callees t) (refuted-with-at t) refuted-with.Post
@@ -331,17 +331,17 @@ pub +refuted-refuted-with-spec : {M : Type 1} → statement M
     (λ c. omega (arith, enough t c.before))
     (λ c.
     let s = begun t c.before in
-    (omega arith, λ d. with-clash (network t s) s.args.members.now s.args.place s.args.own s.args.words.now s.args.left s.args.by s.args.w s.args.i s.args.x (ready t s).0.1 (tried t s) (sym c.before.tuples-agree.ensures ∙ not-true _ c.if2.true)))
+    (omega arith, λ d. with-clash (network t s) s.args.members.now s.args.place s.args.own s.args.words.now s.args.left s.args.by s.args.w s.args.i s.args.x (ready t s).0.1 (tried t s) (sym c.before.tuples_agree.ensures ∙ not-true _ c.if-over-eq0.true)))
     (λ c. let s = begun t c.before in omega (arith, members-few t s, (tried t s).earlier.inside))
     (λ c. (tried t (begun t c.before.before)).earlier.inside)
     (λ c κs. let s = begun t c.before.before in record { laid = (ready t s).0.0.0.laid; first = (tried t s).earlier.index; second = (tried t s).latest.index })
     (λ c. omega (arith, enough t (compared t c.before)))
     (λ c.
     let s = begun t (compared t c.before) in
-    (omega arith, λ d. with-clash-before (network t s) s.args.members.now s.args.place s.args.own s.args.words.now s.args.left s.args.by s.args.w s.args.i s.args.x (ready t s).0.1 (tried t s) (sym c.before.tuples-agree2.ensures ∙ not-true _ c.if3.true)))
+    (omega arith, λ d. with-clash-before (network t s) s.args.members.now s.args.place s.args.own s.args.words.now s.args.left s.args.by s.args.w s.args.i s.args.x (ready t s).0.1 (tried t s) (sym c.before.tuples_agree-2.ensures ∙ not-true _ c.if-not-tuples_agree-2.true-raw)))
     (λ c. omega (arith, trailing_le 64 (begun t (compared t c.before)).args.left))
     (λ c. (omega arith, λ d. absurd (d refl)))
-    (λ c. omega (arith, c.if4.false, members-few t (begun t (compared t c.before.before))))
+    (λ c. omega (arith, c.if-members-last.false, members-few t (begun t (compared t c.before.before))))
     (λ c. omega (arith, (last-left t c).inside, members-few t (before_last t c)))
     (λ c. (last-left t c.before).inside)
     (refuted-with-meets-requires t)

@@ -7,20 +7,21 @@ use borrow.Author.Tests.{not-false}
 use Rattle.refuting.proofs.count_left.Statement.{statement}
 use Rattle.refuting.proofs.count_left.Tie as tie
 
-live-count-requires : tie.Need-live-count-requires
+live-count-requires : tie.Need-live_count-requires
 live-count-requires c κs = let s = c.before.before.before.before.before in (s.requires.0.0, (s.requires.0.1.0, s.requires.0.1.1.1 s.args.j s.requires.1))
 
-returns-3 : tie.Need-returns-3
-returns-3 c h = let e = c.before.before.before in sym e.before.is-in.ensures ∙ not-false _ e.if1.false
+returns-3 : tie.Need-returns
+returns-3 c h = let e = c.before.before.before in sym e.before.is_in.ensures ∙ not-false _ e.if-not-is_in.false-raw
 
-pub count-left-spec : {M : Type 1} → statement M
-count-left-spec =
+pub count_left_spec : {M : Type 1} → statement M
+count_left_spec =
     tie.close
     (tie.spec
     (λ c κs. search rules)
     (λ c h. absurd (omega (arith, h)))
     (λ c. search rules)
-    (λ c h. let e = c.before in sym e.before.is-in.ensures ∙ not-false _ e.if1.false)
-    (λ c. search rules) (λ c. search rules)
+    (λ c h. let e = c.before in sym e.before.is_in.ensures ∙ not-false _ e.if-not-is_in.false-raw)
+    (λ c. search rules)
+    (λ c. search rules)
     live-count-requires
     returns-3)

@@ -11,29 +11,32 @@ use Rattle.model.specs.LiveWords.{is_set}
 use Rattle.refuting.proofs.fewest.Statement.{statement}
 use Rattle.refuting.proofs.fewest.Tie as tie
 
-abbrev invariant-loop : tie.invariant-loop
+abbrev invariant-loop : tie.invariant-loop-j
 invariant-loop starts words members left last best₀ least₀ j₀ best least j =
     (best < length members → is_set left best ≡ true) × (least ≤ 65535)
 
-abbrev decreases-loop : tie.decreases-loop
+abbrev decreases-loop : tie.decreases-loop-j
 decreases-loop starts words members left last best₀ least₀ j₀ best least j = length members - j
 
-loop-again : tie.Need-loop-preserved invariant-loop decreases-loop
+loop-again : tie.Need-loop-j-preserved invariant-loop decreases-loop
 loop-again c =
     let l = c.before.before.before in
     let s = l.before.before in
     let Best : ℕ → Type 0 = λ n. n < length s.args.members.now → is_set s.args.left n ≡ true in
     ⊎_elim
-    (λ w. (subst Best (sym w.1) (λ h. c.before.count_left.ensures (omega (arith, w.0.taken, l.loop.invariant.1))), omega (arith, w.2, w.0.taken, l.loop.invariant.1)))
-    (λ w. (subst Best (sym w.1) l.loop.invariant.0, omega (arith, w.2, l.loop.invariant.1)))
-    c.if1.branch
+    (λ w. (subst Best (sym w.1) (λ h. c.before.count_left-n.ensures (omega (arith, w.0.taken, l.loop-j.invariant.1))), omega (arith, w.2, w.0.taken, l.loop-j.invariant.1)))
+    (λ w. (subst Best (sym w.1) l.loop-j.invariant.0, omega (arith, w.2, l.loop-j.invariant.1)))
+    c.if-n-least.branch-raw
 
-pub fewest-spec : {M : Type 1} → statement M
-fewest-spec =
+pub fewest_spec : {M : Type 1} → statement M
+fewest_spec =
     tie.close
-    (tie.spec invariant-loop decreases-loop
+    (tie.spec
+    invariant-loop
+    decreases-loop
     (λ c. (λ h. absurd (omega (arith, h)), omega arith))
-    (λ c κs. (c.before.before.before.requires, c.loop-test.true))
-    (λ c. search rules) (λ c. search rules)
+    (λ c κs. (c.before.before.before.requires, c.loop-j-test.true))
+    (λ c. search rules)
+    (λ c. search rules)
     loop-again
-    (λ c. c.before.loop.invariant.0))
+    (λ c. c.before.loop-j.invariant.0))

@@ -12,11 +12,15 @@ returns c e =
     let w = c.before in
     let s = w.before.before.before.before in
     let a = s.args in
-    alone (network_in (record { variables = a.variables.now; values = a.values.now; starts = a.starts.now })) a.members.now a.place a.own a.words.now w.without.result w.without.ensures.gone (c.refuted.ensures.1 (eqb-false c.refuted.result 0 (not-true _ e)))
+    alone (network_in (record { variables = a.variables.now; values = a.values.now; starts = a.starts.now })) a.members.now a.place a.own a.words.now w.without-left.result w.without-left.ensures.gone (c.refuted.ensures.1 (eqb-false c.refuted.result 0 (not-true _ e)))
 
-pub hopeless-spec : {M : Type 1} → statement M
-hopeless-spec =
+pub hopeless_spec : {M : Type 1} → statement M
+hopeless_spec =
     tie.close
     (tie.spec
-    (λ c. search rules) (λ c. search rules) (λ c κs. search rules) (λ c. search rules) (λ c κs. search rules)
+    (λ c. search rules)
+    (λ c. search rules)
+    (λ c κs. search rules)
+    (λ c. search rules)
+    (λ c κs. search rules)
     returns)

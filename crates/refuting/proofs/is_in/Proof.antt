@@ -10,5 +10,7 @@ returns : tie.Need-returns
 unfolding is_set bit
 returns c = refl
 
-pub is-in-spec : {M : Type 1} → statement M
-is-in-spec = tie.close (tie.spec (λ c. search rules) returns)
+pub is_in_spec : {M : Type 1} → statement M
+is_in_spec = tie.close (tie.spec
+    (λ c. search rules)
+    returns)

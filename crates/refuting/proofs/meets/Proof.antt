@@ -48,11 +48,11 @@ module _ {L : Lists} {index : List ℕ} {r x : ℕ} (P : Seeks L index r x) (s q
 
 -- ---- The loop
 
-abbrev invariant-loop : tie.invariant-loop
+abbrev invariant-loop : tie.invariant-loop-g
 invariant-loop variables values starts index words r x s q y b w first end rows n g₀ g =
     ((first ≤ g) × (g ≤ end)) × UnmetBelow (network_in (record { variables = variables; values = values; starts = starts })) r x s q y b w words g
 
-abbrev decreases-loop : tie.decreases-loop
+abbrev decreases-loop : tie.decreases-loop-g
 decreases-loop variables values starts index words r x s q y b w first end rows n g₀ g = end - g
 
 abbrev Entry : Type 0
@@ -62,111 +62,113 @@ abbrev given : Entry → Lists
 given s = record { variables = s.args.variables.now; values = s.args.values.now; starts = s.args.starts.now }
 
 abbrev asked : (s : Entry) → Seeks (given s) s.args.index.now s.args.r s.args.x
-asked s = s.pre.0.1.0
+asked s = s.requires.0.1.0
 
-module _ (l : tie.After-tuple-start2 invariant-loop decreases-loop) where
+module _ (l : tie.After-tuple_start-end invariant-loop decreases-loop) where
   abbrev begun : Entry
   begun = l.before.before.before.before
 
   abbrev net : Network
   net = network_in (given begun)
 
-  own-ids : IdsOf net begun.args.index.now begun.args.s l.before.tuple-start.result l.tuple-start2.result
-  own-ids = ids-of (asked begun).laid (asked begun).indexed begun.args.s _ _ begun.pre.0.1.1 l.before.tuple-start.ensures l.tuple-start2.ensures
+  own-ids : IdsOf net begun.args.index.now begun.args.s l.before.tuple_start-first.result l.tuple_start-end.result
+  own-ids = ids-of (asked begun).laid (asked begun).indexed begun.args.s _ _ begun.requires.0.1.1 l.before.tuple_start-first.ensures l.tuple_start-end.ensures
 
-module _ (c : tie.After-rows-for invariant-loop decreases-loop) where
-  abbrev read : tie.After-tuple-start2 invariant-loop decreases-loop
+module _ (c : tie.After-rows_for-n invariant-loop decreases-loop) where
+  abbrev read : tie.After-tuple_start-end invariant-loop decreases-loop
   read = c.before.before
 
   abbrev rows : List ℕ
-  rows = c.rows-for.new.1.1.1.1.1.1.1.0
+  rows = c.rows_for-n.new.1.1.1.1.1.1.1.0
 
-  abbrev found : FirstRows (RowFor (net read) (begun read).args.index.now (begun read).args.r (begun read).args.x (begun read).args.s) c.rows-for.result rows
-  found = c.rows-for.ensures
+  abbrev found : FirstRows (RowFor (net read) (begun read).args.index.now (begun read).args.r (begun read).args.x (begun read).args.s) c.rows_for-n.result rows
+  found = c.rows_for-n.ensures
 
-  within : Within (begun read).args.index.now c.rows-for.result rows
-  within = let s = begun read in rows-for-within (asked s).laid (asked s).indexed s.args.r s.args.x s.args.s s.pre.0.1.1 found
+  within : Within (begun read).args.index.now c.rows_for-n.result rows
+  within = let s = begun read in rows-for-within (asked s).laid (asked s).indexed s.args.r s.args.x s.args.s s.requires.0.1.1 found
 
-abbrev prepared : tie.At-loop invariant-loop decreases-loop → tie.After-rows-for invariant-loop decreases-loop
+abbrev prepared : tie.At-loop-g invariant-loop decreases-loop → tie.After-rows_for-n invariant-loop decreases-loop
 prepared l = l.before.before.before
 
-rows-for-requires : tie.Need-rows-for-requires invariant-loop decreases-loop
-rows-for-requires c κs = (refl, (begun c.before).pre.0.1)
+rows-for-requires : tie.Need-rows_for-n-requires invariant-loop decreases-loop
+rows-for-requires c κs = (refl, (begun c.before).requires.0.1)
 
-next-in-rows-requires : tie.Need-next-in-rows-requires invariant-loop decreases-loop
+next-in-rows-requires : tie.Need-next_in_rows-g-requires invariant-loop decreases-loop
 next-in-rows-requires c κs =
     let w = c.before in
     let b = read w in
-    (((begun b).pre.0.0, within w), ((own-ids b).bits, omega (arith, (own-ids b).begin, (own-ids b).stop)))
+    (((begun b).requires.0.0, within w), ((own-ids b).bits, omega (arith, (own-ids b).begin, (own-ids b).stop)))
 
-loop-holds : tie.Need-loop-init invariant-loop decreases-loop
+loop-holds : tie.Need-loop-g-init invariant-loop decreases-loop
 loop-holds c =
     let w = c.before.before in
     let b = read w in
     let s = begun b in
-    let k = c.next-in-rows.ensures in (
+    let k = c.next_in_rows-g.ensures in (
       (k.from_on, k.to_end),
-      unmet-first (asked s) s.args.s s.args.q s.args.y s.args.b s.args.w (rows w) s.args.words.now w.rows-for.result (found w) b.tuple-start2.result c.next-in-rows.result
-          (subst (λ (i : ℕ). NextInRows s.args.index.now w.rows-for.result (rows w) s.args.words.now i b.tuple-start2.result c.next-in-rows.result) (own-ids b).begin k),
+      unmet-first (asked s) s.args.s s.args.q s.args.y s.args.b s.args.w (rows w) s.args.words.now w.rows_for-n.result (found w) b.tuple_start-end.result c.next_in_rows-g.result
+          (subst (λ (i : ℕ). NextInRows s.args.index.now w.rows_for-n.result (rows w) s.args.words.now i b.tuple_start-end.result c.next_in_rows-g.result) (own-ids b).begin k),
     )
 
-agrees-with-all-requires : tie.Need-agrees-with-all-requires invariant-loop decreases-loop
+agrees-with-all-requires : tie.Need-agrees_with_all-requires invariant-loop decreases-loop
 agrees-with-all-requires c κs =
     let l = read (prepared c.before) in
     let s = begun l in
-    let reached : c.before.loop.g - l.before.tuple-start.result < size (net l) s.args.s = omega (arith, c.loop-test.true, c.before.loop.invariant.0.0, (own-ids l).begin, (own-ids l).stop) in
+    let reached : c.before.loop-g.g - l.before.tuple_start-first.result < size (net l) s.args.s = omega (arith, c.loop-g-test.true, c.before.loop-g.invariant.0.0, (own-ids l).begin, (own-ids l).stop) in
     record {
       with-x = record { laid = (asked s).laid; first = (asked s).own; second = reached };
-      with-y = record { laid = (asked s).laid; first = s.pre.1.0; second = reached };
-      with-w = record { laid = (asked s).laid; first = s.pre.1.1; second = reached };
+      with-y = record { laid = (asked s).laid; first = s.requires.1.0; second = reached };
+      with-w = record { laid = (asked s).laid; first = s.requires.1.1; second = reached };
     }
 
-next-in-rows-requires-2 : tie.Need-next-in-rows-requires-2 invariant-loop decreases-loop
+next-in-rows-requires-2 : tie.Need-next_in_rows-g-requires-in-loop-g invariant-loop decreases-loop
 next-in-rows-requires-2 c κs =
     let l = c.before.before.before in
     let w = prepared l.before in
     let b = read w in
-    (((begun b).pre.0.0, within w), ((own-ids b).bits, omega (arith, l.loop-test.true)))
+    (((begun b).requires.0.0, within w), ((own-ids b).bits, omega (arith, l.loop-g-test.true)))
 
-abbrev inner : tie.After-next-in-rows2 invariant-loop decreases-loop → tie.In-loop invariant-loop decreases-loop
+abbrev inner : tie.After-next_in_rows-g-in-loop-g invariant-loop decreases-loop → tie.In-loop-g invariant-loop decreases-loop
 inner c = c.before.before.before.before
 
-loop-less : tie.Need-loop-smaller invariant-loop decreases-loop
-loop-less c = let f = c.next-in-rows2.ensures in omega (arith, f.from_on, f.to_end, (inner c).loop-test.true)
+loop-less : tie.Need-loop-g-smaller invariant-loop decreases-loop
+loop-less c = let f = c.next_in_rows-g-in-loop-g.ensures in omega (arith, f.from_on, f.to_end, (inner c).loop-g-test.true)
 
-loop-again : tie.Need-loop-preserved invariant-loop decreases-loop
+loop-again : tie.Need-loop-g-preserved invariant-loop decreases-loop
 loop-again c =
     let l = (inner c).before in
     let w = prepared l in
     let b = read w in
     let s = begun b in
-    let k = c.next-in-rows2.ensures in
-    let i = l.loop.inv in (
+    let k = c.next_in_rows-g-in-loop-g.ensures in
+    let i = l.loop-g.inv in (
       (omega (arith, k.from_on, i.0.0), k.to_end),
-      unmet-next (asked s) s.args.s s.args.q s.args.y s.args.b s.args.w (rows w) s.args.words.now w.rows-for.result (found w) b.tuple-start2.result
-          (l.loop.g - b.before.tuple-start.result) l.loop.g c.next-in-rows2.result
-          (omega (arith, (own-ids b).begin, i.0.0)) i.1 c.before.before.before.agrees-with-all.ensures c.before.before.if1.false k,
+      unmet-next (asked s) s.args.s s.args.q s.args.y s.args.b s.args.w (rows w) s.args.words.now w.rows_for-n.result (found w) b.tuple_start-end.result
+          (l.loop-g.g - b.before.tuple_start-first.result) l.loop-g.g c.next_in_rows-g-in-loop-g.result
+          (omega (arith, (own-ids b).begin, i.0.0)) i.1 c.before.before.before.agrees_with_all.ensures c.before.before.if-agrees_with_all.false k,
     )
 
-returns-2 : tie.Need-returns-2 invariant-loop decreases-loop
+returns-2 : tie.Need-returns invariant-loop decreases-loop
 returns-2 c e z h =
     let l = c.before in
-    l.loop.invariant.1 z h (omega (arith, h, c.loop-test.false, (own-ids (read (prepared l))).stop))
+    l.loop-g.invariant.1 z h (omega (arith, h, c.loop-g-test.false, (own-ids (read (prepared l))).stop))
 
-pub meets-spec : {M : Type 1} → statement M
-meets-spec =
+pub meets_spec : {M : Type 1} → statement M
+meets_spec =
     tie.close
     (tie.spec
     invariant-loop
     decreases-loop
-    (λ c κs. search rules) (λ c. search rules) (λ c κs. search rules)
+    (λ c κs. search rules)
+    (λ c. search rules)
+    (λ c κs. search rules)
     rows-for-requires
     next-in-rows-requires
     loop-holds
-    (λ c. omega (arith, c.before.loop.invariant.0.0))
+    (λ c. omega (arith, c.before.loop-g.invariant.0.0))
     agrees-with-all-requires
     (λ c e. absurd (not-both refl e))
-    (λ c. let l = c.before.before.before in omega (arith, l.loop-test.true, (own-ids (read (prepared l.before))).bits.1))
+    (λ c. let l = c.before.before.before in omega (arith, l.loop-g-test.true, (own-ids (read (prepared l.before))).bits.1))
     next-in-rows-requires-2
     loop-less
     loop-again

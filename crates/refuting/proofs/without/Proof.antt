@@ -26,5 +26,7 @@ returns c =
       inside = λ i e. and_left (is_set a.left i) (is_set mask i) (sym (is_set-and a.left mask i) ∙ e);
     }
 
-pub without-spec : {M : Type 1} → statement M
-without-spec = tie.close (tie.spec (λ c. search rules) returns)
+pub without_spec : {M : Type 1} → statement M
+without_spec = tie.close (tie.spec
+    (λ c. search rules)
+    returns)

@@ -5,14 +5,14 @@ use borrow.Author.Rules.{rules}
 use Rattle.spreading.proofs.other_from.Statement.{statement}
 use Rattle.spreading.proofs.other_from.Tie as tie
 
-abbrev invariant-loop : tie.invariant-loop
+abbrev invariant-loop : tie.invariant-loop-i
 invariant-loop count place j from i₀ i = from ≤ i
 
-abbrev decreases-loop : tie.decreases-loop
+abbrev decreases-loop : tie.decreases-loop-i
 decreases-loop count place j from i₀ i = count - i
 
-pub other-from-spec : {M : Type 1} → statement M
-other-from-spec =
+pub other_from_spec : {M : Type 1} → statement M
+other_from_spec =
     tie.close
     (tie.spec
     invariant-loop
@@ -20,8 +20,8 @@ other-from-spec =
     (λ c. omega arith)
     (λ c.
     let t = c.before.before in
-    record { behind = t.before.loop.invariant; not-place = λ h. c.before.if1.true; not-j = λ h. c.if2.true })
+    record { behind = t.before.loop-i.invariant; not-place = λ h. c.before.if-i-place.true; not-j = λ h. c.if-i-j.true })
     (λ c. search rules)
-    (λ c. omega (arith, c.before.loop-test.true))
-    (λ c. omega (arith, c.before.before.loop.invariant))
-    (λ c. record { behind = c.before.loop.invariant; not-place = λ h. absurd (omega (arith, h, c.loop-test.false)); not-j = λ h. absurd (omega (arith, h, c.loop-test.false)) }))
+    (λ c. omega (arith, c.before.loop-i-test.true))
+    (λ c. omega (arith, c.before.before.loop-i.invariant))
+    (λ c. record { behind = c.before.loop-i.invariant; not-place = λ h. absurd (omega (arith, h, c.loop-i-test.false)); not-j = λ h. absurd (omega (arith, h, c.loop-i-test.false)) }))

@@ -20,14 +20,14 @@ network s = network_in (record { variables = s.args.variables.now; values = s.ar
 none : (s : tie.Start) → SpreadsMembers (network s) s.args.members.now s.args.place s.args.from s.args.words.now s.args.words.now true
 none s = (s.requires.0, (keeps-none (network s) s.args.members.now s.args.place s.args.from s.args.words.now, λ e. absurd (not-both refl e)))
 
-module _ (e : tie.Else5) where
-  abbrev e4 : tie.Else4
+module _ (e : tie.Else-j-place) where
+  abbrev e4 : tie.Else-j-from
   e4 = e.before
 
-  abbrev e3 : tie.Else3
+  abbrev e3 : tie.Else-i-j
   e3 = e4.before
 
-  abbrev e2 : tie.Else2
+  abbrev e2 : tie.Else-members-j
   e2 = e3.before
 
   abbrev start : tie.Start
@@ -37,10 +37,10 @@ spread-requires : tie.Need-spread-requires
 spread-requires c κs =
     let e = c.before.before.before.before in
     let s = start e in
-    let P = s.pre.1.0 in
-    (s.pre.0, (P.0, (member_below P.0.laid P.1 s.args.i (e2 e).before.if1.false, member_below P.0.laid P.1 s.args.j (e2 e).if2.false)))
+    let P = s.requires.1.0 in
+    (s.requires.0, (P.0, (member_below P.0.laid P.1 s.args.i (e2 e).before.if-members-i.false, member_below P.0.laid P.1 s.args.j (e2 e).if-members-j.false)))
 
-returns-7 : tie.Need-returns-7
+returns-7 : tie.Need-returns
 returns-7 c =
     let e = c.before.before.before.before.before in
     let s = start e in
@@ -48,14 +48,14 @@ returns-7 c =
     let f = c.spread.ensures in (
       f.0,
       (
-        keeps-step (network s) a.members.now s.pre.1.0.1 a.i a.j (e2 e).before.if1.false (e2 e).if2.false (e3 e).if3.false a.words.now c.spread.new.1.1.1.1.0 f.1.0 a.place a.from
-            (⊎_elim (λ l. omega (arith, l, (e4 e).if4.false)) e.if5.false),
-        λ q. record { j = a.j; later = record { from-k = omega (arith, (e4 e).if4.false); inside = (e2 e).if2.false; other = e.if5.false }; dead = f.1.1 q },
+        keeps-step (network s) a.members.now s.requires.1.0.1 a.i a.j (e2 e).before.if-members-i.false (e2 e).if-members-j.false (e3 e).if-i-j.false a.words.now c.spread.new.1.1.1.1.0 f.1.0 a.place a.from
+            (⊎_elim (λ l. omega (arith, l, (e4 e).if-j-from.false)) e.if-j-place.false),
+        λ q. record { j = a.j; later = record { from-k = omega (arith, (e4 e).if-j-from.false); inside = (e2 e).if-members-j.false; other = e.if-j-place.false }; dead = f.1.1 q },
       ),
     )
 
-pub spread-step-spec : {M : Type 1} → statement M
-spread-step-spec =
+pub spread_step_spec : {M : Type 1} → statement M
+spread_step_spec =
     tie.close
     (tie.spec
     (λ c. none c.before.before.before.before)
@@ -66,8 +66,11 @@ spread-step-spec =
     (λ c κs.
     let e = c.before.before in
     let s = start e in
-    (s.pre, record { inside = (e2 e).if2.false; other = e.if5.false; behind = omega (arith, (e4 e).if4.false) }))
-    (λ c. c.bridge-step.ensures)
-    (λ c. search rules) (λ c. search rules) (λ c. search rules) (λ c. search rules)
+    (s.requires, record { inside = (e2 e).if-members-j.false; other = e.if-j-place.false; behind = omega (arith, (e4 e).if-j-from.false) }))
+    (λ c. c.bridge_step.ensures)
+    (λ c. search rules)
+    (λ c. search rules)
+    (λ c. search rules)
+    (λ c. search rules)
     spread-requires
     returns-7)

@@ -126,10 +126,10 @@ module _ (t : ℕ) where
   module _ (a : Attempt) where
     -- what is searched
     abbrev given : Search
-    given = search_on a.args.variables.now a.args.values.now a.args.starts.now a.args.words.now a.args.members.now a.args.place a.args.own a.args.t9
+    given = search_on a.args.variables.now a.args.values.now a.args.starts.now a.args.words.now a.args.members.now a.args.place a.args.own a.args.low
 
     abbrev tries : AttemptAt given a.args.index.now a.args.k a.args.resumes a.args.chosen a.args.x
-    tries = a.pre.1.1
+    tries = a.requires.1.1
 
     abbrev ready : SoundSearch given
     ready = tries.turn.seeking.sound
@@ -137,8 +137,8 @@ module _ (t : ℕ) where
     turn : Turn given a.args.k a.args.resumes a.args.chosen (span given a.args.k a.args.resumes).first (span given a.args.k a.args.resumes).start (span given a.args.k a.args.resumes).end
     turn =
         turn-of given a.args.index.now a.args.k a.args.resumes a.args.chosen tries.turn
-        (good_length (e_int w16) 4 a.args.chosen _ a.good.1.1.1.1.1.1.1.1.1.1.1.0)
-        (good_length (e_int w16) 4 a.args.t9 _ a.good.1.1.1.1.1.1.1.1.0)
+        (good_length (e_int w16) 4 a.args.chosen _ a.well_formed.1.1.1.1.1.1.1.1.1.1.1.0)
+        (good_length (e_int w16) 4 a.args.low _ a.well_formed.1.1.1.1.1.1.1.1.0)
 
     abbrev fit : Bool
     fit = fits (net_of given) a.args.members.now a.args.place a.args.own a.args.k a.args.chosen a.args.x
@@ -151,79 +151,79 @@ module _ (t : ℕ) where
     latest = id_at (net_of given) a.args.members.now a.args.k a.args.x
 
   -- the stage behind it
-  staged : (b : attempt-lts.After-past-own (attempt-callees t) (attempt-at t) attempt.Post) → let a = b.before.before.before.before.before.before.before.before.before in b.past-own.result ≡ past_own a.args.place a.args.own (a.args.k + 1) (set a.args.chosen a.args.k a.args.x)
-  staged b = let a = b.before.before.before.before.before.before.before.before.before in b.past-own.ensures ∙ ap (past_own a.args.place a.args.own (a.args.k + 1)) b.before.put.ensures
+  staged : (b : attempt-lts.After-past_own-stage (attempt-callees t) (attempt-at t) attempt.Post) → let a = b.before.before.before.before.before.before.before.before.before in b.past_own-stage.result ≡ past_own a.args.place a.args.own (a.args.k + 1) (set a.args.chosen a.args.k a.args.x)
+  staged b = let a = b.before.before.before.before.before.before.before.before.before in b.past_own-stage.ensures ∙ ap (past_own a.args.place a.args.own (a.args.k + 1)) b.before.put.ensures
 
-  module _ (n : attempt-lts.After-narrow-members (attempt-callees t) (attempt-at t) attempt.Post) where
-    abbrev chosen : attempt-lts.After-past-own (attempt-callees t) (attempt-at t) attempt.Post
+  module _ (n : attempt-lts.After-narrow_members (attempt-callees t) (attempt-at t) attempt.Post) where
+    abbrev chosen : attempt-lts.After-past_own-stage (attempt-callees t) (attempt-at t) attempt.Post
     chosen = n.before.before.before.before
 
     abbrev start : Attempt
     start = chosen.before.before.before.before.before.before.before.before.before
 
     abbrev fewer : List ℕ
-    fewer = n.narrow-members.last.1.1.1.1.0
+    fewer = n.narrow_members.last.1.1.1.1.0
 
     over : Fewer (given start) (latest start) fewer
-    over = fewer-words (given start) (ready start) (latest start) fewer n.narrow-members.ensures.1.0 n.narrow-members.ensures.0
+    over = fewer-words (given start) (ready start) (latest start) fewer n.narrow_members.ensures.1.0 n.narrow_members.ensures.0
 
     -- what there is to find among them is what there is to find onward
-    narrowed-ahead : fit start ≡ true → sought (on_words (given start) fewer) chosen.past-own.result.k chosen.past-own.result.chosen ≡ ahead start
-    narrowed-ahead = let a = start in behind-onward (turn a) a.args.x chosen.past-own.result (staged chosen) (tries a).turn.lives (tries a).from_start (tries a).to_end (tries a).lives fewer over
+    narrowed-ahead : fit start ≡ true → sought (on_words (given start) fewer) chosen.past_own-stage.result.k chosen.past_own-stage.result.chosen ≡ ahead start
+    narrowed-ahead = let a = start in behind-onward (turn a) a.args.x chosen.past_own-stage.result (staged chosen) (tries a).turn.lives (tries a).from_start (tries a).to_end (tries a).lives fewer over
 
-  attempt-narrow-members-requires : attempt-lts.Need-narrow-members-requires (attempt-callees t) (attempt-at t) attempt.Post
+  attempt-narrow-members-requires : attempt-lts.Need-narrow_members-requires (attempt-callees t) (attempt-at t) attempt.Post
   attempt-narrow-members-requires c κs =
       let b = c.before.before.before in
       let a = b.before.before.before.before.before.before.before.before.before in (
         a.requires.1.0,
         (
           record { laid = (ready a).laid; indexed = (tries a).turn.seeking.indexed; own = index_below (turn a) a.args.x (tries a).from_start (tries a).to_end },
-          behind-others (turn a) a.args.x b.past-own.result (staged b),
+          behind-others (turn a) a.args.x b.past_own-stage.result (staged b),
         ),
       )
 
   -- the place behind the next is one of a member
-  two-behind : (c : attempt-lts.After-place-behind2 (attempt-callees t) (attempt-at t) attempt.Post) → let a = c.before.before.before.before.before in c.place-behind2.result ≡ place_behind a.args.place (place_behind a.args.place a.args.k)
-  two-behind c = let a = c.before.before.before.before.before in c.place-behind2.ensures ∙ ap (place_behind a.args.place) c.before.place-behind.ensures
+  two-behind : (c : attempt-lts.After-place_behind-2 (attempt-callees t) (attempt-at t) attempt.Post) → let a = c.before.before.before.before.before in c.place_behind-2.result ≡ place_behind a.args.place (place_behind a.args.place a.args.k)
+  two-behind c = let a = c.before.before.before.before.before in c.place_behind-2.ensures ∙ ap (place_behind a.args.place) c.before.place_behind.ensures
 
-  more_left : (c : attempt-lts.Else1 (attempt-callees t) (attempt-at t) attempt.Post) → let a = c.before.before.before.before.before.before in place_behind a.args.place (place_behind a.args.place a.args.k) < length a.args.members.now
+  more_left : (c : attempt-lts.Else-place_behind-members (attempt-callees t) (attempt-at t) attempt.Post) → let a = c.before.before.before.before.before.before in place_behind a.args.place (place_behind a.args.place a.args.k) < length a.args.members.now
   more_left c =
       let a = c.before.before.before.before.before.before in
-      omega (arith, behind-within a.args.place (place_behind a.args.place a.args.k) (length a.args.members.now) (tries a).further (ready a).place, two-behind c.before, c.if1.false)
+      omega (arith, behind-within a.args.place (place_behind a.args.place a.args.k) (length a.args.members.now) (tries a).further (ready a).place, two-behind c.before, c.if-place_behind-members.false)
 
-  attempt-comb-all-requires : attempt-lts.Need-comb-all-requires (attempt-callees t) (attempt-at t) attempt.Post
+  attempt-comb-all-requires : attempt-lts.Need-comb_all-requires (attempt-callees t) (attempt-at t) attempt.Post
   attempt-comb-all-requires c κs =
       let j = c.before in
       let n = j.before.before.before.before in
       let b = chosen n in
       let a = start n in
-      let s = b.past-own.result in
-      let f : fit a ≡ true = sym j.before.before.fits2.ensures ∙ j.before.if3.true in
-      let e = flag a.args.resumes (eqb a.args.x (get_or a.args.t9 a.args.k 0)) j.if4.resuming (⊎_elim (λ w. ◌⊎◌.inl (w.0.taken, w.1)) (λ w. ◌⊎◌.inr (w.0.left, w.1)) j.if4.branch) in
+      let s = b.past_own-stage.result in
+      let f : fit a ≡ true = sym j.before.before.fits2.ensures ∙ j.before.if-fits.true in
+      let e = flag a.args.resumes (eqb a.args.x (get_or a.args.low a.args.k 0)) j.if-resumes.resuming (⊎_elim (λ w. ◌⊎◌.inl (w.0.taken, w.1)) (λ w. ◌⊎◌.inr (w.0.left, w.1)) j.if-resumes.branch-raw) in
       let on = behind-is (turn a) a.args.x s (staged b) in (
-        omega (arith, a.pre.0, (turn a).inside, behind-forth (turn a) a.args.x s (staged b), on, (tries a).further),
+        omega (arith, a.requires.0, (turn a).inside, behind-forth (turn a) a.args.x s (staged b), on, (tries a).further),
         (
           (
-            n.narrow-members.ensures.0,
-            behind-at (turn a) a.args.x s (staged b) (tries a).turn.lives (tries a).from_start (tries a).to_end (tries a).lives (fewer n) (over n) f a.args.index.now (tries a).turn.seeking.indexed (tries a).further j.if4.resuming e,
+            n.narrow_members.ensures.0,
+            behind-at (turn a) a.args.x s (staged b) (tries a).turn.lives (tries a).from_start (tries a).to_end (tries a).lives (fewer n) (over n) f a.args.index.now (tries a).turn.seeking.indexed (tries a).further j.if-resumes.resuming e,
           ),
           subst (λ (n : ℕ). place_behind a.args.place n < length a.args.members.now) (sym on) (more_left b.before.before.before),
         ),
       )
 
-  attempt-returns : attempt-lts.Need-returns-2 (attempt-callees t) (attempt-at t) attempt.Post
+  attempt-returns : attempt-lts.Need-returns-then-fits (attempt-callees t) (attempt-at t) attempt.Post
   attempt-returns c =
       let j = c.before.before in
       let n = j.before.before.before.before in
-      c.comb-all.ensures ∙ narrowed-ahead n (sym j.before.before.fits2.ensures ∙ j.before.if3.true)
+      c.comb_all.ensures ∙ narrowed-ahead n (sym j.before.before.fits2.ensures ∙ j.before.if-fits.true)
 
 -- ---- comb
 
-abbrev comb-Inv-loop : comb-lts.invariant-loop
+abbrev comb-Inv-loop : comb-lts.invariant-loop-g
 comb-Inv-loop variables values starts index words members place own k resumes chosen from low r first end lowest common sieve failed₀ tried₀ patience₀ g₀ failed tried patience g =
     let Q = search_on variables values starts words members place own low in WalkAt Q k resumes chosen g × Known Q k resumes chosen failed
 
-abbrev comb-μ-loop : comb-lts.decreases-loop
+abbrev comb-μ-loop : comb-lts.decreases-loop-g
 comb-μ-loop variables values starts index words members place own k resumes chosen from low r first end lowest common sieve failed₀ tried₀ patience₀ g₀ failed tried patience g = end - g
 
 module _ (t : ℕ) where
@@ -232,10 +232,10 @@ module _ (t : ℕ) where
 
   module _ (a : Comb) where
     abbrev combed : Search
-    combed = search_on a.args.variables.now a.args.values.now a.args.starts.now a.args.words.now a.args.members.now a.args.place a.args.own a.args.t9
+    combed = search_on a.args.variables.now a.args.values.now a.args.starts.now a.args.words.now a.args.members.now a.args.place a.args.own a.args.low
 
     abbrev from-pre : SearchAt combed a.args.index.now a.args.k a.args.resumes a.args.chosen
-    from-pre = a.pre.1.0.1
+    from-pre = a.requires.1.0.1
 
     abbrev line : Span
     line = span combed a.args.k a.args.resumes
@@ -243,45 +243,45 @@ module _ (t : ℕ) where
     combing : Turn combed a.args.k a.args.resumes a.args.chosen line.first line.start line.end
     combing =
         turn-of combed a.args.index.now a.args.k a.args.resumes a.args.chosen from-pre
-        (good_length (e_int w16) 4 a.args.chosen _ a.good.1.1.1.1.1.1.1.1.1.1.1.0)
-        (good_length (e_int w16) 4 a.args.t9 _ a.good.1.1.1.1.1.1.1.1.0)
+        (good_length (e_int w16) 4 a.args.chosen _ a.well_formed.1.1.1.1.1.1.1.1.1.1.1.0)
+        (good_length (e_int w16) 4 a.args.low _ a.well_formed.1.1.1.1.1.1.1.1.0)
 
     -- what `hopeless` asks
     hopeless-asks : (Long a.args.words.now × Refutable combed.lists a.args.index.now a.args.members.now a.args.place a.args.own) × (a.args.k < length a.args.members.now)
     hopeless-asks =
         let R = combing.ready in
-        ((a.pre.1.0.0, (((record { laid = R.laid; indexed = from-pre.seeking.indexed }, record { proper = R.members; few = R.few }), R.place), R.own)), combing.inside)
+        ((a.requires.1.0.0, (((record { laid = R.laid; indexed = from-pre.seeking.indexed }, record { proper = R.members; few = R.few }), R.place), R.own)), combing.inside)
 
-  module _ (l : comb-lts.In-loop (comb-callees t) (comb-at t) comb.Post comb-Inv-loop comb-μ-loop) where
-    abbrev covering : comb-lts.After-variables-from (comb-callees t) (comb-at t) comb.Post comb-Inv-loop comb-μ-loop
+  module _ (l : comb-lts.In-loop-g (comb-callees t) (comb-at t) comb.Post comb-Inv-loop comb-μ-loop) where
+    abbrev covering : comb-lts.After-variables_from-common (comb-callees t) (comb-at t) comb.Post comb-Inv-loop comb-μ-loop
     covering = l.before.before.before
 
     abbrev origin : Comb
     origin = covering.before.before.before.before.before.before.before
 
-    abbrev arrived : WalkAt (combed origin) origin.args.k origin.args.resumes origin.args.chosen l.before.loop.g
-    arrived = l.before.loop.inv.0
+    abbrev arrived : WalkAt (combed origin) origin.args.k origin.args.resumes origin.args.chosen l.before.loop-g.g
+    arrived = l.before.loop-g.inv.0
 
-    head-is : covering.before.before.tuple-start.result ≡ (line origin).first
-    head-is = covering.before.before.tuple-start.ensures
+    head-is : covering.before.before.tuple_start-first.result ≡ (line origin).first
+    head-is = covering.before.before.tuple_start-first.ensures
 
-    tail-is : covering.before.tuple-start2.result ≡ (line origin).end
-    tail-is = covering.before.tuple-start2.ensures
+    tail-is : covering.before.tuple_start-end.result ≡ (line origin).end
+    tail-is = covering.before.tuple_start-end.ensures
 
-    in-line : l.before.loop.g < (line origin).end
-    in-line = omega (arith, l.loop-test.taken, tail-is)
+    in-line : l.before.loop-g.g < (line origin).end
+    in-line = omega (arith, l.loop-g-test.taken, tail-is)
 
-    from-head : (line origin).first ≤ l.before.loop.g
-    from-head = (come-from (combing origin) l.before.loop.g arrived).0
+    from-head : (line origin).first ≤ l.before.loop-g.g
+    from-head = (come-from (combing origin) l.before.loop-g.g arrived).0
 
     abbrev l-sieve : Sieve
-    l-sieve = l.before.before.sieve-behind.result
+    l-sieve = l.before.before.sieve_behind-sieve.result
 
     -- the tuple's index
     abbrev x : ℕ
-    x = l.before.loop.g - covering.before.before.tuple-start.result
+    x = l.before.loop-g.g - covering.before.before.tuple_start-first.result
 
-    x-is : (line origin).first + x ≡ l.before.loop.g
+    x-is : (line origin).first + x ≡ l.before.loop-g.g
     x-is = omega (arith, head-is, from-head)
 
     x-from : (line origin).start ≤ (line origin).first + x
@@ -297,30 +297,30 @@ module _ (t : ℕ) where
     next-asks : (i : ℕ) → (line origin).start ≤ i → i ≤ (line origin).end → (i ≤ (line origin).end) × ((line origin).end ≤ 64 * length origin.args.words.now) × ((line origin).end ≤ 4096)
     next-asks = walk-asks (combing origin)
 
-  module _ (m : comb-lts.After-may-lead (comb-callees t) (comb-at t) comb.Post comb-Inv-loop comb-μ-loop) where
-    abbrev flagged : comb-lts.Joined1 (comb-callees t) (comb-at t) comb.Post comb-Inv-loop comb-μ-loop
+  module _ (m : comb-lts.After-may_lead (comb-callees t) (comb-at t) comb.Post comb-Inv-loop comb-μ-loop) where
+    abbrev flagged : comb-lts.Joined-resumes (comb-callees t) (comb-at t) comb.Post comb-Inv-loop comb-μ-loop
     flagged = m.before.before
 
-    abbrev here : comb-lts.In-loop (comb-callees t) (comb-at t) comb.Post comb-Inv-loop comb-μ-loop
+    abbrev here : comb-lts.In-loop-g (comb-callees t) (comb-at t) comb.Post comb-Inv-loop comb-μ-loop
     here = flagged.before
 
     abbrev after : List ℕ
-    after = m.may-lead.last.1.1.1.1.1.1.1.1.0
+    after = m.may_lead.last.1.1.1.1.1.1.1.1.0
 
-    lead : MayLead (combed (origin here)).lists (combed (origin here)).members (combed (origin here)).place (combed (origin here)).own (origin here).args.k (origin here).args.chosen (x here) (l-sieve here) (covering here).variables-from.result ((origin here).args.resumes && eqb (x here) (get_or (origin here).args.t9 (origin here).args.k 0)) here.before.loop.failed m.may-lead.result after
+    lead : MayLead (combed (origin here)).lists (combed (origin here)).members (combed (origin here)).place (combed (origin here)).own (origin here).args.k (origin here).args.chosen (x here) (l-sieve here) (covering here).variables_from-common.result ((origin here).args.resumes && eqb (x here) (get_or (origin here).args.low (origin here).args.k 0)) here.before.loop-g.failed m.may_lead.result after
     lead =
         let a = origin here in
-        let e = flag a.args.resumes (eqb (x here) (get_or a.args.t9 a.args.k 0)) flagged.if1.resumed (⊎_elim (λ w. ◌⊎◌.inl (w.0.taken, w.1)) (λ w. ◌⊎◌.inr (w.0.left, w.1)) flagged.if1.came) in
-        subst (λ (r : Bool). MayLead (combed a).lists (combed a).members (combed a).place (combed a).own a.args.k a.args.chosen (x here) (l-sieve here) (covering here).variables-from.result r here.before.loop.failed m.may-lead.result after) (sym e) m.may-lead.ensures
+        let e = flag a.args.resumes (eqb (x here) (get_or a.args.low a.args.k 0)) flagged.if-place_behind-members.resumed (⊎_elim (λ w. ◌⊎◌.inl (w.0.taken, w.1)) (λ w. ◌⊎◌.inr (w.0.left, w.1)) flagged.if-place_behind-members.came) in
+        subst (λ (r : Bool). MayLead (combed a).lists (combed a).members (combed a).place (combed a).own a.args.k a.args.chosen (x here) (l-sieve here) (covering here).variables_from-common.result r here.before.loop-g.failed m.may_lead.result after) (sym e) m.may_lead.ensures
 
-  module _ (c : comb-lts.After-next (comb-callees t) (comb-at t) comb.Post comb-Inv-loop comb-μ-loop) where
-    abbrev joined : comb-lts.Joined2 (comb-callees t) (comb-at t) comb.Post comb-Inv-loop comb-μ-loop
+  module _ (c : comb-lts.After-next-g (comb-callees t) (comb-at t) comb.Post comb-Inv-loop comb-μ-loop) where
+    abbrev joined : comb-lts.Joined-may_lead (comb-callees t) (comb-at t) comb.Post comb-Inv-loop comb-μ-loop
     joined = c.before.before
 
-    abbrev led : comb-lts.After-may-lead (comb-callees t) (comb-at t) comb.Post comb-Inv-loop comb-μ-loop
+    abbrev led : comb-lts.After-may_lead (comb-callees t) (comb-at t) comb.Post comb-Inv-loop comb-μ-loop
     led = joined.before
 
-    abbrev at-loop : comb-lts.In-loop (comb-callees t) (comb-at t) comb.Post comb-Inv-loop comb-μ-loop
+    abbrev at-loop : comb-lts.In-loop-g (comb-callees t) (comb-at t) comb.Post comb-Inv-loop comb-μ-loop
     at-loop = here led
 
     -- the tuple leads to nothing
@@ -330,21 +330,21 @@ module _ (t : ℕ) where
         let a = origin l in
         ⊎_elim
         (λ w. sym w.2.ensures ∙ ap (λ (b : Bool). answer b (take (length a.args.members.now) w.2.result.tuples)) (ne_eqb (w.2.result.kind % 2) 1 w.4.left))
-        (λ w. leads-nowhere l.before.loop.inv.1 (lead led) (combing a) (covering l).variables-from.ensures (x-from l) (x-to l) l.before.before.sieve-behind.ensures w.0.left)
-        joined.if2.came
+        (λ w. leads-nowhere l.before.loop-g.inv.1 (lead led) (combing a) (covering l).variables_from-common.ensures (x-from l) (x-to l) l.before.before.sieve_behind-sieve.ensures w.0.left)
+        joined.if-narrow_members.came
 
-    nextly : WalkAt (combed (origin at-loop)) (origin at-loop).args.k (origin at-loop).args.resumes (origin at-loop).args.chosen c.next.result
+    nextly : WalkAt (combed (origin at-loop)) (origin at-loop).args.k (origin at-loop).args.resumes (origin at-loop).args.chosen c.next-g.result
     nextly =
         let l = at-loop in
         let a = origin l in
-        subst (WalkAt (combed a) a.args.k a.args.resumes a.args.chosen) (sym (c.next.ensures ∙ ap (next_live a.args.words.now (l.before.loop.g + 1)) (tail-is l)))
-        (come-next (combing a) l.before.loop.g (arrived l) (in-line l) (ap (onward (combed a) a.args.k a.args.chosen) (sym (x-is l)) ∙ barren))
+        subst (WalkAt (combed a) a.args.k a.args.resumes a.args.chosen) (sym (c.next-g.ensures ∙ ap (next_live a.args.words.now (l.before.loop-g.g + 1)) (tail-is l)))
+        (come-next (combing a) l.before.loop-g.g (arrived l) (in-line l) (ap (onward (combed a) a.args.k a.args.chosen) (sym (x-is l)) ∙ barren))
 
-    beyond : at-loop.before.loop.g < c.next.result
+    beyond : at-loop.before.loop-g.g < c.next-g.result
     beyond =
         let l = at-loop in
-        let f = next_live-first (origin l).args.words.now (l.before.loop.g + 1) (line (origin l)).end (omega (arith, in-line l)) in
-        omega (arith, f.from-i, c.next.ensures, ap (next_live (origin l).args.words.now (l.before.loop.g + 1)) (tail-is l))
+        let f = next_live-first (origin l).args.words.now (l.before.loop-g.g + 1) (line (origin l)).end (omega (arith, in-line l)) in
+        omega (arith, f.from-i, c.next-g.ensures, ap (next_live (origin l).args.words.now (l.before.loop-g.g + 1)) (tail-is l))
 
 -- ---- comb_all
 
@@ -354,10 +354,10 @@ module _ (t : ℕ) where
 
   module _ (a : Searching) where
     abbrev sent : Search
-    sent = search_on a.args.variables.now a.args.values.now a.args.starts.now a.args.words.now a.args.members.now a.args.place a.args.own a.args.t9
+    sent = search_on a.args.variables.now a.args.values.now a.args.starts.now a.args.words.now a.args.members.now a.args.place a.args.own a.args.low
 
     abbrev asked : SearchAt sent a.args.index.now a.args.k a.args.resumes a.args.chosen
-    asked = a.pre.1.0.1
+    asked = a.requires.1.0.1
 
     abbrev sound : SoundSearch sent
     sound = asked.seeking.sound
@@ -366,16 +366,16 @@ module _ (t : ℕ) where
     path = span sent a.args.k a.args.resumes
 
     chosen-sized : length a.args.chosen ≡ 4
-    chosen-sized = good_length (e_int w16) 4 a.args.chosen _ a.good.1.1.1.1.1.1.1.1.1.1.1.0
+    chosen-sized = good_length (e_int w16) 4 a.args.chosen _ a.well_formed.1.1.1.1.1.1.1.1.1.1.1.0
 
-    bound-sized : length a.args.t9 ≡ 4
-    bound-sized = good_length (e_int w16) 4 a.args.t9 _ a.good.1.1.1.1.1.1.1.1.0
+    bound-sized : length a.args.low ≡ 4
+    bound-sized = good_length (e_int w16) 4 a.args.low _ a.well_formed.1.1.1.1.1.1.1.1.0
 
     going : Turn sent a.args.k a.args.resumes a.args.chosen path.first path.start path.end
     going = turn-of sent a.args.index.now a.args.k a.args.resumes a.args.chosen asked chosen-sized bound-sized
 
-  module _ (n : comb-all-lts.After-next (comb-all-callees t) (comb-all-at t) comb-all.Post) where
-    abbrev spanned : comb-all-lts.After-span-of (comb-all-callees t) (comb-all-at t) comb-all.Post
+  module _ (n : comb-all-lts.After-next-g (comb-all-callees t) (comb-all-at t) comb-all.Post) where
+    abbrev spanned : comb-all-lts.After-span_of-span (comb-all-callees t) (comb-all-at t) comb-all.Post
     spanned = n.before.before
 
     abbrev entered : Searching
@@ -387,21 +387,21 @@ module _ (t : ℕ) where
     stop_is : spanned.Span-of.result.end ≡ (path entered).end
     stop_is = ap (λ (s : Span). s.end) spanned.Span-of.ensures
 
-    begins : WalkAt (sent entered) entered.args.k entered.args.resumes entered.args.chosen n.next.result
+    begins : WalkAt (sent entered) entered.args.k entered.args.resumes entered.args.chosen n.next-g.result
     begins =
         let a = entered in
         subst (WalkAt (sent a) a.args.k a.args.resumes a.args.chosen)
-        (sym (n.next.ensures ∙ ap (λ (i : ℕ). next_live a.args.words.now i spanned.Span-of.result.end) start_is ∙ ap (next_live a.args.words.now (path a).start) stop_is))
+        (sym (n.next-g.ensures ∙ ap (λ (i : ℕ). next_live a.args.words.now i spanned.Span-of.result.end) start_is ∙ ap (next_live a.args.words.now (path a).start) stop_is))
         (come-first (going a))
 
-pub +attempt-comb-comb-all-spec : {M : Type 1} → statement M
-+attempt-comb-comb-all-spec =
+pub +attempt_comb_comb_all_spec : {M : Type 1} → statement M
++attempt_comb_comb_all_spec =
     close μ-attempt μ-comb μ-comb-all
     (λ t. attempt-lts.spec (attempt-callees t) (attempt-at t) attempt.Post
     (λ c κs. let a = c.before.before.before in omega (arith, (ready t a).few, (turn t a).inside))
-    (λ c κs. let a = c.before.before.before.before in omega (arith, (ready t a).few, (tries t a).further, c.place-behind.ensures))
-    (λ c κs. let a = c.before.before.before.before.before.before in (a.requires.1, sym (two-behind t c.before) ∙ c.if1.true))
-    (λ c. c.attempt-last.ensures)
+    (λ c κs. let a = c.before.before.before.before in omega (arith, (ready t a).few, (tries t a).further, c.place_behind.ensures))
+    (λ c κs. let a = c.before.before.before.before.before.before in (a.requires.1, sym (two-behind t c.before) ∙ c.if-place_behind-members.true))
+    (λ c. c.attempt_last.ensures)
     (λ c. let a = c.before.before.before.before.before.before in omega (arith, (ready t a).few, (turn t a).inside))
     (λ c. let a = c.before.before.before.before.before.before.before in (turn t a).inside)
     (λ c. let a = c.before.before.before.before.before.before.before in omega (arith, (ready t a).few, (turn t a).inside))
@@ -413,14 +413,14 @@ pub +attempt-comb-comb-all-spec : {M : Type 1} → statement M
     (λ c. let a = start t c.before.before.before.before in omega (arith, (ready t a).few, (turn t a).inside))
     (attempt-comb-all-requires t)
     (attempt-returns t)
-    (λ c. let a = start t c.before.before.before in sym (come-clash (turn t a) a.args.x (tries t a).from_start (tries t a).to_end (sym c.before.fits2.ensures ∙ c.if3.false)))
+    (λ c. let a = start t c.before.before.before in sym (come-clash (turn t a) a.args.x (tries t a).from_start (tries t a).to_end (sym c.before.fits2.ensures ∙ c.if-fits.false)))
     (λ c.
     let n = c.before in
     let b = chosen t n in
     let a = start t n in
     sym
-    (behind-bare (turn t a) a.args.x b.past-own.result (staged t b) (tries t a).turn.lives (tries t a).from_start (tries t a).to_end (tries t a).lives (fewer t n) (over t n)
-    (n.narrow-members.ensures.1.1 c.if2.false))))
+    (behind-bare (turn t a) a.args.x b.past_own-stage.result (staged t b) (tries t a).turn.lives (tries t a).from_start (tries t a).to_end (tries t a).lives (fewer t n) (over t n)
+    (n.narrow_members.ensures.1.1 c.if-narrow_members.false))))
     (λ t. comb-lts.spec (comb-callees t) (comb-at t) comb.Post comb-Inv-loop comb-μ-loop
     (λ c. let a = c.before.before.before in omega (arith, (combing t a).ready.few, (combing t a).inside))
     (λ c. let a = c.before.before.before.before in (combing t a).inside)
@@ -434,43 +434,43 @@ pub +attempt-comb-comb-all-spec : {M : Type 1} → statement M
     (λ c κs. let a = c.before.before.before.before.before.before.before in (a.requires.1.0.0, (record { laid = (combing t a).ready.laid; exist = λ j h. exists (combed t a) (combing t a).ready j h }, record { inside = (combing t a).inside; place_in = (combing t a).ready.place; other = (combing t a).other })))
     (λ c. let a = c.before.before.before.before.before.before.before.before in (a.requires.1.1.0, known-none (combed t a) a.args.k a.args.resumes a.args.chosen))
     (λ l. omega (arith, head-is t l, from-head t l))
-    (λ c κs. let l = c.before.before in (trial (combing t (origin t l)) (x t l) (x-from t l) (x-to t l), l.before.loop.invariant.1.0))
+    (λ c κs. let l = c.before.before in (trial (combing t (origin t l)) (x t l) (x-from t l) (x-to t l), l.before.loop-g.invariant.1.0))
     (λ c κs. hopeless-asks t (origin t (here t c.before.before)))
     (λ c κs. search rules)
     (λ c.
     let p = c.before.before in
     let a = origin t (here t p.before.before.before) in
     ap (λ (b : Bool). answer b (take (length a.args.members.now) a.args.chosen)) c.after.ensures
-    ∙ sym (sought-alone (combed t a) (combing t a).ready a.args.k a.args.resumes a.args.chosen (combing t a).begun (p.hopeless.ensures c.before.if4.true)))
+    ∙ sym (sought-alone (combed t a) (combing t a).ready a.args.k a.args.resumes a.args.chosen (combing t a).begun (p.hopeless.ensures c.before.if-resumes.true)))
     (λ c κs. search rules)
     (λ c κs.
     let l = here t c.before.before in
     let a = origin t l in
-    (omega (arith, a.pre.0), (a.pre.1.0.0, record { turn = from-pre t a; from_start = x-from t l; to_end = x-to t l; lives = x-lives t l; further = a.pre.1.1.1 })))
+    (omega (arith, a.requires.0), (a.requires.1.0.0, record { turn = from-pre t a; from_start = x-from t l; to_end = x-to t l; lives = x-lives t l; further = a.requires.1.1.1 })))
     (λ c κs. search rules)
     (λ c κs. search rules)
     (λ c.
     let u = c.before.before.before.before in
     let l = here t u.before.before.before in
     let a = origin t l in
-    let ts = take (length a.args.members.now) u.attempt.result.tuples in
-    let e = ap (λ (b : Bool). answer b ts) (eq-eqb (u.attempt.result.kind % 2) 1 c.before.before.if5.true) in
-    ap (λ (b : Bool). answer b ts) c.after2.ensures ∙ sym (come-found (combing t a) l.before.loop.g (arrived t l) (in-line t l) ts (ap (onward (combed t a) a.args.k a.args.chosen) (sym (x-is t l)) ∙ sym u.attempt.ensures ∙ e)))
-    (λ c. let l = here t c.before.before in omega (arith, in-line t l, (next-asks t l l.before.loop.g (arrived t l).from_start (arrived t l).to_end).2))
+    let ts = take (length a.args.members.now) u.attempt-found.result.tuples in
+    let e = ap (λ (b : Bool). answer b ts) (eq-eqb (u.attempt-found.result.kind % 2) 1 c.before.before.if-kind-eq-FOUND.true) in
+    ap (λ (b : Bool). answer b ts) c.after-then-kind-eq-FOUND.ensures ∙ sym (come-found (combing t a) l.before.loop-g.g (arrived t l) (in-line t l) ts (ap (onward (combed t a) a.args.k a.args.chosen) (sym (x-is t l)) ∙ sym u.attempt-found.ensures ∙ e)))
+    (λ c. let l = here t c.before.before in omega (arith, in-line t l, (next-asks t l l.before.loop-g.g (arrived t l).from_start (arrived t l).to_end).2))
     (λ c κs.
     let l = here t c.before.before in
-    let k = next-asks t l (l.before.loop.g + 1) (omega (arith, (arrived t l).from_start)) (omega (arith, in-line t l)) in
+    let k = next-asks t l (l.before.loop-g.g + 1) (omega (arith, (arrived t l).from_start)) (omega (arith, in-line t l)) in
     (omega (arith, tail-is t l, k.0), omega (arith, tail-is t l, k.1), omega (arith, tail-is t l, k.2)))
-    (λ c. omega (arith, beyond t c, (nextly t c).to_end, tail-is t (at-loop t c), (at-loop t c).loop-test.true))
+    (λ c. omega (arith, beyond t c, (nextly t c).to_end, tail-is t (at-loop t c), (at-loop t c).loop-g-test.true))
     (λ c.
     let l = at-loop t c in
-    (nextly t c, known_next l.before.loop.inv.1 (lead t (led t c)) (x-from t l) (x-to t l) (x-lives t l) (barren t c)))
+    (nextly t c, known_next l.before.loop-g.inv.1 (lead t (led t c)) (x-from t l) (x-to t l) (x-lives t l) (barren t c)))
     (λ c κs. search rules)
     (λ c.
     let e = c.before in
     let a = e.before.before.before.before.before.before.before.before.before.before in
-    ap (λ (b : Bool). answer b (take (length a.args.members.now) a.args.chosen)) c.after3.ensures
-    ∙ sym (come-none (combing t a) e.before.loop.g e.before.loop.invariant.0 (omega (arith, e.loop-test.false, e.before.before.before.before.tuple-start2.ensures)))))
+    ap (λ (b : Bool). answer b (take (length a.args.members.now) a.args.chosen)) c.after-2.ensures
+    ∙ sym (come-none (combing t a) e.before.loop-g.g e.before.loop-g.invariant.0 (omega (arith, e.loop-g-test.false, e.before.before.before.before.tuple_start-end.ensures)))))
     λ t. comb-all-lts.spec (comb-all-callees t) (comb-all-at t) comb-all.Post
     (λ c. let a = c.before.before.before in omega (arith, (sound t a).few, (asked t a).inside))
     (λ c. (asked t c.before.before.before.before).inside)
@@ -483,5 +483,5 @@ pub +attempt-comb-comb-all-spec : {M : Type 1} → statement M
     let e = ap (λ (s : Span). s.end) c.before.Span-of.ensures in
     let k = walk-asks (going t a) (path t a).start (omega arith) (walk-forward (going t a)) in
     (omega (arith, s, e, k.0), omega (arith, e, k.1), omega (arith, e, k.2)))
-    (λ c κs. let a = entered t c in (omega (arith, a.pre.0), (a.pre.1.0, (begins t c, a.pre.1.1))))
+    (λ c κs. let a = entered t c in (omega (arith, a.requires.0), (a.requires.1.0, (begins t c, a.requires.1.1))))
     (λ c. c.comb.ensures)

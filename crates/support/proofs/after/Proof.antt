@@ -12,11 +12,13 @@ use Rattle.support.proofs.after.Tie as tie
 twice-more : (n kind : ℕ) → eqb ((2 * n + kind) % 2) 1 ≡ eqb (kind % 2) 1
 twice-more n kind = let same : (2 * n + kind) % 2 ≡ kind % 2 = omega arith in ap (λ (x : ℕ). eqb x 1) same
 
-pub after-spec : {M : Type 1} → statement M
-after-spec =
+pub after_spec : {M : Type 1} → statement M
+after_spec =
     tie.close
     (tie.spec
-    (λ c. search rules) (λ c. search rules)
+    (λ c. search rules)
+    (λ c. search rules)
     (λ c. twice-more 16384 c.before.args.kind)
-    (λ c. search rules) (λ c. search rules)
+    (λ c. search rules)
+    (λ c. search rules)
     (λ c. twice-more c.before.args.tried c.before.args.kind))

@@ -32,20 +32,20 @@ module _ (a : tie.Start) where
         members = a.args.members.now;
         place = a.args.place;
         own = a.args.own;
-        low = a.args.t9;
+        low = a.args.low;
       }
 
   abbrev tried : AttemptAt sent a.args.index.now a.args.k a.args.resumes a.args.chosen a.args.x
-  tried = a.pre.0.1
+  tried = a.requires.0.1
 
   abbrev sound : SoundSearch sent
   sound = tried.turn.seeking.sound
 
   sized : length a.args.chosen ≡ 4
-  sized = good_length (e_int w16) 4 a.args.chosen _ a.good.1.1.1.1.1.1.1.1.1.1.1.0
+  sized = good_length (e_int w16) 4 a.args.chosen _ a.well_formed.1.1.1.1.1.1.1.1.1.1.1.0
 
-  low-sized : length a.args.t9 ≡ 4
-  low-sized = good_length (e_int w16) 4 a.args.t9 _ a.good.1.1.1.1.1.1.1.1.0
+  low-sized : length a.args.low ≡ 4
+  low-sized = good_length (e_int w16) 4 a.args.low _ a.well_formed.1.1.1.1.1.1.1.1.0
 
   abbrev way : Span
   way = span sent a.args.k a.args.resumes
@@ -61,15 +61,15 @@ module _ (a : tie.Start) where
 
 -- ---- The stage behind
 
-module _ (b : tie.After-past-own) where
+module _ (b : tie.After-past_own-stage) where
   abbrev start : tie.Start
   start = b.before.before.before.before.before
 
   abbrev on : ℕ
-  on = b.past-own.result.k
+  on = b.past_own-stage.result.k
 
-  staged : b.past-own.result ≡ past_own start.args.place start.args.own (start.args.k + 1) (more start)
-  staged = b.past-own.ensures ∙ ap (past_own start.args.place start.args.own (start.args.k + 1)) b.before.put.ensures
+  staged : b.past_own-stage.result ≡ past_own start.args.place start.args.own (start.args.k + 1) (more start)
+  staged = b.past_own-stage.ensures ∙ ap (past_own start.args.place start.args.own (start.args.k + 1)) b.before.put.ensures
 
   on-is : on ≡ place_behind start.args.place start.args.k
   on-is = ap (λ (s : Stage). s.k) staged ∙ past-place start.args.place start.args.own start.args.k (more start)
@@ -79,30 +79,30 @@ module _ (b : tie.After-past-own) where
 
 -- ---- The last turn
 
-module _ (c : tie.After-span-of) where
-  abbrev behind : tie.After-past-own
+module _ (c : tie.After-span_of-span) where
+  abbrev behind : tie.After-past_own-stage
   behind = c.before.before.before.before
 
   abbrev entry : tie.Start
   entry = start behind
 
   abbrev resuming : Bool
-  resuming = entry.args.resumes && eqb entry.args.x (get_or entry.args.t9 entry.args.k 0)
+  resuming = entry.args.resumes && eqb entry.args.x (get_or entry.args.low entry.args.k 0)
 
-  goes_on : resuming ≡ c.before.before.if1.resuming
-  goes_on = flag entry.args.resumes (eqb entry.args.x (get_or entry.args.t9 entry.args.k 0)) c.before.before.if1.resuming (⊎_elim (λ w. ◌⊎◌.inl (w.0.taken, w.1)) (λ w. ◌⊎◌.inr (w.0.left, w.1)) c.before.before.if1.branch)
+  goes_on : resuming ≡ c.before.before.if-resumes.resuming
+  goes_on = flag entry.args.resumes (eqb entry.args.x (get_or entry.args.low entry.args.k 0)) c.before.before.if-resumes.resuming (⊎_elim (λ w. ◌⊎◌.inl (w.0.taken, w.1)) (λ w. ◌⊎◌.inr (w.0.left, w.1)) c.before.before.if-resumes.branch-raw)
 
   spans : c.Span-of.result ≡ span (sent entry) (on behind) resuming
-  spans = c.Span-of.ensures ∙ ap (λ (b : Bool). span_at entry.args.starts.now (get_or entry.args.members.now (on behind) 0) b (get_or entry.args.t9 (on behind) 0)) (sym goes_on)
+  spans = c.Span-of.ensures ∙ ap (λ (b : Bool). span_at entry.args.starts.now (get_or entry.args.members.now (on behind) 0) b (get_or entry.args.low (on behind) 0)) (sym goes_on)
 
   module _ (f : fit entry ≡ true) where
-    stage : NextStage (sent entry) resuming (entry.args.k + 1) (more entry) behind.past-own.result
-    stage = stage-behind (turn entry) (tried entry).turn.lives entry.args.x (tried entry).from_start (tried entry).to_end (tried entry).lives f behind.past-own.result (staged behind)
+    stage : NextStage (sent entry) resuming (entry.args.k + 1) (more entry) behind.past_own-stage.result
+    stage = stage-behind (turn entry) (tried entry).turn.lives entry.args.x (tried entry).from_start (tried entry).to_end (tried entry).lives f behind.past_own-stage.result (staged behind)
 
-    ahead : sought (sent entry) (on behind) behind.past-own.result.chosen ≡ onward (sent entry) entry.args.k entry.args.chosen ((way entry).first + entry.args.x)
-    ahead = stage-onward (turn entry) (tried entry).turn.lives entry.args.x (tried entry).from_start (tried entry).to_end (tried entry).lives f behind.past-own.result (staged behind)
+    ahead : sought (sent entry) (on behind) behind.past_own-stage.result.chosen ≡ onward (sent entry) entry.args.k entry.args.chosen ((way entry).first + entry.args.x)
+    ahead = stage-onward (turn entry) (tried entry).turn.lives entry.args.x (tried entry).from_start (tried entry).to_end (tried entry).lives f behind.past_own-stage.result (staged behind)
 
-    last_turn : Turn (sent entry) (on behind) resuming behind.past-own.result.chosen c.Span-of.result.first c.Span-of.result.start c.Span-of.result.end
+    last_turn : Turn (sent entry) (on behind) resuming behind.past_own-stage.result.chosen c.Span-of.result.first c.Span-of.result.start c.Span-of.result.end
     last_turn =
         turn_on {index = entry.args.index.now}
         (record { seeking = (tried entry).turn.seeking; prefix = stage.prefix; lives = (tried entry).turn.lives; inside = on-inside behind; other = stage.other })
@@ -111,11 +111,11 @@ module _ (c : tie.After-span-of) where
   clash : fit entry ≡ false → onward (sent entry) entry.args.k entry.args.chosen ((way entry).first + entry.args.x) ≡ none
   clash = come-clash (turn entry) entry.args.x (tried entry).from_start (tried entry).to_end
 
-first-fitting-requires : tie.Need-first-fitting-requires
+first-fitting-requires : tie.Need-first_fitting-g-requires
 first-fitting-requires c κs =
     let a = entry c in
     let b = behind c in
-    let s = b.past-own.result in
+    let s = b.past_own-stage.result in
     let below = index_below (turn a) a.args.x (tried a).from_start (tried a).to_end in
     let i = span-inside (sent a) (on b) (sound a) (on-inside b) (resuming c) in
     let begin = ap (λ (s : Span). s.start) (spans c) in
@@ -124,7 +124,7 @@ first-fitting-requires c κs =
     (ap (λ (s : Stage). get_or s.chosen a.args.k 0) (staged b)
     ∙ past-kept a.args.place a.args.own (a.args.k + 1) (more a) a.args.k (omega arith)
     ∙ get_or-set_same a.args.chosen a.args.k a.args.x 0 (omega (arith, sized a, (sound a).few, (tried a).turn.inside))) in (
-      a.pre.0.0,
+      a.requires.0.0,
       record {
         trials = trials-behind (turn a) a.args.x below s (staged b) (on-inside b);
         indexed = (tried a).turn.seeking.indexed;
@@ -136,34 +136,34 @@ first-fitting-requires c κs =
       },
     )
 
-returns : tie.Need-returns
+returns : tie.Need-returns-then-fits
 returns c =
     let o = c.before in
     let f = o.before.before.before.before in
     let w = f.before.before.before in
     let s = w.before in
     let a = entry s in
-    let fits = sym f.fits2.ensures ∙ o.before.before.before.if3.true in
+    let fits = sym f.fits2.ensures ∙ o.before.before.before.if-fits.true in
     sym
     (sym (ahead s fits)
-    ∙ last_found (last_turn s fits) (tried a).turn.lives (ap (place_behind a.args.place) (on-is (behind s)) ∙ a.pre.1) w.first-fitting.result w.first-fitting.ensures f.before.if2.true o.past-own2.result
-    (o.past-own2.ensures ∙ ap (past_own a.args.place a.args.own (on (behind s) + 1)) o.before.put2.ensures))
+    ∙ last_found (last_turn s fits) (tried a).turn.lives (ap (place_behind a.args.place) (on-is (behind s)) ∙ a.requires.1) w.first_fitting-g.result w.first_fitting-g.ensures f.before.if-g-span.true o.past_own-full.result
+    (o.past_own-full.ensures ∙ ap (past_own a.args.place a.args.own (on (behind s) + 1)) o.before.put-then-fits.ensures))
 
-returns-3 : tie.Need-returns-3
+returns-3 : tie.Need-returns-else-g-span
 returns-3 c = go (fit (entry s)) refl
   where
-    w : tie.After-first-fitting
+    w : tie.After-first_fitting-g
     w = c.before.before
 
-    s : tie.After-span-of
+    s : tie.After-span_of-span
     s = w.before
 
     go : (b : Bool) → fit (entry s) ≡ b → none ≡ onward (sent (entry s)) (entry s).args.k (entry s).args.chosen ((way (entry s)).first + (entry s).args.x)
-    go true f = sym (sym (ahead s f) ∙ last_none (last_turn s f) (tried (entry s)).turn.lives w.first-fitting.result w.first-fitting.ensures c.if2.false)
+    go true f = sym (sym (ahead s f) ∙ last_none (last_turn s f) (tried (entry s)).turn.lives w.first_fitting-g.result w.first_fitting-g.ensures c.if-g-span.false)
     go false f = sym (clash s f)
 
-pub attempt-last-spec : {M : Type 1} → statement M
-attempt-last-spec =
+pub attempt_last_spec : {M : Type 1} → statement M
+attempt_last_spec =
     tie.close
     (tie.spec
     (λ c. let a = c.before.before.before in omega (arith, (sound a).few, (tried a).turn.inside))
@@ -182,9 +182,9 @@ attempt-last-spec =
     (λ c.
     let f = c.before.before in
     let w = f.before.before.before in
-    omega (arith, fitting-is (last_turn w.before (sym f.fits2.ensures ∙ c.before.if3.true)) w.first-fitting.result w.first-fitting.ensures))
+    omega (arith, fitting-is (last_turn w.before (sym f.fits2.ensures ∙ c.before.if-fits.true)) w.first_fitting-g.result w.first_fitting-g.ensures))
     (λ c κs. search rules)
     (λ c κs. let a = entry c.before.before.before.before.before.before.before in omega (arith, (sound a).place, (sound a).few))
     returns
-    (λ c. let s = c.before.before.before.before.before in sym (clash s (sym c.before.fits2.ensures ∙ c.if3.false)))
+    (λ c. let s = c.before.before.before.before.before in sym (clash s (sym c.before.fits2.ensures ∙ c.if-fits.false)))
     returns-3)

@@ -89,12 +89,12 @@ module _ {L : Lists} {index : List ℕ} {c : List ℕ} {place own k : ℕ} {chos
 
 -- ---- The loop
 
-abbrev invariant-loop : tie.invariant-loop
+abbrev invariant-loop : tie.invariant-loop-g
 invariant-loop variables values starts index words members place own k chosen from by x r first end rows n g₀ g =
     let L : Lists = record { variables = variables; values = values; starts = starts } in
     (P : FittingAt L index members place own k chosen from by x) → Passed P words g
 
-abbrev decreases-loop : tie.decreases-loop
+abbrev decreases-loop : tie.decreases-loop-g
 decreases-loop variables values starts index words members place own k chosen from by x r first end rows n g₀ g = end - g
 
 abbrev Entry : Type 0
@@ -104,9 +104,9 @@ abbrev given : Entry → Lists
 given s = record { variables = s.args.variables.now; values = s.args.values.now; starts = s.args.starts.now }
 
 abbrev asked : (s : Entry) → FittingAt (given s) s.args.index.now s.args.members.now s.args.place s.args.own s.args.k s.args.chosen s.args.from s.args.by s.args.x
-asked s = s.pre.1
+asked s = s.requires.1
 
-module _ (l : tie.After-tuple-start2 invariant-loop decreases-loop) where
+module _ (l : tie.After-tuple_start-end invariant-loop decreases-loop) where
   abbrev begun : Entry
   begun = l.before.before.before.before.before.before
 
@@ -116,39 +116,39 @@ module _ (l : tie.After-tuple-start2 invariant-loop decreases-loop) where
   abbrev r : ℕ
   r = get_or begun.args.members.now begun.args.k 0
 
-  own-ids : IdsOf net begun.args.index.now r l.before.tuple-start.result l.tuple-start2.result
-  own-ids = ids-of (asked begun).trials.laid (asked begun).indexed r _ _ (asked begun).trials.relation l.before.tuple-start.ensures l.tuple-start2.ensures
+  own-ids : IdsOf net begun.args.index.now r l.before.tuple_start-first.result l.tuple_start-end.result
+  own-ids = ids-of (asked begun).trials.laid (asked begun).indexed r _ _ (asked begun).trials.relation l.before.tuple_start-first.ensures l.tuple_start-end.ensures
 
-module _ (c : tie.After-rows-for invariant-loop decreases-loop) where
-  abbrev read : tie.After-tuple-start2 invariant-loop decreases-loop
+module _ (c : tie.After-rows_for-n invariant-loop decreases-loop) where
+  abbrev read : tie.After-tuple_start-end invariant-loop decreases-loop
   read = c.before.before.before
 
   abbrev rows : List ℕ
-  rows = c.rows-for.new.1.1.1.1.1.1.1.0
+  rows = c.rows_for-n.new.1.1.1.1.1.1.1.0
 
-  abbrev found : FirstRows (RowFor (net read) (begun read).args.index.now (get_or (begun read).args.members.now (begun read).args.by 0) (begun read).args.x (r read)) c.rows-for.result rows
-  found = c.rows-for.ensures
+  abbrev found : FirstRows (RowFor (net read) (begun read).args.index.now (get_or (begun read).args.members.now (begun read).args.by 0) (begun read).args.x (r read)) c.rows_for-n.result rows
+  found = c.rows_for-n.ensures
 
-  within : Within (begun read).args.index.now c.rows-for.result rows
+  within : Within (begun read).args.index.now c.rows_for-n.result rows
   within = let P = asked (begun read) in rows-for-within P.trials.laid P.indexed (get_or (begun read).args.members.now (begun read).args.by 0) (begun read).args.x (r read) P.trials.relation found
 
-abbrev prepared : tie.At-loop invariant-loop decreases-loop → tie.After-rows-for invariant-loop decreases-loop
+abbrev prepared : tie.At-loop-g invariant-loop decreases-loop → tie.After-rows_for-n invariant-loop decreases-loop
 prepared l = l.before.before.before
 
 -- the index of the tuple that is tried
-tried : (l : tie.In-loop invariant-loop decreases-loop) → let b = read (prepared l.before) in l.before.loop.g - b.before.tuple-start.result ≡ l.before.loop.g - first_id (net b) (r b)
-tried l = ap (λ (n : ℕ). l.before.loop.g - n) (own-ids (read (prepared l.before))).begin
+tried : (l : tie.In-loop-g invariant-loop decreases-loop) → let b = read (prepared l.before) in l.before.loop-g.g - b.before.tuple_start-first.result ≡ l.before.loop-g.g - first_id (net b) (r b)
+tried l = ap (λ (n : ℕ). l.before.loop-g.g - n) (own-ids (read (prepared l.before))).begin
 
-passed : (l : tie.At-loop invariant-loop decreases-loop) → Passed (asked (begun (read (prepared l)))) (begun (read (prepared l))).args.words.now l.loop.g
-passed l = l.loop.invariant (asked (begun (read (prepared l))))
+passed : (l : tie.At-loop-g invariant-loop decreases-loop) → Passed (asked (begun (read (prepared l)))) (begun (read (prepared l))).args.words.now l.loop-g.g
+passed l = l.loop-g.invariant (asked (begun (read (prepared l))))
 
 fits-requires : tie.Need-fits-requires invariant-loop decreases-loop
 fits-requires l κs =
     let b = read (prepared l.before) in
-    (asked (begun b)).trials.each (l.before.loop.g - b.before.tuple-start.result)
-    (omega (arith, l.loop-test.true, own-ids b, (passed l.before).comes.from_first))
+    (asked (begun b)).trials.each (l.before.loop-g.g - b.before.tuple_start-first.result)
+    (omega (arith, l.loop-g-test.true, own-ids b, (passed l.before).comes.from_first))
 
-returns : tie.Need-returns invariant-loop decreases-loop
+returns : tie.Need-returns-then-fits invariant-loop decreases-loop
 returns c =
     let l = c.before.before in
     let s = begun (read (prepared l.before)) in
@@ -156,68 +156,70 @@ returns c =
     record {
       comes = p.comes;
       from_on = p.from_on;
-      fitting = λ h. ap (fits (network_in (given s)) s.args.members.now s.args.place s.args.own s.args.k s.args.chosen) (sym (tried l)) ∙ sym c.before.fits2.ensures ∙ c.if1.true;
+      fitting = λ h. ap (fits (network_in (given s)) s.args.members.now s.args.place s.args.own s.args.k s.args.chosen) (sym (tried l)) ∙ sym c.before.fits2.ensures ∙ c.if-fits.true;
       none_before = p.none_before;
     }
 
-rows-for-requires : tie.Need-rows-for-requires invariant-loop decreases-loop
+rows-for-requires : tie.Need-rows_for-n-requires invariant-loop decreases-loop
 rows-for-requires c κs =
     let b = c.before.before in
     let P = asked (begun b) in
     (refl, (record { laid = P.trials.laid; indexed = P.indexed; own = P.by-own }, P.trials.relation))
 
-next-in-rows-requires : tie.Need-next-in-rows-requires invariant-loop decreases-loop
+next-in-rows-requires : tie.Need-next_in_rows-g-requires invariant-loop decreases-loop
 next-in-rows-requires c κs =
     let w = c.before in
     let b = read w in
-    (((begun b).pre.0, within w), ((own-ids b).bits, omega (arith, (asked (begun b)).to_end, (own-ids b).stop)))
+    (((begun b).requires.0, within w), ((own-ids b).bits, omega (arith, (asked (begun b)).to_end, (own-ids b).stop)))
 
-next-in-rows-requires-2 : tie.Need-next-in-rows-requires-2 invariant-loop decreases-loop
+next-in-rows-requires-2 : tie.Need-next_in_rows-g-requires-in-loop-g invariant-loop decreases-loop
 next-in-rows-requires-2 c κs =
     let l = c.before.before.before in
     let w = prepared l.before in
     let b = read w in
-    (((begun b).pre.0, within w), ((own-ids b).bits, omega (arith, l.loop-test.true)))
+    (((begun b).requires.0, within w), ((own-ids b).bits, omega (arith, l.loop-g-test.true)))
 
-loop-holds : tie.Need-loop-init invariant-loop decreases-loop
+loop-holds : tie.Need-loop-g-init invariant-loop decreases-loop
 loop-holds c P =
     let w = c.before.before in
     let b = read w in
-    passed_first P (found w) b.tuple-start2.result (own-ids b).stop c.next-in-rows.result c.next-in-rows.ensures
+    passed_first P (found w) b.tuple_start-end.result (own-ids b).stop c.next_in_rows-g.result c.next_in_rows-g.ensures
 
-module _ (c : tie.After-next-in-rows2 invariant-loop decreases-loop) where
-  abbrev inner : tie.In-loop invariant-loop decreases-loop
+module _ (c : tie.After-next_in_rows-g-in-loop-g invariant-loop decreases-loop) where
+  abbrev inner : tie.In-loop-g invariant-loop decreases-loop
   inner = c.before.before.before.before
 
-  clashes : let s = begun (read (prepared inner.before)) in fits (network_in (given s)) s.args.members.now s.args.place s.args.own s.args.k s.args.chosen (inner.before.loop.g - first_id (network_in (given s)) (get_or s.args.members.now s.args.k 0)) ≡ false
+  clashes : let s = begun (read (prepared inner.before)) in fits (network_in (given s)) s.args.members.now s.args.place s.args.own s.args.k s.args.chosen (inner.before.loop-g.g - first_id (network_in (given s)) (get_or s.args.members.now s.args.k 0)) ≡ false
   clashes =
       let s = begun (read (prepared inner.before)) in
-      ap (fits (network_in (given s)) s.args.members.now s.args.place s.args.own s.args.k s.args.chosen) (sym (tried inner)) ∙ sym c.before.before.before.fits2.ensures ∙ c.before.before.if1.false
+      ap (fits (network_in (given s)) s.args.members.now s.args.place s.args.own s.args.k s.args.chosen) (sym (tried inner)) ∙ sym c.before.before.before.fits2.ensures ∙ c.before.before.if-fits.false
 
-loop-again : tie.Need-loop-preserved invariant-loop decreases-loop
+loop-again : tie.Need-loop-g-preserved invariant-loop decreases-loop
 loop-again c P =
     let l = (inner c).before in
     let w = prepared l in
     let b = read w in
-    passed-next P (found w) b.tuple-start2.result (own-ids b).stop l.loop.g c.next-in-rows2.result (l.loop.inv P) (clashes c) c.next-in-rows2.ensures
+    passed-next P (found w) b.tuple_start-end.result (own-ids b).stop l.loop-g.g c.next_in_rows-g-in-loop-g.result (l.loop-g.inv P) (clashes c) c.next_in_rows-g-in-loop-g.ensures
 
-loop-less : tie.Need-loop-smaller invariant-loop decreases-loop
-loop-less c = let f = c.next-in-rows2.ensures in omega (arith, f.from_on, f.to_end, (inner c).loop-test.true)
+loop-less : tie.Need-loop-g-smaller invariant-loop decreases-loop
+loop-less c = let f = c.next_in_rows-g-in-loop-g.ensures in omega (arith, f.from_on, f.to_end, (inner c).loop-g-test.true)
 
-returns-2 : tie.Need-returns-2 invariant-loop decreases-loop
+returns-2 : tie.Need-returns invariant-loop decreases-loop
 returns-2 c =
     let p = passed c.before in
     record {
       comes = p.comes;
       from_on = p.from_on;
-      fitting = λ h. absurd (omega (arith, c.loop-test.false, (own-ids (read (prepared c.before))).stop));
+      fitting = λ h. absurd (omega (arith, c.loop-g-test.false, (own-ids (read (prepared c.before))).stop));
       none_before = p.none_before;
     }
 
-pub first-fitting-spec : {M : Type 1} → statement M
-first-fitting-spec =
+pub first_fitting_spec : {M : Type 1} → statement M
+first_fitting_spec =
     tie.close
-    (tie.spec invariant-loop decreases-loop
+    (tie.spec
+    invariant-loop
+    decreases-loop
     (λ c. let P = asked c.before.before.before in omega (arith, P.trials.few, P.trials.inside))
     (λ c. (asked c.before.before.before.before).trials.inside)
     (λ c κs. let P = asked c.before.before.before.before in omega (arith, P.trials.relation))
@@ -231,7 +233,7 @@ first-fitting-spec =
     (λ l. omega (arith, (own-ids (read (prepared l.before))).begin, (passed l.before).comes.from_first))
     fits-requires
     returns
-    (λ c. let l = c.before.before.before in omega (arith, l.loop-test.true, (own-ids (read (prepared l.before))).bits.1))
+    (λ c. let l = c.before.before.before in omega (arith, l.loop-g-test.true, (own-ids (read (prepared l.before))).bits.1))
     next-in-rows-requires-2
     loop-less
     loop-again

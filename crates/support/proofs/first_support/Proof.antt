@@ -51,15 +51,15 @@ low-length a = good_length (e_int w16) 4 a.args.low _ a.well-formed.1.1.1.1.1.1.
 
 -- ---- The seeking tuple
 
-own-id : (c : tie.After-tuple-start) → c.tuple-start.result + c.before.before.before.before.before.before.args.own ≡ seeker (search_of c.before.before.before.before.before.before)
+own-id : (c : tie.After-tuple_start) → c.tuple_start.result + c.before.before.before.before.before.before.args.own ≡ seeker (search_of c.before.before.before.before.before.before)
 own-id c =
     let a = c.before.before.before.before.before.before in
-    ap (λ (n : ℕ). n + a.args.own) (c.tuple-start.ensures ∙ member-start (search_of a) a.requires.0.1.sound a.args.place a.requires.0.1.sound.place)
+    ap (λ (n : ℕ). n + a.args.own) (c.tuple_start.ensures ∙ member-start (search_of a) a.requires.0.1.sound a.args.place a.requires.0.1.sound.place)
 
-own_below : (c : tie.After-tuple-start) → let a = c.before.before.before.before.before.before in c.tuple-start.result + a.args.own < total (net_of (search_of a))
+own_below : (c : tie.After-tuple_start) → let a = c.before.before.before.before.before.before in c.tuple_start.result + a.args.own < total (net_of (search_of a))
 own_below c = let a = c.before.before.before.before.before.before in omega (arith, own-id c, seeker-below (search_of a) a.requires.0.1.sound)
 
-own-lives : (c : tie.After-is-live) → let Q = search_of c.before.before.before.before.before.before.before in has (live_of Q) (seeker Q) ≡ c.is_live.result
+own-lives : (c : tie.After-is_live) → let Q = search_of c.before.before.before.before.before.before.before in has (live_of Q) (seeker Q) ≡ c.is_live.result
 own-lives c =
     let a = c.before.before.before.before.before.before.before in
     let Q = search_of a in
@@ -67,7 +67,7 @@ own-lives c =
 
 -- ---- The first stage
 
-module _ (c : tie.After-past-own) where
+module _ (c : tie.After-past_own-stage) where
   abbrev begun : tie.Start
   begun = c.before.before.before.before.before.before.before.before.before
 
@@ -75,83 +75,83 @@ module _ (c : tie.After-past-own) where
   sent = search_of begun
 
   lives : has (live_of sent) (seeker sent) ≡ true
-  lives = own-lives c.before.before ∙ not-false _ c.before.if1.false
+  lives = own-lives c.before.before ∙ not-false _ c.before.if-not-is_live.false-raw
 
   -- over any words among which there is the same to find
-  stage-over : (words : List ℕ) → Root sent words → NextStage (on_words sent words) true 0 begun.args.low c.past-own.result
+  stage-over : (words : List ℕ) → Root sent words → NextStage (on_words sent words) true 0 begun.args.low c.past_own-stage.result
   stage-over words root =
-      next-stage (on_words sent words) root.sound true 0 begun.args.low (low-length begun) (low-length begun) root.lives (prefix-none (on_words sent words) begun.args.low) c.past-own.result c.past-own.ensures
+      next-stage (on_words sent words) root.sound true 0 begun.args.low (low-length begun) (low-length begun) root.lives (prefix-none (on_words sent words) begun.args.low) c.past_own-stage.result c.past_own-stage.ensures
 
   -- over the words lent
-  stage : NextStage sent true 0 begun.args.low c.past-own.result
-  stage = next-stage sent begun.pre.0.1.sound true 0 begun.args.low (low-length begun) (low-length begun) lives (prefix-none sent begun.args.low) c.past-own.result c.past-own.ensures
+  stage : NextStage sent true 0 begun.args.low c.past_own-stage.result
+  stage = next-stage sent begun.requires.0.1.sound true 0 begun.args.low (low-length begun) (low-length begun) lives (prefix-none sent begun.args.low) c.past_own-stage.result c.past_own-stage.ensures
 
-abbrev staged : tie.After-place-behind → tie.After-past-own
+abbrev staged : tie.After-place_behind → tie.After-past_own-stage
 staged c = c.before.before.before
 
 -- another member's turn
-turn_inside : (c : tie.After-place-behind) → (staged c).past-own.result.k < length (begun (staged c)).args.members.now
-turn_inside c = omega (arith, (stage (staged c)).prefix.depth, c.before.if2.false)
+turn_inside : (c : tie.After-place_behind) → (staged c).past_own-stage.result.k < length (begun (staged c)).args.members.now
+turn_inside c = omega (arith, (stage (staged c)).prefix.depth, c.before.if-k-members.false)
 
 -- ---- The words, narrowed
 
 -- before they are put into the room lent
-abbrev entered : tie.After-words-for → tie.Else3
+abbrev entered : tie.After-words_for → tie.Else-place_behind-members
 entered w = w.before.before.before
 
-abbrev placed : tie.After-words-for → tie.After-past-own
+abbrev placed : tie.After-words_for → tie.After-past_own-stage
 placed w = staged (entered w).before
 
 -- how many words the tuples have
-count-is : (w : tie.After-words-for) → w.words-for.result ≡ words_for (tuple_start (begun (placed w)).args.starts.now 64)
-count-is w = w.words-for.ensures ∙ ap words_for w.before.tuple-count.ensures
+count-is : (w : tie.After-words_for) → w.words_for.result ≡ words_for (tuple_start (begun (placed w)).args.starts.now 64)
+count-is w = w.words_for.ensures ∙ ap words_for w.before.tuple_count.ensures
 
-abbrev put : tie.After-narrow-members → tie.After-words-for
+abbrev put : tie.After-narrow_members → tie.After-words_for
 put n = n.before.before.before
 
 -- the room as it is then
-abbrev room : tie.After-words-for → List ℕ
-room w = take w.words-for.result (begun (placed w)).args.words.now ++ drop w.words-for.result (begun (placed w)).args.candidates.now
+abbrev room : tie.After-words_for → List ℕ
+room w = take w.words_for.result (begun (placed w)).args.words.now ++ drop w.words_for.result (begun (placed w)).args.candidates.now
 
-abbrev start : tie.After-narrow-members → tie.Start
+abbrev start : tie.After-narrow_members → tie.Start
 start n = begun (placed (put n))
 
-abbrev fewer : tie.After-narrow-members → List ℕ
-fewer n = n.narrow-members.new.1.1.1.1.0
+abbrev fewer : tie.After-narrow_members → List ℕ
+fewer n = n.narrow_members.new.1.1.1.1.0
 
 -- the words of the room, narrowed
-narrowed-room : (n : tie.After-narrow-members) → Narrowed (net_of (search_of (start n))) (seeker (search_of (start n))) (room (put n)) (fewer n)
+narrowed-room : (n : tie.After-narrow_members) → Narrowed (net_of (search_of (start n))) (seeker (search_of (start n))) (room (put n)) (fewer n)
 narrowed-room n =
     let a = start n in
-    subst (λ (ws : List ℕ). Narrowed (net_of (search_of a)) (seeker (search_of a)) ws (fewer n)) n.before.before.put_back.ensures n.narrow-members.ensures.1.0
+    subst (λ (ws : List ℕ). Narrowed (net_of (search_of a)) (seeker (search_of a)) ws (fewer n)) n.before.before.put_back.ensures n.narrow_members.ensures.1.0
 
-over : (n : tie.After-narrow-members) → Fewer (search_of (start n)) (seeker (search_of (start n))) (fewer n)
+over : (n : tie.After-narrow_members) → Fewer (search_of (start n)) (seeker (search_of (start n))) (fewer n)
 over n =
     let a = start n in
-    fewer-put (search_of a) a.pre.0.1.sound (put n).words-for.result (count-is (put n)) (seeker (search_of a)) a.args.candidates.now (fewer n) a.pre.0.0 (narrowed-room n) n.narrow-members.ensures.0
+    fewer-put (search_of a) a.requires.0.1.sound (put n).words_for.result (count-is (put n)) (seeker (search_of a)) a.args.candidates.now (fewer n) a.requires.0.0 (narrowed-room n) n.narrow_members.ensures.0
 
 -- the search may begin over them
-root : (n : tie.After-narrow-members) → Root (search_of (start n)) (fewer n)
+root : (n : tie.After-narrow_members) → Root (search_of (start n)) (fewer n)
 root n = root-narrowed (search_of (start n)) (fewer n) (over n) (lives (placed (put n)))
 
 -- ---- .. and members through others
 
-module _ (c : tie.After-spread-members) where
-  abbrev before : tie.After-narrow-members
+module _ (c : tie.After-spread_members) where
+  abbrev before : tie.After-narrow_members
   before = c.before.before.before.before.before.before.before.before
 
   abbrev given : Search
   given = search_of (start before)
 
   abbrev fewest : List ℕ
-  fewest = c.spread-members.new.1.1.1.1.0
+  fewest = c.spread_members.new.1.1.1.1.0
 
   -- the search goes over these
   abbrev narrowed : Search
   narrowed = on_words given fewest
 
   begins : Root given fewest
-  begins = root-spread given (fewer before) fewest 0 c.spread-members.ensures.0 c.spread-members.ensures.1.0 (root before)
+  begins = root-spread given (fewer before) fewest 0 c.spread_members.ensures.0 c.spread_members.ensures.1.0 (root before)
 
   -- what there is to find among them is the first support
   all_there : sought narrowed 0 (start before).args.low ≡ support_from (net_of given) (live_of given) given.members (seeker given) given.low
@@ -159,15 +159,15 @@ module _ (c : tie.After-spread-members) where
 
 -- ---- The needs
 
-narrow-members-requires : tie.Need-narrow-members-requires
+narrow-members-requires : tie.Need-narrow_members-requires
 narrow-members-requires c κs =
     let w = c.before.before in
     let a = begun (placed w) in
-    let R = a.pre.0.1.sound in
-    (subst Long (sym c.before.put_back.ensures) (put-long (search_of a) R w.words-for.result (count-is w) a.args.candidates.now a.pre.0.0 a.pre.1.1.0), (record { laid = R.laid; indexed = a.pre.0.1.indexed; own = R.own }, others (search_of a) R a.args.place 0 R.place (λ j l e. l.other (sym e))))
+    let R = a.requires.0.1.sound in
+    (subst Long (sym c.before.put_back.ensures) (put-long (search_of a) R w.words_for.result (count-is w) a.args.candidates.now a.requires.0.0 a.requires.1.1.0), (record { laid = R.laid; indexed = a.requires.0.1.indexed; own = R.own }, others (search_of a) R a.args.place 0 R.place (λ j l e. l.other (sym e))))
 
 -- the only member is the seeking tuple's
-returns-2 : tie.Need-returns-2
+returns-2 : tie.Need-returns-then-k-members
 returns-2 c =
     let p = c.before.before in
     let a = begun p in
@@ -175,67 +175,67 @@ returns-2 c =
       sym
           (sym (sought-first (sent p) a.args.low)
           ∙ sym S.same
-          ∙ turn-done (sent p) a.pre.0.1.sound true p.past-own.result.chosen S.sized p.past-own.result.k c.if2.true S.prefix),
-      ((a.pre.1.0.0, a.pre.1.0.1.meets), a.pre.1.1),
+          ∙ turn-done (sent p) a.requires.0.1.sound true p.past_own-stage.result.chosen S.sized p.past_own-stage.result.k c.if-k-members.true S.prefix),
+      ((a.requires.1.0.0, a.requires.1.0.1.meets), a.requires.1.1),
     )
 
-search-last-requires : tie.Need-search-last-requires
+search-last-requires : tie.Need-search_last-requires
 search-last-requires c κs =
     let b = c.before in
     let p = staged b in
     let S = stage p in (
-      ((begun p).pre.0.0, record { seeking = (begun p).pre.0.1; prefix = S.prefix; lives = lives p; inside = turn_inside b; other = S.other }),
-      sym b.place-behind.ensures ∙ c.if3.true,
+      ((begun p).requires.0.0, record { seeking = (begun p).requires.0.1; prefix = S.prefix; lives = lives p; inside = turn_inside b; other = S.other }),
+      sym b.place_behind.ensures ∙ c.if-place_behind-members.true,
     )
 
-returns-3 : tie.Need-returns-3
-returns-3 c = let p = staged c.before.before in let a = begun p in (c.search-last.ensures ∙ (stage p).same ∙ sought-first (sent p) a.args.low, ((a.pre.1.0.0, a.pre.1.0.1.meets), a.pre.1.1))
+returns-3 : tie.Need-returns-then-place_behind-members
+returns-3 c = let p = staged c.before.before in let a = begun p in (c.search_last.ensures ∙ (stage p).same ∙ sought-first (sent p) a.args.low, ((a.requires.1.0.0, a.requires.1.0.1.meets), a.requires.1.1))
 
-returns-4 : tie.Need-returns-4
+returns-4 : tie.Need-returns-then-not-narrow_members
 returns-4 c =
     let n = c.before in
     let Q = search_of (start n) in
     let a = start n in
-    (sym (sym (root-all Q (fewer n) (root n) a.args.low) ∙ sought-none Q (fewer n) 0 a.args.low (n.narrow-members.ensures.1.1 (not-true _ c.if4.true))), ((a.pre.1.0.0, a.pre.1.0.1.meets), (n.narrow-members.ensures.0, a.pre.1.1.1)))
+    (sym (sym (root-all Q (fewer n) (root n) a.args.low) ∙ sought-none Q (fewer n) 0 a.args.low (n.narrow_members.ensures.1.1 (not-true _ c.if-not-narrow_members.true-raw))), ((a.requires.1.0.0, a.requires.1.0.1.meets), (n.narrow_members.ensures.0, a.requires.1.1.1)))
 
-spread-members-requires : tie.Need-spread-members-requires
+spread-members-requires : tie.Need-spread_members-requires
 spread-members-requires c κs =
     let n = c.before.before.before.before.before.before.before in
     let a = start n in
-    let R = a.pre.0.1.sound in
-    (n.narrow-members.ensures.0, ((record { laid = R.laid; indexed = a.pre.0.1.indexed }, record { proper = R.members; few = R.few }), R.place))
+    let R = a.requires.0.1.sound in
+    (n.narrow_members.ensures.0, ((record { laid = R.laid; indexed = a.requires.0.1.indexed }, record { proper = R.members; few = R.few }), R.place))
 
-returns-5 : tie.Need-returns-5
+returns-5 : tie.Need-returns-then-not-spread_members
 returns-5 c =
     let n = c.before in
     let a = start (before n) in
-    (sym (sym (all_there n) ∙ sought-none (given n) (fewest n) 0 a.args.low (n.spread-members.ensures.1.1 (not-true _ c.if5.true))), ((a.pre.1.0.0, a.pre.1.0.1.meets), (n.spread-members.ensures.0, a.pre.1.1.1)))
+    (sym (sym (all_there n) ∙ sought-none (given n) (fewest n) 0 a.args.low (n.spread_members.ensures.1.1 (not-true _ c.if-not-spread_members.true-raw))), ((a.requires.1.0.0, a.requires.1.0.1.meets), (n.spread_members.ensures.0, a.requires.1.1.1)))
 
-abbrev ahead : tie.After-spread-members → tie.Else3
+abbrev ahead : tie.After-spread_members → tie.Else-place_behind-members
 ahead n = entered (put (before n))
 
 -- two other members or more
-further : (n : tie.After-spread-members) →
+further : (n : tie.After-spread_members) →
     let p = placed (put (before n)) in
-    place_behind (begun p).args.place p.past-own.result.k < length (begun p).args.members.now
+    place_behind (begun p).args.place p.past_own-stage.result.k < length (begun p).args.members.now
 further n =
     let p = placed (put (before n)) in
     let a = begun p in
     let e = ahead n in
-    omega (arith, behind-within a.args.place p.past-own.result.k (length a.args.members.now) (turn_inside e.before) a.pre.0.1.sound.place, e.before.place-behind.ensures, e.if3.left)
+    omega (arith, behind-within a.args.place p.past_own-stage.result.k (length a.args.members.now) (turn_inside e.before) a.requires.0.1.sound.place, e.before.place_behind.ensures, e.if-place_behind-members.left)
 
 -- the search's first stage
-open-stage : (n : tie.After-spread-members) →
+open-stage : (n : tie.After-spread_members) →
     let p = placed (put (before n)) in
-    NextStage (narrowed n) true 0 (begun p).args.low p.past-own.result
+    NextStage (narrowed n) true 0 (begun p).args.low p.past_own-stage.result
 open-stage n = stage-over (placed (put (before n))) (fewest n) (begins n)
 
-search-requires : tie.Need-search-requires
+search-requires : tie.Need-search-found-requires
 search-requires c κs =
     let n = c.before.before.before.before in
     let S = open-stage n in (
       (
-        n.spread-members.ensures.0,
+        n.spread_members.ensures.0,
         record {
           seeking = record { sound = (begins n).sound; indexed = (start (before n)).requires.0.1.indexed };
           prefix = S.prefix;
@@ -247,36 +247,36 @@ search-requires c κs =
       ((start (before n)).requires.1.1.1, further n),
     )
 
-search-fresh-requires : tie.Need-search-fresh-requires
+search-fresh-requires : tie.Need-search_fresh-found-requires
 search-fresh-requires c κs =
     let n = c.before.before.before.before.before in
     let p = placed (put (before n)) in
     let a = begun p in (
       (
-        n.spread-members.ensures.0,
+        n.spread_members.ensures.0,
         record {
-          seeking = record { sound = (begins n).sound; indexed = a.pre.0.1.indexed };
+          seeking = record { sound = (begins n).sound; indexed = a.requires.0.1.indexed };
           lives = (begins n).lives;
-          further = subst (λ (s : Stage). place_behind a.args.place s.k < length a.args.members.now) p.past-own.ensures (further n);
+          further = subst (λ (s : Stage). place_behind a.args.place s.k < length a.args.members.now) p.past_own-stage.ensures (further n);
         },
       ),
       (
         (
-          a.pre.1.0.0,
+          a.requires.1.0.0,
           meets-narrowed (given n) (fewest n) a.args.fresh.now
               (λ g b l.
-              sym (put-alike (given n) a.pre.0.1.sound (put (before n)).words-for.result (count-is (put (before n))) a.args.candidates.now a.pre.0.0 g b)
-              ∙ (narrowed-room (before n)).inside g (n.spread-members.ensures.1.0.inside g l))
-              (a.pre.1.0.1.meets (two-open a.args.place p.past-own.result.k (length a.args.members.now) (further n))),
+              sym (put-alike (given n) a.requires.0.1.sound (put (before n)).words_for.result (count-is (put (before n))) a.args.candidates.now a.requires.0.0 g b)
+              ∙ (narrowed-room (before n)).inside g (n.spread_members.ensures.1.0.inside g l))
+              (a.requires.1.0.1.meets (two-open a.args.place p.past_own-stage.result.k (length a.args.members.now) (further n))),
         ),
-        a.pre.1.1.1,
+        a.requires.1.1.1,
       ),
     )
 
 -- ---- What it came to
 
-module _ (c : tie.Joined6) where
-  abbrev spread : tie.After-spread-members
+module _ (c : tie.Joined-all_fresh) where
+  abbrev spread : tie.After-spread_members
   spread = c.before.before
 
   abbrev whole : Search
@@ -286,39 +286,39 @@ module _ (c : tie.Joined6) where
   asked = start (before spread)
 
   abbrev result : Found
-  result = c.if6.found
+  result = c.if-all_fresh.found
 
   finds : FindsFirst whole result
   finds =
       ⊎_elim
       (λ w. subst (FindsFirst whole) (sym w.5) (w.3.ensures.0 ∙ (open-stage spread).same ∙ all_there spread))
       (λ w. subst (FindsFirst whole) (sym w.6) (w.4.ensures.0 ∙ (begins spread).same))
-      c.if6.branch
+      c.if-all_fresh.branch-raw
 
   -- the rooms are as long as before
-  rooms : Long (fewest spread) × Long c.if6.spare
-  rooms = (spread.spread-members.ensures.0, ⊎_elim (λ w. subst Long (sym w.4) w.3.ensures.1) (λ w. subst Long (sym w.5) w.4.ensures.1) c.if6.branch)
+  rooms : Long (fewest spread) × Long c.if-all_fresh.spare
+  rooms = (spread.spread_members.ensures.0, ⊎_elim (λ w. subst Long (sym w.4) w.3.ensures.1) (λ w. subst Long (sym w.5) w.4.ensures.1) c.if-all_fresh.branch-raw)
 
   rises : pairwise ltb asked.args.members.now ≡ true
-  rises = and_right (all (λ (r : ℕ). ltb r (length (net_of whole).relations)) asked.args.members.now) (pairwise ltb asked.args.members.now) asked.pre.0.1.sound.members
+  rises = and_right (all (λ (r : ℕ). ltb r (length (net_of whole).relations)) asked.args.members.now) (pairwise ltb asked.args.members.now) asked.requires.0.1.sound.members
 
   abbrev at : ℕ
-  at = (placed (put (before spread))).past-own.result.k
+  at = (placed (put (before spread))).past_own-stage.result.k
 
   at-inside : at < length asked.args.members.now
   at-inside = turn_inside (ahead spread).before
 
   within : is_found result.kind ≡ true → get_or result.tuples at 0 < size (net_of whole) (get_or asked.args.members.now at 0)
   within e =
-      let f = found_within whole asked.pre.0.1.sound (lives (placed (put (before spread)))) asked.pre.1.0.1.lowest rises (is_found result.kind) result.tuples finds e at at-inside in
+      let f = found_within whole asked.requires.0.1.sound (lives (placed (put (before spread)))) asked.requires.1.0.1.lowest rises (is_found result.kind) result.tuples finds e at at-inside in
       omega (arith, f, get_or-take (length asked.args.members.now) result.tuples at 0 at-inside)
 
   -- every support has a fresh tuple afterwards
   meets : (fresh : List ℕ) → Notes (net_of whole) asked.args.members.now asked.args.place asked.args.own at (is_found result.kind) (get_or result.tuples at 0) fresh → MeetsIn whole fresh
   meets fresh K =
-      notes-meet whole asked.pre.0.1.sound (lives (placed (put (before spread)))) asked.pre.1.0.1.lowest rises (is_found result.kind) result.tuples finds at at-inside
+      notes-meet whole asked.requires.0.1.sound (lives (placed (put (before spread)))) asked.requires.1.0.1.lowest rises (is_found result.kind) result.tuples finds at at-inside
       (stage (placed (put (before spread)))).other
-      (first-open asked.args.place asked.args.own asked.args.low (placed (put (before spread))).past-own.result (placed (put (before spread))).past-own.ensures)
+      (first-open asked.args.place asked.args.own asked.args.low (placed (put (before spread))).past_own-stage.result (placed (put (before spread))).past_own-stage.ensures)
       fresh
       (subst (λ (t : ℕ). Notes (net_of whole) asked.args.members.now asked.args.place asked.args.own at (is_found result.kind) t fresh) (sym (get_or-take (length asked.args.members.now) result.tuples at 0 at-inside)) K)
 
@@ -326,20 +326,20 @@ note-requires : tie.Need-note-requires
 note-requires c κs =
     let f = c.before.before.before.before.before.before in
     let n = spread f in
-    ((n.spread-members.ensures.0, (asked f).requires.1.0.0), record { low = (asked f).args.low; sound = (begins n).sound; inside = at-inside f; index = within f })
+    ((n.spread_members.ensures.0, (asked f).requires.1.0.0), record { low = (asked f).args.low; sound = (begins n).sound; inside = at-inside f; index = within f })
 
-returns-6 : tie.Need-returns-6
+returns-6 : tie.Need-returns-then-found
 returns-6 c =
     let f = c.before.before.before.before.before.before.before in
     (finds f, ((c.note.ensures.long, λ _. meets f _ c.note.ensures), rooms f))
 
-returns-7 : tie.Need-returns-7
+returns-7 : tie.Need-returns-else-found
 returns-7 c =
     let f = c.before.before in
     (finds f, (((asked f).requires.1.0.0, (asked f).requires.1.0.1.meets), rooms f))
 
-pub first-support-spec : {M : Type 1} → statement M
-first-support-spec =
+pub first_support_spec : {M : Type 1} → statement M
+first_support_spec =
     tie.close
     (tie.spec
     (λ c. let R = c.before.before.before.requires.0.1.sound in omega (arith, R.place, R.few))
@@ -347,22 +347,22 @@ first-support-spec =
     (λ c κs. let a = c.before.before.before.before.before in omega (arith, member_below (search_of a) a.requires.0.1.sound a.args.place a.requires.0.1.sound.place))
     (λ c. let a = c.before.before.before.before.before.before in omega (arith, own_below c, few-tuples (search_of a) a.requires.0.1.sound))
     (λ c κs. let a = c.before.before.before.before.before.before in omega (arith, own_below c, a.requires.0.1.sound.words))
-    (λ c. let a = c.before.before.before.before.before.before.before.before in (sym (sought-dead (search_of a) (own-lives c.before ∙ not-true _ c.if1.true)), ((a.requires.1.0.0, a.requires.1.0.1.meets), a.requires.1.1)))
+    (λ c. let a = c.before.before.before.before.before.before.before.before in (sym (sought-dead (search_of a) (own-lives c.before ∙ not-true _ c.if-not-is_live.true-raw)), ((a.requires.1.0.0, a.requires.1.0.1.meets), a.requires.1.1)))
     (λ c κs. let R = c.before.before.before.before.before.before.before.before.requires.0.1.sound in omega (arith, R.place, R.few))
     returns-2
-    (λ c κs. let p = c.before.before in omega (arith, (stage p).prefix.depth, c.if2.false, (begun p).requires.0.1.sound.few))
+    (λ c κs. let p = c.before.before in omega (arith, (stage p).prefix.depth, c.if-k-members.false, (begun p).requires.0.1.sound.few))
     search-last-requires
     returns-3
     (λ c κs. search rules)
     (λ c κs. search rules)
-    (λ w κs. let a = begun (placed w) in let few = (put-few (search_of a) a.pre.0.1.sound w.words-for.result (count-is w)).0 in (a.pre.0.0, (few, omega (arith, few, a.pre.1.1.0))))
+    (λ w κs. let a = begun (placed w) in let few = (put-few (search_of a) a.requires.0.1.sound w.words_for.result (count-is w)).0 in (a.requires.0.0, (few, omega (arith, few, a.requires.1.1.0))))
     narrow-members-requires
     returns-4
-    (λ c κs. let a = start c.before.before.before in omega (arith, member_below (search_of a) a.pre.0.1.sound a.args.place a.pre.0.1.sound.place))
+    (λ c κs. let a = start c.before.before.before in omega (arith, member_below (search_of a) a.requires.0.1.sound a.args.place a.requires.0.1.sound.place))
     (λ c κs.
     let a = start c.before.before.before.before in
-    let R = a.pre.0.1.sound in
-    omega (arith, c.tuple-start2.ensures, member-start (search_of a) R a.args.place R.place, seeker-below (search_of a) R, few-tuples (search_of a) R, a.pre.1.0.0))
+    let R = a.requires.0.1.sound in
+    omega (arith, c.tuple_start-2.ensures, member-start (search_of a) R a.args.place R.place, seeker-below (search_of a) R, few-tuples (search_of a) R, a.requires.1.0.0))
     (λ c κs. search rules)
     spread-members-requires
     returns-5

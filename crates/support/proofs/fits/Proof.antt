@@ -20,12 +20,12 @@ use Rattle.support.proofs.Chosen.{chosen-mem, chosen-all, fits-clash, fits_all}
 use Rattle.support.proofs.fits.Statement.{statement}
 use Rattle.support.proofs.fits.Tie as tie
 
-abbrev invariant-loop : tie.invariant-loop
+abbrev invariant-loop : tie.invariant-loop-j
 invariant-loop variables values starts members place own k x chosen r j₀ j =
     let N = network_in (record { variables = variables; values = values; starts = starts }) in
     (j ≤ k) × (all (λ (y : ℕ). agree N y (id_at N members k x)) (chosen_ids N members chosen j) ≡ true)
 
-abbrev decreases-loop : tie.decreases-loop
+abbrev decreases-loop : tie.decreases-loop-j
 decreases-loop variables values starts members place own k x chosen r j₀ j = k - j
 
 abbrev Entry : Type 0
@@ -38,64 +38,64 @@ net s = network_in (record { variables = s.args.variables.now; values = s.args.v
 abbrev agreed : Entry → ℕ → Type 0
 agreed s y = agree (net s) y (id_at (net s) s.args.members.now s.args.k s.args.x) ≡ true
 
-abbrev entry : tie.At-loop invariant-loop decreases-loop → Entry
+abbrev entry : tie.At-loop-j invariant-loop decreases-loop → Entry
 entry l = l.before.before.before.before.before.before.before.before
 
-returns : tie.Need-returns invariant-loop decreases-loop
+returns : tie.Need-returns-then-not-tuples_agree invariant-loop decreases-loop
 returns c =
     let s = c.before.before.before.before.before.before.before in
-    sym (fits-clash (net s) s.args.members.now s.args.place s.args.own s.args.k s.args.t8 s.args.x _ here
-    (sym c.before.tuples-agree.ensures ∙ not-true _ c.if1.true))
+    sym (fits-clash (net s) s.args.members.now s.args.place s.args.own s.args.k s.args.chosen s.args.x _ here
+    (sym c.before.tuples_agree.ensures ∙ not-true _ c.if-not-tuples_agree.true-raw))
 
-loop-holds : tie.Need-loop-init invariant-loop decreases-loop
+loop-holds : tie.Need-loop-j-init invariant-loop decreases-loop
 unfolding chosen_ids
 loop-holds c = (omega arith, refl)
 
-returns-2 : tie.Need-returns-2 invariant-loop decreases-loop
+returns-2 : tie.Need-returns-then-not-tuples_agree-2 invariant-loop decreases-loop
 returns-2 c =
     let l = c.before.before.before.before.before in
     let s = entry l in
-    sym (fits-clash (net s) s.args.members.now s.args.place s.args.own s.args.k s.args.t8 s.args.x _
-    (Memᴰ.tail (chosen-mem (net s) s.args.members.now s.args.t8 s.args.k l.loop.j c.before.before.before.before.loop-test.true))
-    (sym c.before.tuples-agree2.ensures ∙ not-true _ c.if3.true))
+    sym (fits-clash (net s) s.args.members.now s.args.place s.args.own s.args.k s.args.chosen s.args.x _
+    (Memᴰ.tail (chosen-mem (net s) s.args.members.now s.args.chosen s.args.k l.loop-j.j c.before.before.before.before.loop-j-test.true))
+    (sym c.before.tuples_agree-then-j-place.ensures ∙ not-true _ c.if-not-tuples_agree-2.true-raw))
 
 -- the tuple agrees with the seeking tuple
-agrees : (c : tie.Else1 invariant-loop decreases-loop) → let s = c.before.before.before.before.before.before.before in agreed s (id_at (net s) s.args.members.now s.args.place s.args.own)
-agrees c = sym c.before.tuples-agree.ensures ∙ not-false _ c.if1.false
+agrees : (c : tie.Else-not-tuples_agree invariant-loop decreases-loop) → let s = c.before.before.before.before.before.before.before in agreed s (id_at (net s) s.args.members.now s.args.place s.args.own)
+agrees c = sym c.before.tuples_agree.ensures ∙ not-false _ c.if-not-tuples_agree.false-raw
 
 -- and so with the tuple chosen for the seeking tuple's member, which is that tuple
-agrees-own : (c : tie.In-loop invariant-loop decreases-loop) → let s = entry c.before in c.before.loop.j ≡ s.args.place → agreed s (id_at (net s) s.args.members.now c.before.loop.j (get_or s.args.t8 c.before.loop.j 0))
+agrees-own : (c : tie.In-loop-j invariant-loop decreases-loop) → let s = entry c.before in c.before.loop-j.j ≡ s.args.place → agreed s (id_at (net s) s.args.members.now c.before.loop-j.j (get_or s.args.chosen c.before.loop-j.j 0))
 agrees-own c e =
     let s = entry c.before in
-    let own = s.pre.own-chosen (omega (arith, c.loop-test.true)) in
-    subst (agreed s) (sym (ap₂ (id_at (net s) s.args.members.now) e (ap (λ (i : ℕ). get_or s.args.t8 i 0) e ∙ own))) (agrees c.before.before)
+    let own = s.requires.own-chosen (omega (arith, c.loop-j-test.true)) in
+    subst (agreed s) (sym (ap₂ (id_at (net s) s.args.members.now) e (ap (λ (i : ℕ). get_or s.args.chosen i 0) e ∙ own))) (agrees c.before.before)
 
-loop-again : tie.Need-loop-preserved invariant-loop decreases-loop
+loop-again : tie.Need-loop-j-preserved invariant-loop decreases-loop
 loop-again c =
     let l = c.before.before in
     let s = entry l in (
-      omega (arith, c.before.loop-test.true),
+      omega (arith, c.before.loop-j-test.true),
       rw add-one
-          (chosen-all (net s) s.args.members.now s.args.t8 (λ (y : ℕ). agree (net s) y (id_at (net s) s.args.members.now s.args.k s.args.x)) l.loop.j l.loop.invariant.1
+          (chosen-all (net s) s.args.members.now s.args.chosen (λ (y : ℕ). agree (net s) y (id_at (net s) s.args.members.now s.args.k s.args.x)) l.loop-j.j l.loop-j.invariant.1
           (⊎_elim
           (λ w. sym w.2.ensures ∙ not-false _ w.3.left)
           (λ w. agrees-own c.before w.left)
-          c.if2.branch)),
+          c.if-j-place.branch-raw)),
     )
 
-returns-3 : tie.Need-returns-3 invariant-loop decreases-loop
+returns-3 : tie.Need-returns invariant-loop decreases-loop
 returns-3 c =
     let l = c.before in
     let s = entry l in
-    let e : l.loop.j ≡ s.args.k = omega (arith, c.loop-test.false, l.loop.invariant.0) in
-    sym (fits_all (net s) s.args.members.now s.args.place s.args.own s.args.k s.args.t8 s.args.x (agrees l.before) (rw e at l.loop.invariant.1))
+    let e : l.loop-j.j ≡ s.args.k = omega (arith, c.loop-j-test.false, l.loop-j.invariant.0) in
+    sym (fits_all (net s) s.args.members.now s.args.place s.args.own s.args.k s.args.chosen s.args.x (agrees l.before) (rw e at l.loop-j.invariant.1))
 
 -- the member reached is one
-inside : (c : tie.Then2 invariant-loop decreases-loop) → let s = entry c.before.before in (c.before.before.loop.j < s.args.k) × (s.args.k < 4)
-inside c = let T = (entry c.before.before).pre in (c.before.loop-test.true, omega (arith, T.inside, T.few))
+inside : (c : tie.Then-j-place invariant-loop decreases-loop) → let s = entry c.before.before in (c.before.before.loop-j.j < s.args.k) × (s.args.k < 4)
+inside c = let T = (entry c.before.before).requires in (c.before.loop-j-test.true, omega (arith, T.inside, T.few))
 
-pub fits-spec : {M : Type 1} → statement M
-fits-spec =
+pub fits_spec : {M : Type 1} → statement M
+fits_spec =
     tie.close
     (tie.spec
     invariant-loop
@@ -108,12 +108,12 @@ fits-spec =
     returns
     loop-holds
     (λ c. omega (arith, inside c))
-    (λ c. omega (arith, inside c.before, (entry c.before.before.before).pre.inside))
+    (λ c. omega (arith, inside c.before, (entry c.before.before.before).requires.inside))
     (λ c. omega (arith, inside c.before))
     (λ c. omega (arith, inside c.before))
-    (λ c κs. let l = c.before.before.before in let T = (entry l).requires in record { laid = T.laid; first = T.within l.loop.j c.before.before.loop-test.true; second = T.index })
+    (λ c κs. let l = c.before.before.before in let T = (entry l).requires in record { laid = T.laid; first = T.within l.loop-j.j c.before.before.loop-j-test.true; second = T.index })
     returns-2
-    (λ c. let T = (entry c.before.before).pre in omega (arith, T.inside, T.few, c.before.loop-test.true))
+    (λ c. let T = (entry c.before.before).requires in omega (arith, T.inside, T.few, c.before.loop-j-test.true))
     (λ c. search rules)
     loop-again
     returns-3)

@@ -40,40 +40,41 @@ module _ (c : tie.After-passes) where
         wrong = λ e g. absurd (not-both g q);
       }
 
-module _ (c : tie.Else2) where
+module _ (c : tie.Else-not-fits) where
   abbrev tested : tie.After-passes
   tested = c.before.before.before
 
   hopes : (passing tested && fit tested) ≡ true
-  hopes = and_intro (sym tested.passes.ensures ∙ not-false _ c.before.before.if1.false) (sym c.before.fits2.ensures ∙ not-false _ c.if2.false)
+  hopes = and_intro (sym tested.passes.ensures ∙ not-false _ c.before.before.if-not-passes.false-raw) (sym c.before.fits2.ensures ∙ not-false _ c.if-not-fits.false-raw)
 
-returns-4 : tie.Need-returns-4
+returns-4 : tie.Need-returns
 returns-4 c =
     let e3 = c.before.before.before in
     let s = s (tested e3.before) in
     record {
       entered = c.first_alike.ensures.entered;
-      same = ⊎_elim (λ u. absurd (not-both (hopes e3.before) u)) (λ r. absurd (not-both r e3.if3.false));
+      same = ⊎_elim (λ u. absurd (not-both (hopes e3.before) u)) (λ r. absurd (not-both r e3.if-resumed.false));
       right = λ e. hopes e3.before;
       wrong =
           λ e g.
           let y = c.first_alike.result in
           let l : y < s.args.x = leb-false s.args.x y e in
           let i = c.first_alike.ensures.entry l in
-          (e3.if3.false, record { i = i.0; inside = i.1; before = omega (arith, l, i.2); alike = subst (Alike (given (tested e3.before)) s.args.common (get_or s.args.members.now s.args.k 0) s.args.x) (sym i.2) (c.first_alike.ensures.alike l) });
+          (e3.if-resumed.false, record { i = i.0; inside = i.1; before = omega (arith, l, i.2); alike = subst (Alike (given (tested e3.before)) s.args.common (get_or s.args.members.now s.args.k 0) s.args.x) (sym i.2) (c.first_alike.ensures.alike l) });
     }
 
-pub may-lead-spec : {M : Type 1} → statement M
-may-lead-spec =
+pub may_lead_spec : {M : Type 1} → statement M
+may_lead_spec =
     tie.close
     (tie.spec
-    (λ c. search rules) (λ c. search rules)
+    (λ c. search rules)
+    (λ c. search rules)
     (λ c κs. let s = c.before.before.before.before in record { laid = s.requires.0.laid; own = s.requires.0.index })
-    (λ c. hopeless c.before (ap (λ (b : Bool). b && fit c.before) (sym c.before.passes.ensures ∙ not-true _ c.if1.true)))
-    (λ c κs. (s c.before).pre.0)
+    (λ c. hopeless c.before (ap (λ (b : Bool). b && fit c.before) (sym c.before.passes.ensures ∙ not-true _ c.if-not-passes.true-raw)))
+    (λ c κs. (s c.before).requires.0)
     (λ c.
     let t = c.before.before.before in
-    hopeless t (ap (λ (b : Bool). passing t && b) (sym c.before.fits2.ensures ∙ not-true _ c.if2.true) ∙ and-false (passing t)))
+    hopeless t (ap (λ (b : Bool). passing t && b) (sym c.before.fits2.ensures ∙ not-true _ c.if-not-fits.true-raw) ∙ and-false (passing t)))
     (λ c.
     let t = tested c.before in
     record {
@@ -82,6 +83,7 @@ may-lead-spec =
       right = λ e. hopes c.before;
       wrong = λ e g. absurd (not-both refl e);
     })
-    (λ c. search rules) (λ c. search rules)
-    (λ c κs. let t = tested c.before.before.before in (record { laid = (s t).pre.0.laid; own = (s t).pre.0.index }, (s t).pre.1))
+    (λ c. search rules)
+    (λ c. search rules)
+    (λ c κs. let t = tested c.before.before.before in (record { laid = (s t).requires.0.laid; own = (s t).requires.0.index }, (s t).requires.1))
     returns-4)

@@ -22,53 +22,53 @@ module _ (s : tie.Start) where
   abbrev sought : Search
   sought =
       record {
-        lists = record { variables = s.args.variables.now; values = s.args.values.now; starts = s.args.starts.now };
-        words = s.args.words.now;
-        members = s.args.members.now;
+        lists = record { variables = s.args.variables.now-1; values = s.args.values.now-1; starts = s.args.starts.now-1 };
+        words = s.args.words.now-1;
+        members = s.args.members.now-1;
         place = s.args.place;
         own = s.args.own;
         low = s.requires.1.low;
       }
 
   abbrev sound : SoundSearch sought
-  sound = s.pre.1.sound
+  sound = s.requires.1.sound
 
-  below : get_or s.args.members.now s.args.k 0 < 64
-  below = member_below sought sound s.args.k s.pre.1.inside
+  below : get_or s.args.members.now-1 s.args.k 0 < 64
+  below = member_below sought sound s.args.k s.requires.1.inside
 
   abbrev head : ℕ
-  head = first_id (net_of sought) (get_or s.args.members.now s.args.k 0)
+  head = first_id (net_of sought) (get_or s.args.members.now-1 s.args.k 0)
 
-  head-is : tuple_start s.args.starts.now (get_or s.args.members.now s.args.k 0) ≡ head
-  head-is = member-start sought sound s.args.k s.pre.1.inside
+  head-is : tuple_start s.args.starts.now-1 (get_or s.args.members.now-1 s.args.k 0) ≡ head
+  head-is = member-start sought sound s.args.k s.requires.1.inside
 
-  tail-is : tuple_start s.args.starts.now (get_or s.args.members.now s.args.k 0 + 1) ≡ head + size (net_of sought) (get_or s.args.members.now s.args.k 0)
-  tail-is = member-end sought sound s.args.k s.pre.1.inside
+  tail-is : tuple_start s.args.starts.now-1 (get_or s.args.members.now-1 s.args.k 0 + 1) ≡ head + size (net_of sought) (get_or s.args.members.now-1 s.args.k 0)
+  tail-is = member-end sought sound s.args.k s.requires.1.inside
 
-  within : head + size (net_of sought) (get_or s.args.members.now s.args.k 0) ≤ 4096
-  within = omega (arith, member-within sought sound s.args.k s.pre.1.inside, few-tuples sought sound)
+  within : head + size (net_of sought) (get_or s.args.members.now-1 s.args.k 0) ≤ 4096
+  within = omega (arith, member-within sought sound s.args.k s.requires.1.inside, few-tuples sought sound)
 
-abbrev start : tie.After-tuple-start → tie.Start
+abbrev start : tie.After-tuple_start-bound → tie.Start
 start c = c.before.before.before.before.before
 
 -- the bound is not before the member's ids, and behind it by t if something was found
-module _ (c : tie.Joined1) where
+module _ (c : tie.Joined-found) where
   abbrev begun : tie.Start
   begun = start c.before
 
-  bounded : head begun ≤ c.if1.bound
+  bounded : head begun ≤ c.if-found.bound
   bounded =
       ⊎_elim
       (λ w. omega (arith, w.2, w.1.ensures, head-is begun))
-      (λ w. omega (arith, w.1, c.before.tuple-start.ensures, tail-is begun))
-      c.if1.branch
+      (λ w. omega (arith, w.1, c.before.tuple_start-bound.ensures, tail-is begun))
+      c.if-found.branch-raw
 
-  reached : begun.args.found ≡ true → c.if1.bound ≡ head begun + begun.args.t
+  reached : begun.args.found ≡ true → c.if-found.bound ≡ head begun + begun.args.t
   reached e =
       ⊎_elim
       (λ w. omega (arith, w.2, w.1.ensures, head-is begun))
       (λ w. absurd (not-both e w.0.left))
-      c.if1.branch
+      c.if-found.branch-raw
 
 returns : tie.Need-returns
 returns c =
@@ -77,18 +77,18 @@ returns c =
     let s = begun j in
     let a = s.args in
     let Q = sought s in
-    let now = f.fresh-after.result in
-    let E = f.fresh-after.ensures in
-    subst (Notes (net_of Q) a.members.now a.place a.own a.k a.found a.t)
-    (sym (c.put_back.ensures ∙ ap₂ (λ (x y : List ℕ). x ++ y) (take_all 64 now (omega (arith, E.0))) (drop_of_length-le a.fresh.now {i = 64} (omega (arith, s.pre.0.1))) ∙ append-nil now))
+    let now = f.fresh_after-now.result in
+    let E = f.fresh_after-now.ensures in
+    subst (Notes (net_of Q) a.members.now-1 a.place a.own a.k a.found a.t)
+    (sym (c.put_back.ensures ∙ ap₂ (λ (x y : List ℕ). x ++ y) (take_all 64 now (omega (arith, E.0))) (drop_of_length-le a.fresh.now-1 {i = 64} (omega (arith, s.requires.0.1))) ∙ append-nil now))
     (record {
       long = E.0;
       agrees = λ i z h d l g. (E.1 i z h d l g).0;
       below = λ e z h d l g. let b = (E.1 a.k z h d l g).1 refl in omega (arith, b, reached j e);
     })
 
-pub note-spec : {M : Type 1} → statement M
-note-spec =
+pub note_spec : {M : Type 1} → statement M
+note_spec =
     tie.close
     (tie.spec
     (λ c. search rules)
@@ -96,7 +96,7 @@ note-spec =
     (λ c. let s = c.before.before.before.before in omega (arith, below s))
     (λ c κs. let s = c.before.before.before.before in omega (arith, below s))
     (λ c κs. let s = start c.before in omega (arith, below s))
-    (λ c. let s = start c.before.before in let i = s.pre.1.index c.before.if1.true in omega (arith, c.tuple-start2.ensures, head-is s, within s, i))
-    (λ c κs. let s = begun c in (s.pre.0.0, record { low = s.pre.1.low; sound = sound s; bounded = bounded c }))
+    (λ c. let s = start c.before.before in let i = s.requires.1.index c.before.if-found.true in omega (arith, c.tuple_start.ensures, head-is s, within s, i))
+    (λ c κs. let s = begun c in (s.requires.0.0, record { low = s.requires.1.low; sound = sound s; bounded = bounded c }))
     (λ c κs. search rules)
     returns)

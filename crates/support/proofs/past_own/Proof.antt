@@ -5,16 +5,17 @@ use borrow.Author.Tests.{eq-eqb, ne_eqb}
 use Rattle.support.proofs.past_own.Statement.{statement}
 use Rattle.support.proofs.past_own.Tie as tie
 
-returns : tie.Need-returns
-returns c = rw (eq-eqb c.before.before.args.k c.before.before.args.place c.before.if1.true, c.put.ensures)
+returns : tie.Need-returns-then-k-place
+returns c = rw (eq-eqb c.before.before.args.k c.before.before.args.place c.before.if-k-place.true, c.put.ensures)
 
-returns-2 : tie.Need-returns-2
-returns-2 c = rw (ne_eqb c.before.args.k c.before.args.place c.if1.false)
+returns-2 : tie.Need-returns
+returns-2 c = rw (ne_eqb c.before.args.k c.before.args.place c.if-k-place.false)
 
-pub past-own-spec : {M : Type 1} → statement M
-past-own-spec =
+pub past_own_spec : {M : Type 1} → statement M
+past_own_spec =
     tie.close
     (tie.spec
-    (λ c. search rules) (λ c κs. search rules)
+    (λ c. search rules)
+    (λ c κs. search rules)
     returns
     returns-2)

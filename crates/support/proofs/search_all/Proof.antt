@@ -27,33 +27,33 @@ search_of a =
       low = a.args.low;
     }
 
-module _ (c : tie.After-past-own) where
+module _ (c : tie.After-past_own-begun) where
   abbrev start : tie.Start
   start = c.before.before.before.before
 
   abbrev rooted : Rooted (search_of start) start.args.index.now
-  rooted = start.pre.0.1
+  rooted = start.requires.0.1
 
   low-length : length start.args.low ≡ 4
-  low-length = good_length (e_int w16) 4 start.args.low _ start.good.1.1.1.1.1.1.1.1.0
+  low-length = good_length (e_int w16) 4 start.args.low _ start.well_formed.1.1.1.1.1.1.1.1.0
 
-  stage : NextStage (search_of start) true 0 start.args.low c.past-own.result
-  stage = next-stage (search_of start) rooted.seeking.sound true 0 start.args.low low-length low-length rooted.lives (prefix-none (search_of start) start.args.low) c.past-own.result c.past-own.ensures
+  stage : NextStage (search_of start) true 0 start.args.low c.past_own-begun.result
+  stage = next-stage (search_of start) rooted.seeking.sound true 0 start.args.low low-length low-length rooted.lives (prefix-none (search_of start) start.args.low) c.past_own-begun.result c.past_own-begun.ensures
 
-  further : place_behind start.args.place c.past-own.result.k < length start.args.members.now
-  further = subst (λ (s : Stage). place_behind start.args.place s.k < length start.args.members.now) (sym c.past-own.ensures) rooted.further
+  further : place_behind start.args.place c.past_own-begun.result.k < length start.args.members.now
+  further = subst (λ (s : Stage). place_behind start.args.place s.k < length start.args.members.now) (sym c.past_own-begun.ensures) rooted.further
 
 search-requires : tie.Need-search-requires
 search-requires c κs =
     let p = c.before.before in
     let a = start p in
     let S = stage p in (
-      (a.pre.0.0, record { seeking = (rooted p).seeking; prefix = S.prefix; lives = (rooted p).lives; inside = before-behind a.args.place p.past-own.result.k (length a.args.members.now) (further p); other = S.other }),
-      (a.pre.1, further p),
+      (a.requires.0.0, record { seeking = (rooted p).seeking; prefix = S.prefix; lives = (rooted p).lives; inside = before-behind a.args.place p.past_own-begun.result.k (length a.args.members.now) (further p); other = S.other }),
+      (a.requires.1, further p),
     )
 
-pub search-all-spec : {M : Type 1} → statement M
-search-all-spec =
+pub search_all_spec : {M : Type 1} → statement M
+search_all_spec =
     tie.close
     (tie.spec
     (λ c κs. search rules)

@@ -27,61 +27,61 @@ module _ (a : tie.Start) where
       }
 
   abbrev rooted : Rooted search_of a.args.index.now
-  rooted = a.pre.0.1
+  rooted = a.requires.0.1
 
   -- the search may begin over the words lent
   lent : Root search_of a.args.words.now
-  lent = record { sound = rooted.seeking.sound; sized = a.pre.0.0; same = refl; lives = rooted.lives }
+  lent = record { sound = rooted.seeking.sound; sized = a.requires.0.0; same = refl; lives = rooted.lives }
 
-module _ (c : tie.After-narrow-to-fresh) where
+module _ (c : tie.After-narrow_to_fresh) where
   abbrev start : tie.Start
   start = c.before.before.before.before.before.before
 
   abbrev fewest : List ℕ
-  fewest = c.narrow-to-fresh.new.1.1.1.1.0
+  fewest = c.narrow_to_fresh.new.1.1.1.1.0
 
   -- .. over those narrowed
   begins : Root (search_of start) fewest
-  begins = root-spread (search_of start) start.args.words.now fewest 0 c.narrow-to-fresh.ensures.0 c.narrow-to-fresh.ensures.1.0 (lent start)
+  begins = root-spread (search_of start) start.args.words.now fewest 0 c.narrow_to_fresh.ensures.0 c.narrow_to_fresh.ensures.1.0 (lent start)
 
-narrow-to-fresh-requires : tie.Need-narrow-to-fresh-requires
+narrow-to-fresh-requires : tie.Need-narrow_to_fresh-requires
 narrow-to-fresh-requires c κs =
     let a = c.before.before.before.before.before in
     let R = (rooted a).seeking.sound in
     ((a.requires.0.0, a.requires.1.0.0), (((record { laid = R.laid; indexed = (rooted a).seeking.indexed }, record { proper = R.members; few = R.few }), R.place), a.requires.1.0.1))
 
 -- .. and through others
-module _ (c : tie.After-spread-members) where
-  abbrev before : tie.After-narrow-to-fresh
+module _ (c : tie.After-spread_members) where
+  abbrev before : tie.After-narrow_to_fresh
   before = c.before.before.before
 
   abbrev last : List ℕ
-  last = c.spread-members.new.1.1.1.1.0
+  last = c.spread_members.new.1.1.1.1.0
 
   begins-last : Root (search_of (start before)) last
-  begins-last = root-spread (search_of (start before)) (fewest before) last 0 c.spread-members.ensures.0 c.spread-members.ensures.1.0 (begins before)
+  begins-last = root-spread (search_of (start before)) (fewest before) last 0 c.spread_members.ensures.0 c.spread_members.ensures.1.0 (begins before)
 
-pub search-fresh-spec : {M : Type 1} → statement M
-search-fresh-spec =
+pub search_fresh_spec : {M : Type 1} → statement M
+search_fresh_spec =
     tie.close
     (tie.spec
     narrow-to-fresh-requires
     (λ c.
     let n = c.before in
     let Q = search_of (start n) in
-    (sym (sym (root-all Q (fewest n) (begins n) (start n).args.low) ∙ sought-none Q (fewest n) 0 (start n).args.low (n.narrow-to-fresh.ensures.1.1 (not-true _ c.if1.true))), (start n).requires.1.1))
+    (sym (sym (root-all Q (fewest n) (begins n) (start n).args.low) ∙ sought-none Q (fewest n) 0 (start n).args.low (n.narrow_to_fresh.ensures.1.1 (not-true _ c.if-not-narrow_to_fresh.true-raw))), (start n).requires.1.1))
     (λ c κs.
     let n = c.before.before in
     let a = start n in
     let R = (rooted a).seeking.sound in
-    (n.narrow-to-fresh.ensures.0, ((record { laid = R.laid; indexed = (rooted a).seeking.indexed }, record { proper = R.members; few = R.few }), R.place)))
+    (n.narrow_to_fresh.ensures.0, ((record { laid = R.laid; indexed = (rooted a).seeking.indexed }, record { proper = R.members; few = R.few }), R.place)))
     (λ c.
     let n = c.before in
     let a = start (before n) in
     let Q = search_of a in
-    (sym (sym (root-all Q (last n) (begins-last n) a.args.low) ∙ sought-none Q (last n) 0 a.args.low (n.spread-members.ensures.1.1 (not-true _ c.if2.true))), a.pre.1.1))
+    (sym (sym (root-all Q (last n) (begins-last n) a.args.low) ∙ sought-none Q (last n) 0 a.args.low (n.spread_members.ensures.1.1 (not-true _ c.if-not-spread_members.true-raw))), a.requires.1.1))
     (λ c κs.
     let n = c.before.before.before in
     let a = start (before n) in
-    ((n.spread-members.ensures.0, record { seeking = record { sound = (begins-last n).sound; indexed = (rooted a).seeking.indexed }; lives = (begins-last n).lives; further = (rooted a).further }), a.pre.1.1))
-    (λ c. let n = c.before.before.before.before in (c.search-all.ensures.0 ∙ (begins-last n).same, c.search-all.ensures.1)))
+    ((n.spread_members.ensures.0, record { seeking = record { sound = (begins-last n).sound; indexed = (rooted a).seeking.indexed }; lives = (begins-last n).lives; further = (rooted a).further }), a.requires.1.1))
+    (λ c. let n = c.before.before.before.before in (c.search_all.ensures.0 ∙ (begins-last n).same, c.search_all.ensures.1)))

@@ -24,48 +24,48 @@ module _ (a : tie.Start) where
         members = a.args.members.now;
         place = a.args.place;
         own = a.args.own;
-        low = a.args.t9;
+        low = a.args.low;
       }
 
   abbrev asked : SearchAt sent a.args.index.now a.args.k true a.args.chosen
-  asked = a.pre.0.1
+  asked = a.requires.0.1
 
   abbrev sound : SoundSearch sent
   sound = asked.seeking.sound
 
-module _ (c : tie.After-span-of) where
+module _ (c : tie.After-span_of-span) where
   abbrev start : tie.Start
   start = c.before.before.before.before.before
 
   turn : Turn (sent start) start.args.k true start.args.chosen c.Span-of.result.first c.Span-of.result.start c.Span-of.result.end
   turn =
       turn_on (asked start)
-      (good_length (e_int w16) 4 start.args.chosen _ start.good.1.1.1.1.1.1.1.1.1.1.0)
-      (good_length (e_int w16) 4 start.args.t9 _ start.good.1.1.1.1.1.1.1.1.0)
+      (good_length (e_int w16) 4 start.args.chosen _ start.well_formed.1.1.1.1.1.1.1.1.1.1.0)
+      (good_length (e_int w16) 4 start.args.low _ start.well_formed.1.1.1.1.1.1.1.1.0)
       c.Span-of.result c.Span-of.ensures
 
-first-fitting-requires : tie.Need-first-fitting-requires
+first-fitting-requires : tie.Need-first_fitting-g-requires
 first-fitting-requires c κs =
     let a = start c in
-    (a.pre.0.0, fitting-at (turn c) a.args.index.now (asked a).seeking.indexed a.args.place a.args.own (sound a).place (sound a).own (◌⊎◌.inl (refl, refl)))
+    (a.requires.0.0, fitting-at (turn c) a.args.index.now (asked a).seeking.indexed a.args.place a.args.own (sound a).place (sound a).own (◌⊎◌.inl (refl, refl)))
 
-returns : tie.Need-returns
+returns : tie.Need-returns-then-span-g
 returns c =
     let w = c.before.before in
-    sym (last_none (turn w.before) (asked (start w.before)).lives w.first-fitting.result w.first-fitting.ensures c.if1.true)
+    sym (last_none (turn w.before) (asked (start w.before)).lives w.first_fitting-g.result w.first_fitting-g.ensures c.if-span-g.true)
 
-returns-2 : tie.Need-returns-2
+returns-2 : tie.Need-returns
 returns-2 c =
     let o = c.before in
     let e = o.before.before.before in
     let w = e.before.before in
     let a = start w.before in
     sym
-    (last_found (turn w.before) (asked a).lives a.pre.1 w.first-fitting.result w.first-fitting.ensures e.if1.false o.past-own.result
-    (o.past-own.ensures ∙ ap (past_own a.args.place a.args.own (a.args.k + 1)) o.before.put.ensures))
+    (last_found (turn w.before) (asked a).lives a.requires.1 w.first_fitting-g.result w.first_fitting-g.ensures e.if-span-g.false o.past_own-full.result
+    (o.past_own-full.ensures ∙ ap (past_own a.args.place a.args.own (a.args.k + 1)) o.before.put.ensures))
 
-pub search-last-spec : {M : Type 1} → statement M
-search-last-spec =
+pub search_last_spec : {M : Type 1} → statement M
+search_last_spec =
     tie.close
     (tie.spec
     (λ c. let a = c.before.before.before in omega (arith, (sound a).few, (asked a).inside))
@@ -76,7 +76,7 @@ search-last-spec =
     first-fitting-requires
     returns
     (λ c. let a = start c.before.before.before in omega (arith, (sound a).few, (asked a).inside))
-    (λ c. let w = c.before.before.before in omega (arith, fitting-is (turn w.before) w.first-fitting.result w.first-fitting.ensures))
+    (λ c. let w = c.before.before.before in omega (arith, fitting-is (turn w.before) w.first_fitting-g.result w.first_fitting-g.ensures))
     (λ c κs. search rules)
     (λ c κs. let a = start c.before.before.before.before.before in omega (arith, (sound a).place, (sound a).few))
     returns-2)

@@ -22,54 +22,54 @@ module _ (a : tie.Start) where
         members = a.args.members.now;
         place = a.args.place;
         own = a.args.own;
-        low = a.args.t9;
+        low = a.args.low;
       }
 
   abbrev asked : SearchAt sent a.args.index.now a.args.k a.args.resumes a.args.chosen
-  asked = a.pre.0.1
+  asked = a.requires.0.1
 
   abbrev sound : SoundSearch sent
   sound = asked.seeking.sound
 
-module _ (c : tie.After-span-of) where
+module _ (c : tie.After-span_of-span) where
   abbrev start : tie.Start
   start = c.before.before.before.before.before
 
   turn : Turn (sent start) start.args.k start.args.resumes start.args.chosen c.Span-of.result.first c.Span-of.result.start c.Span-of.result.end
   turn =
       turn_on (asked start)
-      (good_length (e_int w16) 4 start.args.chosen _ start.good.1.1.1.1.1.1.1.1.1.1.1.0)
-      (good_length (e_int w16) 4 start.args.t9 _ start.good.1.1.1.1.1.1.1.1.0)
+      (good_length (e_int w16) 4 start.args.chosen _ start.well_formed.1.1.1.1.1.1.1.1.1.1.1.0)
+      (good_length (e_int w16) 4 start.args.low _ start.well_formed.1.1.1.1.1.1.1.1.0)
       c.Span-of.result c.Span-of.ensures
 
 -- the walk begins at the first live tuple
-walk-last-requires : tie.Need-walk-last-requires
+walk-last-requires : tie.Need-walk_last-walked-requires
 walk-last-requires c κs =
     let s = c.before.before in
     let a = start s in
-    (a.pre.0, ((subst (WalkAt (sent a) a.args.k a.args.resumes a.args.chosen) (sym c.next.ensures) (come-first (turn s)), a.pre.1.0), a.pre.1.1))
+    (a.requires.0, ((subst (WalkAt (sent a) a.args.k a.args.resumes a.args.chosen) (sym c.next-from.ensures) (come-first (turn s)), a.requires.1.0), a.requires.1.1))
 
-returns : tie.Need-returns
+returns : tie.Need-returns-then-kind-eq-FOUND
 returns c =
     let w = c.before.before in
     let s = w.before.before.before in
-    let kind = w.walk-last.result.kind in
-    come-walked (turn s) w.walk-last.result w.walk-last.ensures
+    let kind = w.walk_last-walked.result.kind in
+    come-walked (turn s) w.walk_last-walked.result w.walk_last-walked.ensures
     (⊎_elim
     (λ v. ◌⊎◌.inl (eq-eqb (kind % 2) 1 v.taken))
-    (λ v. ◌⊎◌.inr (ne_eqb (kind % 2) 1 v.0.left, leb-true s.Span-of.result.end w.walk-last.result.at v.1.taken))
-    c.if1.branch)
+    (λ v. ◌⊎◌.inr (ne_eqb (kind % 2) 1 v.0.left, leb-true s.Span-of.result.end w.walk_last-walked.result.at v.1.taken))
+    c.if-kind-eq-FOUND.branch-raw)
 
 -- the hard search goes on where the walk stopped
-search-hard-requires : tie.Need-search-hard-requires
+search-hard-requires : tie.Need-search_hard-requires
 search-hard-requires c κs =
     let w = c.before.before.before in
     let a = start w.before.before.before in
-    let unfound : is_found w.walk-last.result.kind ≡ false = ne_eqb (w.walk-last.result.kind % 2) 1 c.before.if1.false in
-    (a.pre.0, (w.walk-last.ensures.on unfound, a.pre.1.0))
+    let unfound : is_found w.walk_last-walked.result.kind ≡ false = ne_eqb (w.walk_last-walked.result.kind % 2) 1 c.before.if-kind-eq-FOUND.false in
+    (a.requires.0, (w.walk_last-walked.ensures.on unfound, a.requires.1.0))
 
-pub search-two-spec : {M : Type 1} → statement M
-search-two-spec =
+pub search_two_spec : {M : Type 1} → statement M
+search_two_spec =
     tie.close
     (tie.spec
     (λ c. let a = c.before.before.before in omega (arith, (sound a).few, (asked a).inside))
@@ -81,4 +81,4 @@ search-two-spec =
     walk-last-requires
     returns
     search-hard-requires
-    (λ c. c.search-hard.ensures))
+    (λ c. c.search_hard.ensures))

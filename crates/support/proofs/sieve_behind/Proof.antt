@@ -25,8 +25,8 @@ none = record { column = 8; bits = 0 }
 few : (s : tie.Start) (j : ℕ) → j < length s.args.members.now → get_or s.args.members.now j 0 < max_relations
 few s j h = omega (arith, s.requires.1.0.exist j h, relations-few s.requires.1.0.laid.framed)
 
-pub sieve-behind-spec : {M : Type 1} → statement M
-sieve-behind-spec =
+pub sieve_behind_spec : {M : Type 1} → statement M
+sieve_behind_spec =
     tie.close
     (tie.spec
     (λ c κs. let T = c.before.before.before.requires.1.1 in omega (arith, T.inside, T.IsPlace-in, T.other))
@@ -35,16 +35,17 @@ sieve-behind-spec =
     let s = c.before.before.before.before.before in
     let r = get_or s.args.members.now s.args.k 0 in
     absurd (not-both (passes_none (network_in (given s)) r x none (columns-few s.requires.1.0.laid.framed r (few s s.args.k s.requires.1.1.inside))) e))
-    (λ c. search rules) (λ c. search rules)
-    (λ c. let l = c.before.before in let T = l.before.before.before.before.requires.1.1 in let b = l.last-but.ensures.0 in search rules)
-    (λ c. c.before.before.before.last-but.ensures.0)
+    (λ c. search rules)
+    (λ c. search rules)
+    (λ c. let l = c.before.before in let T = l.before.before.before.before.requires.1.1 in let b = l.last_but-last.ensures.0 in search rules)
+    (λ c. c.before.before.before.last_but-last.ensures.0)
     (λ c κs.
     let s = c.before.before.before.before.before.before.before in
-    (s.requires.0, (s.requires.1.0.laid, (few s s.args.k s.requires.1.1.inside, few s c.before.before.before.last-but.result c.before.before.before.last-but.ensures.0))))
+    (s.requires.0, (s.requires.1.0.laid, (few s s.args.k s.requires.1.1.inside, few s c.before.before.before.last_but-last.result c.before.before.before.last_but-last.ensures.0))))
     (λ c x h e.
     let l = c.before.before.before.before in
     record {
-      j = l.last-but.result;
-      later = record { from-k = omega (arith, c.before.before.before.if1.false); inside = l.last-but.ensures.0; other = l.last-but.ensures.1 };
-      none = λ z k i a. not-both (c.sieve-for.ensures x z h k a i) e;
+      j = l.last_but-last.result;
+      later = record { from-k = omega (arith, c.before.before.before.if-last-k.false); inside = l.last_but-last.ensures.0; other = l.last_but-last.ensures.1 };
+      none = λ z k i a. not-both (c.sieve_for.ensures x z h k a i) e;
     }))

@@ -33,22 +33,22 @@ record Walk (first end tested fell g : ℕ) : Type 0 where
   few-tested : tested ≤ g - first
   few-fell : fell ≤ tested
 
-abbrev invariant-loop : tie.invariant-loop
+abbrev invariant-loop : tie.invariant-loop-g
 invariant-loop variables values starts index columns alive words₀ r s from to fewer first end base width sample rows₀ tested₀ fell₀ g₀ words rows tested fell g =
     (Revises (lists_of variables values starts) r s words₀ words × Covers (network_in (lists_of variables values starts)) s words alive)
     × ((length rows ≡ 32) × Walk first end tested fell g)
 
-abbrev decreases-loop : tie.decreases-loop
+abbrev decreases-loop : tie.decreases-loop-g
 decreases-loop variables values starts index columns alive words₀ r s from to fewer first end base width sample rows₀ tested₀ fell₀ g₀ words rows tested fell g = end - g
 
 -- ---- The relation's ids, and where its values begin
 
-module _ (c : tie.After-variable-start2 invariant-loop decreases-loop) where
+module _ (c : tie.After-variable_start-2 invariant-loop decreases-loop) where
   abbrev start : tie.Start invariant-loop decreases-loop
   start = c.before.before.before.before.before.before.before
 
   abbrev prepared : Prepared (lists_of start.args.variables.now start.args.values.now start.args.starts.now) start.args.index.now start.args.columns.now start.args.r start.args.s start.args.from start.args.to
-  prepared = start.pre.0
+  prepared = start.requires.0
 
   abbrev L : Lists
   L = lists_of start.args.variables.now start.args.values.now start.args.starts.now
@@ -60,74 +60,74 @@ module _ (c : tie.After-variable-start2 invariant-loop decreases-loop) where
   framed = prepared.laid.framed
 
   abbrev first : ℕ
-  first = c.before.before.before.before.tuple-start.result
+  first = c.before.before.before.before.tuple_start-first.result
 
   abbrev end : ℕ
-  end = c.before.before.before.tuple-start2.result
+  end = c.before.before.before.tuple_start-end.result
 
   first-is : first ≡ first_id (network_in L) r
-  first-is = c.before.before.before.before.tuple-start.ensures ∙ tuple-start framed r (omega (arith, prepared.own))
+  first-is = c.before.before.before.before.tuple_start-first.ensures ∙ tuple-start framed r (omega (arith, prepared.own))
 
   end_is : end ≡ first_id (network_in L) r + size (network_in L) r
-  end_is = c.before.before.before.tuple-start2.ensures ∙ tuple-end framed r prepared.own
+  end_is = c.before.before.before.tuple_start-end.ensures ∙ tuple-end framed r prepared.own
 
   few : end ≤ 4096
-  few = omega (arith, c.before.before.before.tuple-start2.ensures, ids-few framed r prepared.own)
+  few = omega (arith, c.before.before.before.tuple_start-end.ensures, ids-few framed r prepared.own)
 
   abbrev columns : ℕ
-  columns = c.before.variable-start.result - c.variable-start2.result
+  columns = c.before.variable_start.result - c.variable_start-2.result
 
-  rises : c.variable-start2.result ≤ c.before.variable-start.result
-  rises = omega (arith, c.before.variable-start.ensures.0, c.variable-start2.ensures.0, scope-rises framed r prepared.own)
+  rises : c.variable_start-2.result ≤ c.before.variable_start.result
+  rises = omega (arith, c.before.variable_start.ensures.0, c.variable_start-2.ensures.0, scope-rises framed r prepared.own)
 
   columns-are : columns ≡ width (network_in L) r
-  columns-are = ap₂ (λ (a b : ℕ). a - b) c.before.variable-start.ensures.0 c.variable-start2.ensures.0 ∙ width-in framed r prepared.own
+  columns-are = ap₂ (λ (a b : ℕ). a - b) c.before.variable_start.ensures.0 c.variable_start-2.ensures.0 ∙ width-in framed r prepared.own
 
   narrow : columns ≤ 8
   narrow = omega (arith, columns-are, columns-few framed r prepared.own)
 
 -- ---- One turn
 
-abbrev ids : tie.At-loop invariant-loop decreases-loop → tie.After-variable-start2 invariant-loop decreases-loop
+abbrev ids : tie.At-loop-g invariant-loop decreases-loop → tie.After-variable_start-2 invariant-loop decreases-loop
 ids c = c.before.before.before.before.before
 
-module _ (c : tie.In-loop invariant-loop decreases-loop) where
-  abbrev known : tie.After-variable-start2 invariant-loop decreases-loop
+module _ (c : tie.In-loop-g invariant-loop decreases-loop) where
+  abbrev known : tie.After-variable_start-2 invariant-loop decreases-loop
   known = ids c.before
 
-  abbrev walk : Walk (first known) (end known) c.before.loop.tested c.before.loop.fell c.before.loop.g
-  walk = c.before.loop.invariant.1.1
+  abbrev walk : Walk (first known) (end known) c.before.loop-g.tested c.before.loop-g.fell c.before.loop-g.g
+  walk = c.before.loop-g.invariant.1.1
 
   -- the tuple is one of the relation's
   abbrev x : ℕ
-  x = c.before.loop.g - first known
+  x = c.before.loop-g.g - first known
 
   index : x < size (network_in (L known)) (r known)
-  index = omega (arith, first-is known, end_is known, c.loop-test.true, walk)
+  index = omega (arith, first-is known, end_is known, c.loop-g-test.true, walk)
 
-  id : c.before.loop.g ≡ first_id (network_in (L known)) (r known) + x
+  id : c.before.loop-g.g ≡ first_id (network_in (L known)) (r known) + x
   id = omega (arith, first-is known, walk)
 
-  short : c.before.loop.tested < 4096
-  short = omega (arith, few known, c.loop-test.true, walk)
+  short : c.before.loop-g.tested < 4096
+  short = omega (arith, few known, c.loop-g-test.true, walk)
 
   -- the walk goes on
-  ahead : (words : List ℕ) → (let n = next_live words (c.before.loop.g + 1) (end known) in (c.before.loop.g < n) × (n ≤ end known))
-  ahead words = next-ahead words c.loop-test.true
+  ahead : (words : List ℕ) → (let n = next_live words (c.before.loop-g.g + 1) (end known) in (c.before.loop-g.g < n) × (n ≤ end known))
+  ahead words = next-ahead words c.loop-g-test.true
 
 -- the tuple's values
 module _ (c : tie.After-wide invariant-loop decreases-loop) where
-  abbrev turn : tie.In-loop invariant-loop decreases-loop
+  abbrev turn : tie.In-loop-g invariant-loop decreases-loop
   turn = c.before.before.before
 
   abbrev at : ℕ
-  at = (known turn).before.before.value-start.result + c.wide.result * columns (known turn)
+  at = (known turn).before.before.value_start-base.result + c.wide.result * columns (known turn)
 
   abbrev values : List ℕ
   values = (start (known turn)).args.values.now
 
   at-is : at ≡ value_start (L (known turn)).starts (r (known turn)) + x turn * columns (known turn)
-  at-is = ap₂ (λ (a b : ℕ). a + b * columns (known turn)) (known turn).before.before.value-start.ensures.0 c.wide.ensures.0
+  at-is = ap₂ (λ (a b : ℕ). a + b * columns (known turn)) (known turn).before.before.value_start-base.ensures.0 c.wide.ensures.0
 
   fits : at + columns (known turn) ≤ length values
   fits = part-fits (prepared (known turn)).laid (r (known turn)) (x turn) (columns (known turn)) at (at + columns (known turn)) (index turn) (columns-are (known turn)) at-is refl
@@ -142,7 +142,7 @@ module _ (c : tie.After-wide invariant-loop decreases-loop) where
   small =
       let h : c.wide.result ≤ 4095 = omega (arith, c.wide.ensures.0, index turn, few (known turn), first-is (known turn), end_is (known turn)) in
       let p = mul-le-mul h (narrow (known turn)) in
-      omega (arith, p, narrow (known turn), (known turn).before.before.value-start.ensures.1)
+      omega (arith, p, narrow (known turn), (known turn).before.before.value_start-base.ensures.1)
 
   testable : Testable (start (known turn)).args.index.now (start (known turn)).args.columns.now part (start (known turn)).args.to
   testable =
@@ -159,53 +159,53 @@ module _ (c : tie.After-wide invariant-loop decreases-loop) where
       }
 
 -- what comes of the test
-module _ (c : tie.After-clear-unmet invariant-loop decreases-loop) where
+module _ (c : tie.After-clear_unmet-n invariant-loop decreases-loop) where
   abbrev read : tie.After-wide invariant-loop decreases-loop
   read = c.before.before.before.before
 
   abbrev after : List ℕ
-  after = c.clear-unmet.new.1.1.1.1.1.0
+  after = c.clear_unmet-n.new.1.1.1.1.1.0
 
-  tested : Tested (L (known (turn read))) (r (known (turn read))) (start (known (turn read))).args.s (start (known (turn read))).args.alive.now (start (known (turn read))).args.words.now after c.clear-unmet.result
+  tested : Tested (L (known (turn read))) (r (known (turn read))) (start (known (turn read))).args.s (start (known (turn read))).args.alive.now (start (known (turn read))).args.words.now after c.clear_unmet-n.result
   tested =
       let t = turn read in
       let k = known t in
       let a = (start k).args in
-      let l = t.before.loop in
-      falls-tested (L k) (prepared k) (x t) l.g c.clear-unmet.result a.alive.now (part read) a.words.now l.words after (index t) (id t) (part-is read) l.inv.0.0 l.inv.0.1 c.clear-unmet.ensures.1
+      let l = t.before.loop-g in
+      falls-tested (L k) (prepared k) (x t) l.g c.clear_unmet-n.result a.alive.now (part read) a.words.now l.words after (index t) (id t) (part-is read) l.inv.0.0 l.inv.0.1 c.clear_unmet-n.ensures.1
 
-loop-holds : tie.Need-loop-init invariant-loop decreases-loop
+loop-holds : tie.Need-loop-g-init invariant-loop decreases-loop
 loop-holds c =
     let k = c.before.before.before.before in
     let f = next_live-first (start k).args.words.now (first k) (end k) (omega (arith, first-is k, end_is k)) in
-    let e = c.next.ensures in (
+    let e = c.next-g.ensures in (
       (revises-none (L k) (r k) (start k).args.s (start k).requires.1.0, (start k).requires.1.1),
       (refl, record { from_first = omega (arith, e, f.from-i); to_end = omega (arith, e, f.to_end); few-tested = omega arith; few-fell = omega arith }),
     )
 
-clear-unmet-requires : tie.Need-clear-unmet-requires invariant-loop decreases-loop
+clear-unmet-requires : tie.Need-clear_unmet-n-requires invariant-loop decreases-loop
 clear-unmet-requires c κs =
     let w = c.before.before.before in
     let t = turn w in
-    let l = t.before.loop in
-    ((l.inv.1.0, testable w), (l.inv.0.0.0.long, omega (arith, few (known t), t.loop-test.taken)))
+    let l = t.before.loop-g in
+    ((l.inv.1.0, testable w), (l.inv.0.0.0.long, omega (arith, few (known t), t.loop-g-test.taken)))
 
-next-requires-2 : tie.Need-next-requires-2 invariant-loop decreases-loop
+next-requires-2 : tie.Need-next-g-requires-in-loop-g invariant-loop decreases-loop
 next-requires-2 c κs =
     let done = c.before.before in
     let t = turn (read done) in
     let k = known t in
-    (omega (arith, t.loop-test.taken), omega (arith, few k, (tested done).revises.0.long), few k)
+    (omega (arith, t.loop-g-test.taken), omega (arith, few k, (tested done).revises.0.long), few k)
 
-loop-again : tie.Need-loop-preserved invariant-loop decreases-loop
+loop-again : tie.Need-loop-g-preserved invariant-loop decreases-loop
 loop-again c =
     let done = c.before.before.before in
     let t = turn (read done) in
     let a = ahead t (after done) in
-    let e = c.next2.ensures in (
+    let e = c.next-g-in-loop-g.ensures in (
       ((tested done).revises, (tested done).covers),
       (
-        done.clear-unmet.ensures.0,
+        done.clear_unmet-n.ensures.0,
         record {
           from_first = omega (arith, a, e, walk t);
           to_end = omega (arith, a, e);
@@ -215,30 +215,40 @@ loop-again c =
       ),
     )
 
-pub clear-tuples-spec : {M : Type 1} → statement M
-clear-tuples-spec =
+pub clear_tuples_spec : {M : Type 1} → statement M
+clear_tuples_spec =
     tie.close
     (tie.spec
     invariant-loop
     decreases-loop
-    (λ c κs. search rules) (λ c. search rules) (λ c κs. search rules) (λ c κs. search rules)
-    (λ c. search rules) (λ c κs. search rules) (λ c κs. search rules)
+    (λ c κs. search rules)
+    (λ c. search rules)
+    (λ c κs. search rules)
+    (λ c κs. search rules)
+    (λ c. search rules)
+    (λ c κs. search rules)
+    (λ c κs. search rules)
     (λ c. rises c)
     (λ c. omega (arith, first-is c, end_is c))
     (λ c κs. search rules)
     (λ c κs. let k = c.before.before.before in (omega (arith, first-is k, end_is k), omega (arith, few k, (start k).requires.1.0.long), few k))
     loop-holds
     (λ c κs. omega (arith, short c, walk c))
-    (λ c. let t = c.before.before in ((omega (arith, short t), omega (arith, short t, walk t)), t.before.loop.invariant.0.0))
+    (λ c. let t = c.before.before in ((omega (arith, short t), omega (arith, short t, walk t)), t.before.loop-g.invariant.0.0))
     (λ c. omega (arith, walk c.before.before))
     (λ c κs. search rules)
-    (λ c. omega (arith, small c)) (λ c. omega (arith, small c)) (λ c. omega (arith, small c))
-    (λ c. omega (arith, small c)) (λ c. omega arith) (λ c. omega (arith, fits c)) (λ c. omega (arith, fits c))
+    (λ c. omega (arith, small c))
+    (λ c. omega (arith, small c))
+    (λ c. omega (arith, small c))
+    (λ c. omega (arith, small c))
+    (λ c. omega arith)
+    (λ c. omega (arith, fits c))
+    (λ c. omega (arith, fits c))
     clear-unmet-requires
     (λ c. let t = turn (read c) in omega (arith, short t, walk t, (tested c).one))
     (λ c. let t = turn (read c) in omega (arith, short t))
-    (λ c. let t = turn (read c.before.before) in omega (arith, few (known t), t.loop-test.taken))
+    (λ c. let t = turn (read c.before.before) in omega (arith, few (known t), t.loop-g-test.taken))
     next-requires-2
-    (λ c. let done = c.before.before.before in omega (arith, ahead (turn (read done)) (after done), c.next2.ensures))
+    (λ c. let done = c.before.before.before in omega (arith, ahead (turn (read done)) (after done), c.next-g-in-loop-g.ensures))
     loop-again
-    (λ c. let l = c.before.loop in let k = ids c.before in ((omega (arith, few k, l.invariant.1.1), omega (arith, few k, l.invariant.1.1)), l.invariant.0.0)))
+    (λ c. let l = c.before.loop-g in let k = ids c.before in ((omega (arith, few k, l.invariant.1.1), omega (arith, few k, l.invariant.1.1)), l.invariant.0.0)))

@@ -4,7 +4,7 @@ use Rattle.narrowing.proofs.TupleRows.{row-of-within, rows-within, rows-every}
 use Rattle.sweeping.proofs.meets.Statement.{statement}
 use Rattle.sweeping.proofs.meets.Tie as tie
 
-abbrev start : tie.After-rows-of → tie.Start
+abbrev start : tie.After-rows_of-n → tie.Start
 start c = c.before.before.before
 
 returns : tie.Need-returns
@@ -16,8 +16,8 @@ returns c =
       λ e g l h live every. c.meet.ensures e g l h live (rows-every a.index.now found.rows_of_lem.new.1.1.1.0 found.rows_of_lem.result g rows every),
     )
 
-pub meets-spec : {M : Type 1} → statement M
-meets-spec =
+pub meets_spec : {M : Type 1} → statement M
+meets_spec =
     tie.close
     (tie.spec
     (λ c κs. let p = c.before.before.requires in (p.0, (p.1.plan, (p.1.few, p.1.has))))

@@ -12,62 +12,62 @@ use Rattle.sweeping.proofs.Beside.{put-none, put_same, put-more}
 use Rattle.sweeping.proofs.put_beside.Statement.{statement}
 use Rattle.sweeping.proofs.put_beside.Tie as tie
 
-abbrev invariant-loop : tie.invariant-loop
+abbrev invariant-loop : tie.invariant-loop-q
 invariant-loop beside₀ members base end r q₀ beside q = Put members base q r beside₀ beside × ((base ≤ q) × (q ≤ end))
 
-abbrev decreases-loop : tie.decreases-loop
+abbrev decreases-loop : tie.decreases-loop-q
 decreases-loop beside₀ members base end r q₀ beside q = end - q
 
-loop-holds : tie.Need-loop-init invariant-loop decreases-loop
+loop-holds : tie.Need-loop-q-init invariant-loop decreases-loop
 loop-holds c = (put-none c.before.requires.array, (search rules, c.before.requires.rises))
 
 -- the member passed
-module _ (c : tie.In-loop invariant-loop decreases-loop) where
+module _ (c : tie.In-loop-q invariant-loop decreases-loop) where
   abbrev start : tie.Start invariant-loop decreases-loop
   start = c.before.before.before
 
   abbrev member : ℕ
-  member = get_or start.args.members.now c.before.loop.q 0
+  member = get_or start.args.members.now c.before.loop-q.q 0
 
   few : member < 64
-  few = start.pre.few c.before.loop.q (omega (arith, c.loop-test.true, start.pre.inside))
+  few = start.requires.few c.before.loop-q.q (omega (arith, c.loop-q-test.true, start.requires.inside))
 
-turned : (c : tie.Joined1 invariant-loop decreases-loop) → (let turn = c.before.before in let a = (start turn).args in Put a.members.now a.base (turn.before.loop.q + 1) a.r a.beside.now c.if1.beside)
+turned : (c : tie.Joined-s-r invariant-loop decreases-loop) → (let turn = c.before.before in let a = (start turn).args in Put a.members.now a.base (turn.before.loop-q.q + 1) a.r a.beside.now c.if-s-r.beside)
 turned c =
     let turn = c.before.before in
     let a = (start turn).args in
-    let l = turn.before.loop in
+    let l = turn.before.loop-q in
     let Result : List ℕ → Type 0 = Put a.members.now a.base (l.q + 1) a.r a.beside.now in
     ⊎_elim
-    {C = Result c.if1.beside}
+    {C = Result c.if-s-r.beside}
     (λ w. subst Result (sym (w.3 ∙ w.2.ensures)) (put-more l.invariant.0 l.invariant.1.0 (λ e. w.0.taken (sym e))))
     (λ w. subst Result (sym w.1) (put_same l.invariant.0))
-    c.if1.branch
+    c.if-s-r.branch-raw
 
-loop-again : tie.Need-loop-preserved invariant-loop decreases-loop
+loop-again : tie.Need-loop-q-preserved invariant-loop decreases-loop
 loop-again c =
     let turn = c.before.before in
-    (turned c, (omega (arith, turn.before.loop.invariant.1), omega (arith, turn.loop-test.true)))
+    (turned c, (omega (arith, turn.before.loop-q.invariant.1), omega (arith, turn.loop-q-test.true)))
 
 returns : tie.Need-returns invariant-loop decreases-loop
 returns c =
-    let l = c.before.loop in
+    let l = c.before.loop-q in
     let a = c.before.before.before.args in
-    let e : l.q ≡ a.end = omega (arith, c.loop-test.false, l.invariant.1) in
+    let e : l.q ≡ a.end = omega (arith, c.loop-q-test.false, l.invariant.1) in
     subst (λ (q : ℕ). Put a.members.now a.base q a.r a.beside.now l.beside) e l.invariant.0
 
-pub put-beside-spec : {M : Type 1} → statement M
-put-beside-spec =
+pub put_beside_spec : {M : Type 1} → statement M
+put_beside_spec =
     tie.close
     (tie.spec
     invariant-loop
     decreases-loop
     loop-holds
     (λ c. search rules)
-    (λ c. omega (arith, c.before.loop-test.true, (start c.before).pre.inside))
-    (λ c. omega (arith, (start c.before.before.before).pre.own))
-    (λ c. omega (arith, (start c.before.before.before).pre.own, few c.before.before.before))
-    (λ c κs. let turn = c.before.before.before in omega (arith, (start turn).requires.own, few turn, turn.before.loop.invariant.0.array.long))
+    (λ c. omega (arith, c.before.loop-q-test.true, (start c.before).requires.inside))
+    (λ c. omega (arith, (start c.before.before.before).requires.own))
+    (λ c. omega (arith, (start c.before.before.before).requires.own, few c.before.before.before))
+    (λ c κs. let turn = c.before.before.before in omega (arith, (start turn).requires.own, few turn, turn.before.loop-q.invariant.0.array.long))
     (λ c. search rules)
     (λ c. search rules)
     loop-again

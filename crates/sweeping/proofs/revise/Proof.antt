@@ -30,7 +30,7 @@ module _ {L : Lists} (laid : SoundLists L) (r : ℕ) (h : r < 64) {a b : ℕ} (e
   part-few : length (take (b - a) (drop a L.variables)) ≤ 8
   part-few = subst (λ (p : List ℕ). length p ≤ 8) (sym part-is) (scope-few laid r h)
 
-module _ (c : tie.After-variable-start4) where
+module _ (c : tie.After-variable_start-b_end) where
   abbrev start : tie.Start
   start = c.before.before.before.before.before.before.before.before.before
 
@@ -38,22 +38,22 @@ module _ (c : tie.After-variable-start4) where
   L = record { variables = start.args.variables.now; values = start.args.values.now; starts = start.args.starts.now }
 
   abbrev laid : SoundLists L
-  laid = start.pre.1.0.laid
+  laid = start.requires.1.0.laid
 
-  own : (c.before.before.before.variable-start.result ≤ c.before.before.variable-start2.result) × (c.before.before.variable-start2.result ≤ length start.args.variables.now)
-  own = bounds laid start.args.r start.pre.1.1.0 c.before.before.before.variable-start.ensures.0 c.before.before.variable-start2.ensures.0
+  own : (c.before.before.before.variable_start-a.result ≤ c.before.before.variable_start-a_end.result) × (c.before.before.variable_start-a_end.result ≤ length start.args.variables.now)
+  own = bounds laid start.args.r start.requires.1.1.0 c.before.before.before.variable_start-a.ensures.0 c.before.before.variable_start-a_end.ensures.0
 
-  other : (c.before.variable-start3.result ≤ c.variable-start4.result) × (c.variable-start4.result ≤ length start.args.variables.now)
-  other = bounds laid start.args.s start.pre.1.1.1 c.before.variable-start3.ensures.0 c.variable-start4.ensures.0
+  other : (c.before.variable_start-b.result ≤ c.variable_start-b_end.result) × (c.variable_start-b_end.result ≤ length start.args.variables.now)
+  other = bounds laid start.args.s start.requires.1.1.1 c.before.variable_start-b.ensures.0 c.variable_start-b_end.ensures.0
 
-shared-columns-requires : tie.Need-shared-columns-requires
+shared-columns-requires : tie.Need-shared_columns-columns-requires
 shared-columns-requires c κs =
     let w = c.before.before in
     let s = start w in (
-      s.pre.1.1.1,
+      s.requires.1.1.1,
       (
-        part-few (laid w) s.args.r s.pre.1.1.0 w.before.before.before.variable-start.ensures.0 w.before.before.variable-start2.ensures.0,
-        part-few (laid w) s.args.s s.pre.1.1.1 w.before.variable-start3.ensures.0 w.variable-start4.ensures.0,
+        part-few (laid w) s.args.r s.requires.1.1.0 w.before.before.before.variable_start-a.ensures.0 w.before.before.variable_start-a_end.ensures.0,
+        part-few (laid w) s.args.s s.requires.1.1.1 w.before.variable_start-b.ensures.0 w.variable_start-b_end.ensures.0,
       ),
     )
 
@@ -62,47 +62,47 @@ shares_as {p} {scope_b = scope_b} {index} {columns} {s} e f shared =
     subst (λ (xs : List ℕ). Shares xs scope_b index s columns) e (subst (λ (ys : List ℕ). Shares p ys index s columns) f shared)
 
 -- what is found are columns of the two scopes
-shares : (c : tie.After-shared-columns) → (let w = c.before.before.before in let a = (start w).args in Shares (scope_of (network_in (L w)) a.r) (scope_of (network_in (L w)) a.s) a.index.now a.s c.shared-columns.result)
+shares : (c : tie.After-shared_columns-columns) → (let w = c.before.before.before in let a = (start w).args in Shares (scope_of (network_in (L w)) a.r) (scope_of (network_in (L w)) a.s) a.index.now a.s c.shared_columns-columns.result)
 shares c =
     let w = c.before.before.before in
     let s = start w in
     let a = s.args in
-    let one = part-is (laid w) a.r s.pre.1.1.0 w.before.before.before.variable-start.ensures.0 w.before.before.variable-start2.ensures.0 in
-    let two = part-is (laid w) a.s s.pre.1.1.1 w.before.variable-start3.ensures.0 w.variable-start4.ensures.0 in
-    shares_as one two c.shared-columns.ensures
+    let one = part-is (laid w) a.r s.requires.1.1.0 w.before.before.before.variable_start-a.ensures.0 w.before.before.variable_start-a_end.ensures.0 in
+    let two = part-is (laid w) a.s s.requires.1.1.1 w.before.variable_start-b.ensures.0 w.variable_start-b_end.ensures.0 in
+    shares_as one two c.shared_columns-columns.ensures
 
 -- ---- Relation s's ids
 
-module _ (c : tie.After-tuple-start2) where
-  abbrev found : tie.After-shared-columns
+module _ (c : tie.After-tuple_start-end) where
+  abbrev found : tie.After-shared_columns-columns
   found = c.before.before
 
-  abbrev known : tie.After-variable-start4
+  abbrev known : tie.After-variable_start-b_end
   known = found.before.before.before
 
   abbrev s : ℕ
   s = (start known).args.s
 
-  first-is : c.before.tuple-start.result ≡ first_id (network_in (L known)) s
-  first-is = c.before.tuple-start.ensures ∙ tuple-start (laid known).framed s (omega (arith, (start known).pre.1.1.1))
+  first-is : c.before.tuple_start-start.result ≡ first_id (network_in (L known)) s
+  first-is = c.before.tuple_start-start.ensures ∙ tuple-start (laid known).framed s (omega (arith, (start known).requires.1.1.1))
 
-  end_is : c.tuple-start2.result ≡ first_id (network_in (L known)) s + size (network_in (L known)) s
-  end_is = c.tuple-start2.ensures ∙ tuple-end (laid known).framed s (start known).pre.1.1.1
+  end_is : c.tuple_start-end.result ≡ first_id (network_in (L known)) s + size (network_in (L known)) s
+  end_is = c.tuple_start-end.ensures ∙ tuple-end (laid known).framed s (start known).requires.1.1.1
 
-  few : c.tuple-start2.result ≤ 4096
-  few = omega (arith, c.tuple-start2.ensures, ids-few (laid known).framed s (start known).pre.1.1.1)
+  few : c.tuple_start-end.result ≤ 4096
+  few = omega (arith, c.tuple_start-end.ensures, ids-few (laid known).framed s (start known).requires.1.1.1)
 
-  within : c.tuple-start2.result ≤ 64 * row_words (start known).args.index.now
-  within = omega (arith, c.tuple-start2.ensures, ids-within (laid known).framed s (start known).pre.1.1.1, (start known).pre.1.0.indexed.bits)
+  within : c.tuple_start-end.result ≤ 64 * row_words (start known).args.index.now
+  within = omega (arith, c.tuple_start-end.ensures, ids-within (laid known).framed s (start known).requires.1.1.1, (start known).requires.1.0.indexed.bits)
 
-clear-tuples-requires : tie.Need-clear-tuples-requires
+clear-tuples-requires : tie.Need-clear_tuples-requires
 clear-tuples-requires c κs =
     let between = c.before.before.before.before.before in
     let ids = between.before.before in
     let w = known ids in
-    let p = (start w).pre in
+    let p = (start w).requires in
     let from = c.before.wide.ensures.0 in
-    let to = c.words-for.ensures in (
+    let to = c.words_for.ensures in (
       record {
         laid = p.1.0.laid;
         indexed = p.1.0.indexed;
@@ -115,28 +115,43 @@ clear-tuples-requires c κs =
       },
       (
         p.0,
-        between-covers (network_in (L w)) (s ids) (start w).args.words.now between.live-between.result (first-is ids) (end_is ids) between.live-between.ensures,
+        between-covers (network_in (L w)) (s ids) (start w).args.words.now between.live_between-alive.result (first-is ids) (end_is ids) between.live_between-alive.ensures,
       ),
     )
 
-returns : tie.Need-returns
+returns : tie.Need-returns-then-scope_bits-eq0
 returns c =
     let s = c.before.before.before.before.before in
     let L : Lists = record { variables = s.args.variables.now; values = s.args.values.now; starts = s.args.starts.now } in
     ((omega arith, omega arith), revises-none L s.args.r s.args.s s.requires.0)
 
-pub revise-spec : {M : Type 1} → statement M
-revise-spec =
+pub revise_spec : {M : Type 1} → statement M
+revise_spec =
     tie.close
     (tie.spec
-    (λ c κs. search rules) (λ c κs. search rules)
+    (λ c κs. search rules)
+    (λ c κs. search rules)
     returns
-    (λ c κs. search rules) (λ c. search rules) (λ c κs. search rules) (λ c κs. search rules) (λ c. search rules) (λ c κs. search rules)
-    (λ c. omega (arith, own c)) (λ c. omega (arith, own c)) (λ c. omega (arith, own c)) (λ c. omega (arith, own c))
-    (λ c. omega (arith, other c.before)) (λ c. omega (arith, other c.before)) (λ c. omega (arith, other c.before)) (λ c. omega (arith, other c.before))
+    (λ c κs. search rules)
+    (λ c. search rules)
+    (λ c κs. search rules)
+    (λ c κs. search rules)
+    (λ c. search rules)
+    (λ c κs. search rules)
+    (λ c. omega (arith, own c))
+    (λ c. omega (arith, own c))
+    (λ c. omega (arith, own c))
+    (λ c. omega (arith, own c))
+    (λ c. omega (arith, other c.before))
+    (λ c. omega (arith, other c.before))
+    (λ c. omega (arith, other c.before))
+    (λ c. omega (arith, other c.before))
     shared-columns-requires
-    (λ c κs. search rules) (λ c. search rules) (λ c κs. search rules)
-    (λ c κs. ((start (known c.before)).pre.0.long, few c.before))
-    (λ c κs. search rules) (λ c κs. search rules)
+    (λ c κs. search rules)
+    (λ c. search rules)
+    (λ c κs. search rules)
+    (λ c κs. ((start (known c.before)).requires.0.long, few c.before))
+    (λ c κs. search rules)
+    (λ c κs. search rules)
     clear-tuples-requires
-    (λ c. c.clear-tuples.ensures))
+    (λ c. c.clear_tuples.ensures))

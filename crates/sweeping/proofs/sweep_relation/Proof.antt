@@ -28,20 +28,20 @@ record Walk (table : List ℕ) (base end tested fell k : ℕ) : Type 0 where
   few-tested : tested ≤ (k - base) * max_tuples
   few-fell : fell ≤ (k - base) * max_tuples
 
-abbrev invariant-loop : tie.invariant-loop
+abbrev invariant-loop : tie.invariant-loop-k
 invariant-loop variables values starts index beside words₀ r few base end tested₀ fell₀ k₀ words tested fell k =
     Sweeps (lists_of variables values starts) beside words₀ words × Walk beside base end tested fell k
 
-abbrev decreases-loop : tie.decreases-loop
+abbrev decreases-loop : tie.decreases-loop-k
 decreases-loop variables values starts index beside words₀ r few base end tested₀ fell₀ k₀ words tested fell k = end - k
 
-loop-holds : tie.Need-loop-init invariant-loop decreases-loop
+loop-holds : tie.Need-loop-k-init invariant-loop decreases-loop
 loop-holds c =
     let s = c.before.before.before.before in
     let a = s.args in
     let base = a.r * 64 in
     let f = next_live-first a.beside.now base (base + 64) (omega arith) in
-    let e = c.next.ensures in (
+    let e = c.next-k.ensures in (
       sweeps-none s.requires.0,
       record {
         from-base = omega (arith, e, f.from-i);
@@ -52,7 +52,7 @@ loop-holds c =
       },
     )
 
-module _ (c : tie.In-loop invariant-loop decreases-loop) where
+module _ (c : tie.In-loop-k invariant-loop decreases-loop) where
   abbrev start : tie.Start invariant-loop decreases-loop
   start = c.before.before.before.before.before.before
 
@@ -66,10 +66,10 @@ module _ (c : tie.In-loop invariant-loop decreases-loop) where
   base = start.args.r * 64
 
   abbrev k : ℕ
-  k = c.before.loop.k
+  k = c.before.loop-k.k
 
-  abbrev walk : Walk table base (base + 64) c.before.loop.tested c.before.loop.fell k
-  walk = c.before.loop.invariant.1
+  abbrev walk : Walk table base (base + 64) c.before.loop-k.tested c.before.loop-k.fell k
+  walk = c.before.loop-k.invariant.1
 
   -- the relation come to
   abbrev s : ℕ
@@ -78,50 +78,51 @@ module _ (c : tie.In-loop invariant-loop decreases-loop) where
   set-bit : is_live table (start.args.r * word_bits + s) ≡ true
   set-bit =
       let e : start.args.r * word_bits + s ≡ k = omega (arith, walk.from-base) in
-      ap (is_live table) e ∙ walk.set c.loop-test.true
+      ap (is_live table) e ∙ walk.set c.loop-k-test.true
 
   ahead : First (is_live table) (k + 1) (base + 64) (next_live table (k + 1) (base + 64))
-  ahead = next_live-first table (k + 1) (base + 64) (omega (arith, c.loop-test.true))
+  ahead = next_live-first table (k + 1) (base + 64) (omega (arith, c.loop-k-test.true))
 
-revise-requires : tie.Need-revise-requires invariant-loop decreases-loop
+revise-requires : tie.Need-revise-swept-requires invariant-loop decreases-loop
 revise-requires c κs =
     let turn = c.before in
     let p = (start turn).requires in
-    (turn.before.loop.invariant.0.0, (p.1.1.0, (p.1.1.1, omega (arith, (walk turn).from-base, turn.loop-test.true))))
+    (turn.before.loop-k.invariant.0.0, (p.1.1.0, (p.1.1.1, omega (arith, (walk turn).from-base, turn.loop-k-test.true))))
 
-loop-less : tie.Need-loop-smaller invariant-loop decreases-loop
+loop-less : tie.Need-loop-k-smaller invariant-loop decreases-loop
 loop-less c =
     let turn = c.before.before.before.before.before.before in
-    omega (arith, c.next2.ensures, (ahead turn).from-i, turn.loop-test.true)
+    omega (arith, c.next-k-in-loop-k.ensures, (ahead turn).from-i, turn.loop-k-test.true)
 
-loop-again : tie.Need-loop-preserved invariant-loop decreases-loop
+loop-again : tie.Need-loop-k-preserved invariant-loop decreases-loop
 loop-again c =
     let revised = c.before.before.before.before in
     let turn = revised.before.before in
-    let e = c.next2.ensures in
+    let e = c.next-k-in-loop-k.ensures in
     let f = ahead turn in
     let w = walk turn in (
-      sweeps-then turn.before.loop.invariant.0
-          (revises-sweeps (start turn).args.r (s turn) (start turn).requires.1.1.1 (omega (arith, w.from-base, turn.loop-test.true)) (set-bit turn) revised.revise.ensures.1),
+      sweeps-then turn.before.loop-k.invariant.0
+          (revises-sweeps (start turn).args.r (s turn) (start turn).requires.1.1.1 (omega (arith, w.from-base, turn.loop-k-test.true)) (set-bit turn) revised.revise-swept.ensures.1),
       record {
         from-base = omega (arith, e, f.from-i, w.from-base);
         to_end = omega (arith, e, f.to_end);
         set = λ h. ap (is_live (table turn)) e ∙ f.passes (omega (arith, e));
-        few-tested = omega (arith, e, f.from-i, w.from-base, w.few-tested, revised.revise.ensures.0);
-        few-fell = omega (arith, e, f.from-i, w.from-base, w.few-fell, revised.revise.ensures.0);
+        few-tested = omega (arith, e, f.from-i, w.from-base, w.few-tested, revised.revise-swept.ensures.0);
+        few-fell = omega (arith, e, f.from-i, w.from-base, w.few-fell, revised.revise-swept.ensures.0);
       },
     )
 
 returns : tie.Need-returns invariant-loop decreases-loop
-returns c = let l = c.before.loop in ((omega (arith, l.invariant.1), omega (arith, l.invariant.1)), l.invariant.0)
+returns c = let l = c.before.loop-k in ((omega (arith, l.invariant.1), omega (arith, l.invariant.1)), l.invariant.0)
 
-pub sweep-relation-spec : {M : Type 1} → statement M
-sweep-relation-spec =
+pub sweep_relation_spec : {M : Type 1} → statement M
+sweep_relation_spec =
     tie.close
     (tie.spec
     invariant-loop
     decreases-loop
-    (λ c. search rules) (λ c. search rules)
+    (λ c. search rules)
+    (λ c. search rules)
     (λ c κs. search rules)
     loop-holds
     (λ c. omega (arith, (walk c.before).from-base))

@@ -9,28 +9,28 @@ use Rattle.sweeping.proofs.sweeps.Tie as tie
 abbrev given : tie.After-sweep → tie.Start
 given c = c.before.before.before.before.before.before.before
 
-returns : tie.Need-returns
+returns : tie.Need-returns-then-sweep
 returns c =
     let first = c.before.before.before.before in
     let a = (given first).args in
-    (sweeps-then first.sweep.ensures c.sweep2.ensures).1 a.m a.members.now first.before.before.before.all-beside.ensures
+    (sweeps-then first.sweep.ensures c.sweep-then-sweep.ensures).1 a.m a.members.now first.before.before.before.all_beside-beside.ensures
 
-returns-2 : tie.Need-returns-2
+returns-2 : tie.Need-returns-else-sweep
 returns-2 c =
     let a = (given c.before).args in
-    c.before.sweep.ensures.1 a.m a.members.now c.before.before.before.before.all-beside.ensures
+    c.before.sweep.ensures.1 a.m a.members.now c.before.before.before.before.all_beside-beside.ensures
 
-pub sweeps-spec : {M : Type 1} → statement M
-sweeps-spec =
+pub sweeps_spec : {M : Type 1} → statement M
+sweeps_spec =
     tie.close
     (tie.spec
     (λ c κs. let s = c.before.before.before.requires.0.1 in (s.paired.list, λ q h. member_below s.laid.framed s.paired q h))
     (λ c κs.
     let s = c.before.before.before.before.before.before.requires in
-    (s.0.0, (c.before.before.all-beside.ensures.array.long, record { laid = s.0.1.laid; indexed = s.1 })))
+    (s.0.0, (c.before.before.all_beside-beside.ensures.array.long, record { laid = s.0.1.laid; indexed = s.1 })))
     (λ c κs.
     let first = c.before.before.before in
     let s = (given first).requires in
-    (first.sweep.ensures.0, (first.before.before.before.all-beside.ensures.array.long, record { laid = s.0.1.laid; indexed = s.1 })))
+    (first.sweep.ensures.0, (first.before.before.before.all_beside-beside.ensures.array.long, record { laid = s.0.1.laid; indexed = s.1 })))
     returns
     returns-2)

@@ -59,11 +59,11 @@ abbrev seek-with-below : ℕ → In 8 seek-with-kinds.ps
 seek-with-below t =
     and 8 seek-with-kinds.ps (falls 8 seek-with-kinds.ps ◌<◌ μ-seek-with t) seek-with.Pre
 
-abbrev seek-Inv-loop : seek-lts.invariant-loop
+abbrev seek-Inv-loop : seek-lts.invariant-loop-g
 seek-Inv-loop variables values starts index words members place k chosen pending₀ numbers₀ start steps r first end left₀ g₀ pending numbers left g =
     Reached (joint_of variables values starts members place) start k chosen words pending₀ numbers₀ left g pending numbers
 
-abbrev seek-μ-loop : seek-lts.decreases-loop
+abbrev seek-μ-loop : seek-lts.decreases-loop-g
 seek-μ-loop variables values starts index words members place k chosen pending₀ numbers₀ start steps r first end left₀ g₀ pending numbers left g = end - g
 
 abbrev seek-callees : ℕ → seek-lts.Claims
@@ -85,27 +85,27 @@ module _ (t : ℕ) where
     Q = joint_of a.args.variables.now a.args.values.now a.args.starts.now a.args.members.now a.args.place
 
     abbrev asked : SeekAt Q a.args.index.now a.args.k a.args.chosen
-    asked = a.pre.1.0.1
+    asked = a.requires.1.0.1
 
     sized : length a.args.chosen ≡ 4
-    sized = good_length (e_int w16) 4 a.args.chosen _ a.good.1.1.1.1.1.1.1.1.0
+    sized = good_length (e_int w16) 4 a.args.chosen _ a.well_formed.1.1.1.1.1.1.1.1.0
 
     -- the ids of the member whose turn it is
     own : IdsAt Q a.args.k
     own = ids_at asked.sound a.args.k asked.inside
 
-  abbrev behind-start : seek-lts.After-place-behind (seek-callees t) (seek-at t) seek.Post seek-Inv-loop seek-μ-loop → Seek
+  abbrev behind-start : seek-lts.After-place_behind (seek-callees t) (seek-at t) seek.Post seek-Inv-loop seek-μ-loop → Seek
   behind-start p = p.before.before.before.before.before
 
-  seek-take-last-requires : seek-lts.Need-take-last-requires (seek-callees t) (seek-at t) seek.Post seek-Inv-loop seek-μ-loop
+  seek-take-last-requires : seek-lts.Need-take_last-requires (seek-callees t) (seek-at t) seek.Post seek-Inv-loop seek-μ-loop
   seek-take-last-requires c κs =
       let h = c.before.before in
       let p = h.before in
       let a = behind-start p in
-      ((a.pre.1.0.0, asked a), (a.pre.1.1, sym p.place-behind.ensures ∙ h.if1.true))
+      ((a.requires.1.0.0, asked a), (a.requires.1.1, sym p.place_behind.ensures ∙ h.if-place_behind-members.true))
 
-  module _ (e : seek-lts.After-tuple-start2 (seek-callees t) (seek-at t) seek.Post seek-Inv-loop seek-μ-loop) where
-    abbrev otherwise : seek-lts.Else1 (seek-callees t) (seek-at t) seek.Post seek-Inv-loop seek-μ-loop
+  module _ (e : seek-lts.After-tuple_start-end (seek-callees t) (seek-at t) seek.Post seek-Inv-loop seek-μ-loop) where
+    abbrev otherwise : seek-lts.Else-place_behind-members (seek-callees t) (seek-at t) seek.Post seek-Inv-loop seek-μ-loop
     otherwise = e.before.before.before
 
     abbrev begun : Seek
@@ -114,82 +114,82 @@ module _ (t : ℕ) where
     -- the member is not the last
     further : place_behind begun.args.place begun.args.k < length begun.args.members.now
     further =
-        omega (arith, behind-within begun.args.place begun.args.k (length begun.args.members.now) (asked begun).inside (asked begun).sound.place, otherwise.before.place-behind.ensures, otherwise.if1.left)
+        omega (arith, behind-within begun.args.place begun.args.k (length begun.args.members.now) (asked begun).inside (asked begun).sound.place, otherwise.before.place_behind.ensures, otherwise.if-place_behind-members.left)
 
-    first-is : e.before.tuple-start.result ≡ tuple_at (Q begun) begun.args.k 0
-    first-is = e.before.tuple-start.ensures ∙ (own begun).begin
+    first-is : e.before.tuple_start-first.result ≡ tuple_at (Q begun) begun.args.k 0
+    first-is = e.before.tuple_start-first.ensures ∙ (own begun).begin
 
-    end_is : e.tuple-start2.result ≡ tuple_at (Q begun) begun.args.k (size_at (Q begun) begun.args.k)
-    end_is = e.tuple-start2.ensures ∙ (own begun).stop
+    end_is : e.tuple_start-end.result ≡ tuple_at (Q begun) begun.args.k (size_at (Q begun) begun.args.k)
+    end_is = e.tuple_start-end.ensures ∙ (own begun).stop
 
     -- a walk from id g on
-    walks : (g : ℕ) → g ≤ e.tuple-start2.result → (g ≤ e.tuple-start2.result) × (e.tuple-start2.result ≤ 64 * length begun.args.words.now) × (e.tuple-start2.result ≤ 4096)
-    walks g h = (h, omega (arith, end_is, (own begun).few, begun.pre.1.0.0.0), omega (arith, end_is, (own begun).few))
+    walks : (g : ℕ) → g ≤ e.tuple_start-end.result → (g ≤ e.tuple_start-end.result) × (e.tuple_start-end.result ≤ 64 * length begun.args.words.now) × (e.tuple_start-end.result ≤ 4096)
+    walks g h = (h, omega (arith, end_is, (own begun).few, begun.requires.1.0.0.0), omega (arith, end_is, (own begun).few))
 
-    next-is : (g n : ℕ) → g ≤ e.tuple-start2.result → n ≡ next_live begun.args.words.now g e.tuple-start2.result → First (is_live begun.args.words.now) g (tuple_at (Q begun) begun.args.k (size_at (Q begun) begun.args.k)) n
+    next-is : (g n : ℕ) → g ≤ e.tuple_start-end.result → n ≡ next_live begun.args.words.now g e.tuple_start-end.result → First (is_live begun.args.words.now) g (tuple_at (Q begun) begun.args.k (size_at (Q begun) begun.args.k)) n
     next-is g n h q =
         subst (λ (end : ℕ). First (is_live begun.args.words.now) g end n) end_is
-        (subst (First (is_live begun.args.words.now) g e.tuple-start2.result) (sym q) (next_live-first begun.args.words.now g e.tuple-start2.result h))
+        (subst (First (is_live begun.args.words.now) g e.tuple_start-end.result) (sym q) (next_live-first begun.args.words.now g e.tuple_start-end.result h))
 
-  abbrev ends : seek-lts.At-loop (seek-callees t) (seek-at t) seek.Post seek-Inv-loop seek-μ-loop → seek-lts.After-tuple-start2 (seek-callees t) (seek-at t) seek.Post seek-Inv-loop seek-μ-loop
+  abbrev ends : seek-lts.At-loop-g (seek-callees t) (seek-at t) seek.Post seek-Inv-loop seek-μ-loop → seek-lts.After-tuple_start-end (seek-callees t) (seek-at t) seek.Post seek-Inv-loop seek-μ-loop
   ends l = l.before.before.before
 
-  seek-loop-holds : seek-lts.Need-loop-init (seek-callees t) (seek-at t) seek.Post seek-Inv-loop seek-μ-loop
+  seek-loop-holds : seek-lts.Need-loop-g-init (seek-callees t) (seek-at t) seek.Post seek-Inv-loop seek-μ-loop
   seek-loop-holds c =
       let e = c.before.before in
       let a = begun e in
-      reached-first (asked a) (sized a) a.args.start a.args.words.now a.args.pending.now a.args.numbers.now a.args.steps c.next.result a.pre.1.0.0.1
-      (subst (λ (g : ℕ). First (is_live a.args.words.now) g (tuple_at (Q a) a.args.k (size_at (Q a) a.args.k)) c.next.result) (first-is e) (next-is e e.before.tuple-start.result c.next.result (omega (arith, first-is e, end_is e)) c.next.ensures))
+      reached-first (asked a) (sized a) a.args.start a.args.words.now a.args.pending.now a.args.numbers.now a.args.steps c.next-g.result a.requires.1.0.0.1
+      (subst (λ (g : ℕ). First (is_live a.args.words.now) g (tuple_at (Q a) a.args.k (size_at (Q a) a.args.k)) c.next-g.result) (first-is e) (next-is e e.before.tuple_start-first.result c.next-g.result (omega (arith, first-is e, end_is e)) c.next-g.ensures))
 
-  seek-returns-2 : seek-lts.Need-returns-2 (seek-callees t) (seek-at t) seek.Post seek-Inv-loop seek-μ-loop
+  seek-returns-2 : seek-lts.Need-returns-then-left-eq0 (seek-callees t) (seek-at t) seek.Post seek-Inv-loop seek-μ-loop
   seek-returns-2 c =
       let l = c.before.before in
       let a = begun (ends l) in
-      seeks-out (asked a) (sized a) a.args.start a.args.words.now a.args.pending.now a.args.numbers.now l.loop.pending l.loop.numbers l.loop.invariant.takes
+      seeks-out (asked a) (sized a) a.args.start a.args.words.now a.args.pending.now a.args.numbers.now l.loop-g.pending l.loop-g.numbers l.loop-g.invariant.takes
 
   -- the tuple reached
-  module _ (i : seek-lts.In-loop (seek-callees t) (seek-at t) seek.Post seek-Inv-loop seek-μ-loop) where
-    abbrev e : seek-lts.After-tuple-start2 (seek-callees t) (seek-at t) seek.Post seek-Inv-loop seek-μ-loop
+  module _ (i : seek-lts.In-loop-g (seek-callees t) (seek-at t) seek.Post seek-Inv-loop seek-μ-loop) where
+    abbrev e : seek-lts.After-tuple_start-end (seek-callees t) (seek-at t) seek.Post seek-Inv-loop seek-μ-loop
     e = ends i.before
 
     abbrev y : ℕ
-    y = i.before.loop.g - e.before.tuple-start.result
+    y = i.before.loop-g.g - e.before.tuple_start-first.result
 
-    id-y : tuple_at (Q (begun e)) (begun e).args.k y ≡ i.before.loop.g
-    id-y = omega (arith, first-is e, i.before.loop.inv.from_first)
+    id-y : tuple_at (Q (begun e)) (begun e).args.k y ≡ i.before.loop-g.g
+    id-y = omega (arith, first-is e, i.before.loop-g.inv.from_first)
 
-    inside : i.before.loop.g < tuple_at (Q (begun e)) (begun e).args.k (size_at (Q (begun e)) (begun e).args.k)
-    inside = omega (arith, end_is e, i.loop-test.taken)
+    inside : i.before.loop-g.g < tuple_at (Q (begun e)) (begun e).args.k (size_at (Q (begun e)) (begun e).args.k)
+    inside = omega (arith, end_is e, i.loop-g-test.taken)
 
     choosing : ChooseAt (Q (begun e)) (begun e).args.index.now (begun e).args.k (begun e).args.chosen y
     choosing = record { turn = asked (begun e); index_in = omega (arith, id-y, inside) }
 
-  seek-seek-with-requires : seek-lts.Need-seek-with-requires (seek-callees t) (seek-at t) seek.Post seek-Inv-loop seek-μ-loop
+  seek-seek-with-requires : seek-lts.Need-seek_with-left-requires (seek-callees t) (seek-at t) seek.Post seek-Inv-loop seek-μ-loop
   seek-seek-with-requires c κs =
       let i = c.before.before.before in
-      let F = i.before.loop.invariant.takes.frames in
+      let F = i.before.loop-g.invariant.takes.frames in
       let a = begun (e i) in (
-        omega (arith, a.pre.0),
-        (((a.pre.1.0.0.0, F.long), choosing i), (subst (Room (Q a) a.args.start) (sym F.room) a.pre.1.1, further (e i))),
+        omega (arith, a.requires.0),
+        (((a.requires.1.0.0.0, F.long), choosing i), (subst (Room (Q a) a.args.start) (sym F.room) a.requires.1.1, further (e i))),
       )
 
-  abbrev turn : seek-lts.After-seek-with (seek-callees t) (seek-at t) seek.Post seek-Inv-loop seek-μ-loop → seek-lts.In-loop (seek-callees t) (seek-at t) seek.Post seek-Inv-loop seek-μ-loop
+  abbrev turn : seek-lts.After-seek_with-left (seek-callees t) (seek-at t) seek.Post seek-Inv-loop seek-μ-loop → seek-lts.In-loop-g (seek-callees t) (seek-at t) seek.Post seek-Inv-loop seek-μ-loop
   turn o = o.before.before.before.before
 
-  seek-loop-again : seek-lts.Need-loop-preserved (seek-callees t) (seek-at t) seek.Post seek-Inv-loop seek-μ-loop
+  seek-loop-again : seek-lts.Need-loop-g-preserved (seek-callees t) (seek-at t) seek.Post seek-Inv-loop seek-μ-loop
   seek-loop-again c =
       let o = c.before.before.before.before in
       let i = turn o in
-      let l = i.before.loop in
+      let l = i.before.loop-g in
       let a = begun (e i) in
-      reached-next (asked a) (sized a) a.args.start a.args.words.now a.args.pending.now a.args.numbers.now l.left l.g l.pending l.numbers l.inv o.before.before.before.if2.false (inside i) (y i) (id-y i)
-      o.seek-with.ensures c.next2.result (next-is (e i) (l.g + 1) c.next2.result (omega (arith, i.loop-test.taken)) c.next2.ensures)
+      reached-next (asked a) (sized a) a.args.start a.args.words.now a.args.pending.now a.args.numbers.now l.left l.g l.pending l.numbers-1 l.inv o.before.before.before.if-left-eq0.false (inside i) (y i) (id-y i)
+      o.seek_with-left.ensures c.next-g-in-loop-g.result (next-is (e i) (l.g + 1) c.next-g-in-loop-g.result (omega (arith, i.loop-g-test.taken)) c.next-g-in-loop-g.ensures)
 
-  seek-returns-3 : seek-lts.Need-returns-3 (seek-callees t) (seek-at t) seek.Post seek-Inv-loop seek-μ-loop
+  seek-returns-3 : seek-lts.Need-returns (seek-callees t) (seek-at t) seek.Post seek-Inv-loop seek-μ-loop
   seek-returns-3 c =
       let l = c.before in
       let a = begun (ends l) in
-      reached-end (asked a) (sized a) a.args.start a.args.words.now a.args.pending.now a.args.numbers.now l.loop.left l.loop.g l.loop.pending l.loop.numbers l.loop.invariant (omega (arith, c.loop-test.false, end_is (ends l)))
+      reached-end (asked a) (sized a) a.args.start a.args.words.now a.args.pending.now a.args.numbers.now l.loop-g.left l.loop-g.g l.loop-g.pending l.loop-g.numbers l.loop-g.invariant (omega (arith, c.loop-g-test.false, end_is (ends l)))
 
 -- ---- seek_with
 
@@ -202,10 +202,10 @@ module _ (t : ℕ) where
     R = joint_of a.args.variables.now a.args.values.now a.args.starts.now a.args.members.now a.args.place
 
     abbrev given : ChooseAt R a.args.index.now a.args.k a.args.chosen a.args.y
-    given = a.pre.1.0.1
+    given = a.requires.1.0.1
 
     long : length a.args.chosen ≡ 4
-    long = good_length (e_int w16) 4 a.args.chosen _ a.good.1.1.1.1.1.1.1.1.0
+    long = good_length (e_int w16) 4 a.args.chosen _ a.well_formed.1.1.1.1.1.1.1.1.0
 
     k-in : a.args.k < length a.args.chosen
     k-in = omega (arith, long, given.turn.inside, given.turn.sound.members.few)
@@ -223,18 +223,18 @@ module _ (t : ℕ) where
         let A = given start in
         record {
           sound = A.turn.sound;
-          inside = start.pre.1.1.1;
+          inside = start.requires.1.1.1;
           other = (behind (R start) start.args.k A.turn.other).other;
           begun = chosen_more (R start) start.args.k start.args.chosen start.args.y (k-in start) A.turn.other A.turn.begun A.index_in (n.choose.ensures.agrees b);
         }
 
-  with-returns : seek-with-lts.Need-returns (seek-with-callees t) (seek-with-at t) seek-with.Post
+  with-returns : seek-with-lts.Need-returns-then-place_behind-members (seek-with-callees t) (seek-with-at t) seek-with.Post
   with-returns c =
       let n = c.before in
       let a = start n in
       record {
-        takes = takes_none (R a) a.args.start (place_behind a.args.place a.args.k) (set a.args.chosen a.args.k a.args.y) a.args.words.now a.args.pending.now a.args.numbers.now a.pre.1.0.0.1;
-        none = λ m. n.choose.ensures.none (not-true _ c.if1.true);
+        takes = takes_none (R a) a.args.start (place_behind a.args.place a.args.k) (set a.args.chosen a.args.k a.args.y) a.args.words.now a.args.pending.now a.args.numbers.now a.requires.1.0.0.1;
+        none = λ m. n.choose.ensures.none (not-true _ c.if-place_behind-members.true);
       }
 
   with-seek-requires : seek-with-lts.Need-seek-requires (seek-with-callees t) (seek-with-at t) seek-with.Post
@@ -244,19 +244,19 @@ module _ (t : ℕ) where
       let n = q.before.before in
       let a = start n in
       let past = (behind (R a) a.args.k (given a).turn.other).past in
-      let further = a.pre.1.1.1 in (
-        omega (arith, a.pre.0, q.place-behind.ensures, past, further),
+      let further = a.requires.1.1.1 in (
+        omega (arith, a.requires.0, q.place_behind.ensures, past, further),
         (
           (
-            (n.choose.ensures.long, a.pre.1.0.0.1),
-            subst (λ (on : ℕ). SeekAt (R a) a.args.index.now on p.put.result) (sym q.place-behind.ensures)
-                (subst (SeekAt (R a) a.args.index.now (place_behind a.args.place a.args.k)) (sym p.put.ensures) (on-turn n (not-false _ q.before.if1.false))),
+            (n.choose.ensures.long, a.requires.1.0.0.1),
+            subst (λ (on : ℕ). SeekAt (R a) a.args.index.now on p.put.result) (sym q.place_behind.ensures)
+                (subst (SeekAt (R a) a.args.index.now (place_behind a.args.place a.args.k)) (sym p.put.ensures) (on-turn n (not-false _ q.before.if-place_behind-members.false))),
           ),
-          a.pre.1.1.0,
+          a.requires.1.1.0,
         ),
       )
 
-  with-returns-2 : seek-with-lts.Need-returns-2 (seek-with-callees t) (seek-with-at t) seek-with.Post
+  with-returns-2 : seek-with-lts.Need-returns-then-left-eq0 (seek-with-callees t) (seek-with-at t) seek-with.Post
   with-returns-2 c =
       let s = c.before.before in
       let p = s.before.before.before in
@@ -266,13 +266,13 @@ module _ (t : ℕ) where
       let pending = s.seek.new.1.1.1.1.1.1.1.1.1.0 in
       let numbers = s.seek.new.1.1.1.1.1.1.1.1.1.1.0 in
       let sought : Seeks (R a) a.args.start (place_behind a.args.place a.args.k) (set a.args.chosen a.args.k a.args.y) (fewer n) a.args.pending.now pending a.args.numbers.now numbers s.seek.result =
-      subst (λ (on : ℕ). Seeks (R a) a.args.start on (set a.args.chosen a.args.k a.args.y) (fewer n) a.args.pending.now pending a.args.numbers.now numbers s.seek.result) q.place-behind.ensures
-      (subst (λ (ts : List ℕ). Seeks (R a) a.args.start q.place-behind.result ts (fewer n) a.args.pending.now pending a.args.numbers.now numbers s.seek.result) p.put.ensures s.seek.ensures)
+      subst (λ (on : ℕ). Seeks (R a) a.args.start on (set a.args.chosen a.args.k a.args.y) (fewer n) a.args.pending.now pending a.args.numbers.now numbers s.seek.result) q.place_behind.ensures
+      (subst (λ (ts : List ℕ). Seeks (R a) a.args.start q.place_behind.result ts (fewer n) a.args.pending.now pending a.args.numbers.now numbers s.seek.result) p.put.ensures s.seek.ensures)
       in
       seeks-wider (given a) (long a) a.args.pending.now a.args.words.now (fewer n) (n.choose.ensures.inside, n.choose.ensures.keeps) sought
 
-pub +seek-seek-with-spec : {M : Type 1} → statement M
-+seek-seek-with-spec =
+pub +seek_seek_with_spec : {M : Type 1} → statement M
++seek_seek_with_spec =
     close μ-seek μ-seek-with
     (λ t. seek-lts.spec (seek-callees t) (seek-at t) seek.Post seek-Inv-loop seek-μ-loop
     (λ c κs. let a = c.before.before.before.before in omega (arith, (asked t a).inside, (asked t a).sound.members.few))
@@ -284,21 +284,21 @@ pub +seek-seek-with-spec : {M : Type 1} → statement M
     (λ c κs. let a = behind-start t c.before.before in omega (arith, (own t a).relation))
     (λ c. let a = behind-start t c.before.before.before in omega (arith, (own t a).relation))
     (λ c κs. let a = behind-start t c.before.before.before in omega (arith, (own t a).relation))
-    (λ c κs. let e = c.before in walks t e e.before.tuple-start.result (omega (arith, first-is t e, end_is t e)))
+    (λ c κs. let e = c.before in walks t e e.before.tuple_start-first.result (omega (arith, first-is t e, end_is t e)))
     (seek-loop-holds t)
-    (λ c. c.before.before.loop.invariant.takes.frames.room)
+    (λ c. c.before.before.loop-g.invariant.takes.frames.room)
     (seek-returns-2 t)
-    (λ c. let i = c.before in omega (arith, first-is t (e t i), i.before.loop.invariant.from_first))
+    (λ c. let i = c.before in omega (arith, first-is t (e t i), i.before.loop-g.invariant.from_first))
     (λ c. search rules)
     (seek-seek-with-requires t)
-    (λ c. let i = turn t c.before.before.before in omega (arith, i.loop-test.taken, (walks t (e t i) i.before.loop.g (omega (arith, i.loop-test.taken))).2))
-    (λ c κs. let i = turn t c.before.before.before in walks t (e t i) (i.before.loop.g + 1) (omega (arith, i.loop-test.taken)))
+    (λ c. let i = turn t c.before.before.before in omega (arith, i.loop-g-test.taken, (walks t (e t i) i.before.loop-g.g (omega (arith, i.loop-g-test.taken))).2))
+    (λ c κs. let i = turn t c.before.before.before in walks t (e t i) (i.before.loop-g.g + 1) (omega (arith, i.loop-g-test.taken)))
     (λ c.
     let i = turn t c.before.before.before.before in
-    let f = next-is t (e t i) (i.before.loop.g + 1) c.next2.result (omega (arith, i.loop-test.taken)) c.next2.ensures in
-    omega (arith, f.from-i, f.to_end, end_is t (e t i), i.loop-test.taken))
+    let f = next-is t (e t i) (i.before.loop-g.g + 1) c.next-g-in-loop-g.result (omega (arith, i.loop-g-test.taken)) c.next-g-in-loop-g.ensures in
+    omega (arith, f.from-i, f.to_end, end_is t (e t i), i.loop-g-test.taken))
     (seek-loop-again t)
-    (λ c. c.before.loop.invariant.takes.frames.room)
+    (λ c. c.before.loop-g.invariant.takes.frames.room)
     (seek-returns-3 t))
     λ t. seek-with-lts.spec (seek-with-callees t) (seek-with-at t) seek-with.Post
     (λ c κs. let a = c.before.before.before.before.before.before.before in (a.requires.1.0.0, given t a))

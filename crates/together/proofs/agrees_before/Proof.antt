@@ -16,59 +16,59 @@ use Rattle.together.proofs.Places.{joint_of}
 use Rattle.together.proofs.agrees_before.Statement.{statement}
 use Rattle.together.proofs.agrees_before.Tie as tie
 
-abbrev invariant-loop : tie.invariant-loop
+abbrev invariant-loop : tie.invariant-loop-j
 invariant-loop variables values starts members place k i x chosen r j₀ j =
     let Q = joint_of variables values starts members place in
     (j ≤ k) × ((h : ℕ) → h < j → (h ≡ place → ⊥) → agree (net_of Q) (tuple_at Q h (get_or chosen h 0)) (tuple_at Q i x) ≡ true)
 
-abbrev decreases-loop : tie.decreases-loop
+abbrev decreases-loop : tie.decreases-loop-j
 decreases-loop variables values starts members place k i x chosen r j₀ j = k - j
 
-abbrev start : tie.At-loop invariant-loop decreases-loop → tie.Start invariant-loop decreases-loop
+abbrev start : tie.At-loop-j invariant-loop decreases-loop → tie.Start invariant-loop decreases-loop
 start l = l.before.before.before.before.before
 
 -- the member reached is one
-inside : (c : tie.In-loop invariant-loop decreases-loop) → let s = start c.before in (c.before.loop.j < length s.args.members.now) × (length s.args.members.now ≤ 4)
-inside c = let B = (start c.before).pre in (omega (arith, c.loop-test.true, B.depth), B.few.few)
+inside : (c : tie.In-loop-j invariant-loop decreases-loop) → let s = start c.before in (c.before.loop-j.j < length s.args.members.now) × (length s.args.members.now ≤ 4)
+inside c = let B = (start c.before).requires in (omega (arith, c.loop-j-test.true, B.depth), B.few.few)
 
-tuples-agree-requires : tie.Need-tuples-agree-requires invariant-loop decreases-loop
+tuples-agree-requires : tie.Need-tuples_agree-requires invariant-loop decreases-loop
 tuples-agree-requires c κs =
     let t = c.before in
     let l = t.before.before in
     let B = (start l).requires in
-    record { laid = B.laid; first = B.within l.loop.j (record { below = t.before.loop-test.true; other = t.if1.true }); second = B.index }
+    record { laid = B.laid; first = B.within l.loop-j.j (record { below = t.before.loop-j-test.true; other = t.if-j-place.true }); second = B.index }
 
-returns : tie.Need-returns invariant-loop decreases-loop
+returns : tie.Need-returns-then-not-tuples_agree invariant-loop decreases-loop
 returns c =
     let a = c.before in
     let t = a.before.before in
     let l = t.before.before in
     record {
       right = λ e. absurd (not-both e refl);
-      wrong = λ e all. not-both (all l.loop.j (record { below = t.before.loop-test.true; other = t.if1.true })) (sym a.tuples-agree.ensures ∙ not-true _ c.if2.true);
+      wrong = λ e all. not-both (all l.loop-j.j (record { below = t.before.loop-j-test.true; other = t.if-j-place.true })) (sym a.tuples_agree.ensures ∙ not-true _ c.if-not-tuples_agree.true-raw);
     }
 
-loop-again : tie.Need-loop-preserved invariant-loop decreases-loop
+loop-again : tie.Need-loop-j-preserved invariant-loop decreases-loop
 loop-again c =
     let l = c.before.before in (
-      omega (arith, c.before.loop-test.true),
-      below_more _ _ l.loop.invariant.1
+      omega (arith, c.before.loop-j-test.true),
+      below_more _ _ l.loop-j.invariant.1
           (⊎_elim
           (λ w d. sym w.2.ensures ∙ not-false _ w.3.left)
           (λ w d. absurd (d w.left))
-          c.if1.branch),
+          c.if-j-place.branch-raw),
     )
 
-returns-2 : tie.Need-returns-2 invariant-loop decreases-loop
+returns-2 : tie.Need-returns invariant-loop decreases-loop
 returns-2 c =
     let l = c.before in
     record {
-      right = λ e h b. l.loop.invariant.1 h (omega (arith, b.below, c.loop-test.false, l.loop.invariant.0)) b.other;
+      right = λ e h b. l.loop-j.invariant.1 h (omega (arith, b.below, c.loop-j-test.false, l.loop-j.invariant.0)) b.other;
       wrong = λ e. absurd (not-both refl e);
     }
 
-pub agrees-before-spec : {M : Type 1} → statement M
-agrees-before-spec =
+pub agrees_before_spec : {M : Type 1} → statement M
+agrees_before_spec =
     tie.close
     (tie.spec
     invariant-loop

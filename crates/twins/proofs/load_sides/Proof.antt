@@ -18,11 +18,11 @@ use Rattle.model.proofs.Lists.{first-set}
 use Rattle.twins.proofs.load_sides.Statement.{statement}
 use Rattle.twins.proofs.load_sides.Tie as tie
 
-abbrev invariant-loop : tie.invariant-loop
+abbrev invariant-loop : tie.invariant-loop-j
 invariant-loop numbers near far m places tuples₀ j₀ tuples j =
     (length tuples ≡ 4) × ((i : ℕ) → i < j → i < m → get_or tuples i 0 ≡ get_or numbers (cond (is_set places i) far near + i) 0)
 
-abbrev decreases-loop : tie.decreases-loop
+abbrev decreases-loop : tie.decreases-loop-j
 decreases-loop numbers near far m places tuples₀ j₀ tuples j = 4 - j
 
 is-set : (places j : ℕ) → places / 2 ^ j % 2 ≡ 1 → is_set places j ≡ true
@@ -33,32 +33,32 @@ not_set : (places j : ℕ) → (places / 2 ^ j % 2 ≡ 1 → ⊥) → is_set pla
 unfolding is_set bit
 not_set places j d = ne_eqb (places / 2 ^ j % 2) 1 d
 
-module _ (c : tie.Joined3 invariant-loop decreases-loop) where
-  abbrev turn : tie.In-loop invariant-loop decreases-loop
+module _ (c : tie.Joined-places-j-eq1 invariant-loop decreases-loop) where
+  abbrev turn : tie.In-loop-j invariant-loop decreases-loop
   turn = c.before.before
 
   abbrev a : tie.Start invariant-loop decreases-loop
   a = turn.before.before.before.before
 
   -- where the number is
-  start_is : c.if3.start ≡ cond (is_set a.args.places turn.before.loop.j) a.args.far a.args.near
+  start_is : c.if-places-j-eq1.start ≡ cond (is_set a.args.places turn.before.loop-j.j) a.args.far a.args.near
   start_is =
-      let j = turn.before.loop.j in
+      let j = turn.before.loop-j.j in
       ⊎_elim
-      {C = c.if3.start ≡ cond (is_set a.args.places j) a.args.far a.args.near}
+      {C = c.if-places-j-eq1.start ≡ cond (is_set a.args.places j) a.args.far a.args.near}
       (λ w. w.1 ∙ ap (λ (b : Bool). cond b a.args.far a.args.near) (sym (is-set a.args.places j w.0.taken)))
       (λ w. w.1 ∙ ap (λ (b : Bool). cond b a.args.far a.args.near) (sym (not_set a.args.places j w.0.left)))
-      c.if3.branch
+      c.if-places-j-eq1.branch-raw
 
-  inside : c.if3.start + turn.before.loop.j < length a.args.numbers.now
-  inside = go (is_set a.args.places turn.before.loop.j) start_is
+  inside : c.if-places-j-eq1.start + turn.before.loop-j.j < length a.args.numbers.now
+  inside = go (is_set a.args.places turn.before.loop-j.j) start_is
     where
-      go : (b : Bool) → c.if3.start ≡ cond b a.args.far a.args.near → c.if3.start + turn.before.loop.j < length a.args.numbers.now
-      go true e = omega (arith, e, a.pre.1, c.before.if2.true)
-      go false e = omega (arith, e, a.pre.0, c.before.if2.true)
+      go : (b : Bool) → c.if-places-j-eq1.start ≡ cond b a.args.far a.args.near → c.if-places-j-eq1.start + turn.before.loop-j.j < length a.args.numbers.now
+      go true e = omega (arith, e, a.requires.1, c.before.if-j-m.true)
+      go false e = omega (arith, e, a.requires.0, c.before.if-j-m.true)
 
 -- where no place is far
-returns : tie.Need-returns invariant-loop decreases-loop
+returns : tie.Need-returns-then-places-eq0 invariant-loop decreases-loop
 returns c =
     let t = c.before in
     let a = t.before.before in
@@ -67,30 +67,30 @@ returns c =
     ∙ get_or-append (take a.args.m (drop a.args.near a.args.numbers.now)) (replicate (max_members - a.args.m) 0) 0 j (omega (arith, l, length-take-le a.args.m (drop a.args.near a.args.numbers.now) (omega (arith, length-drop a.args.near a.args.numbers.now, a.requires.0))))
     ∙ get_or-take a.args.m (drop a.args.near a.args.numbers.now) j 0 l
     ∙ get_or-drop a.args.near a.args.numbers.now j 0
-    ∙ ap (λ (b : Bool). get_or a.args.numbers.now (cond b a.args.far a.args.near + j) 0) (sym (ap (λ (w : ℕ). is_set w j) t.if1.true ∙ is_set-nought j))
+    ∙ ap (λ (b : Bool). get_or a.args.numbers.now (cond b a.args.far a.args.near + j) 0) (sym (ap (λ (w : ℕ). is_set w j) t.if-places-eq0.true ∙ is_set-nought j))
 
 -- the numbers are read one by one
-loop-again : tie.Need-loop-preserved invariant-loop decreases-loop
+loop-again : tie.Need-loop-j-preserved invariant-loop decreases-loop
 loop-again c =
     let i = c.before in
     let a = i.before.before.before.before.args in
-    let l = i.before.loop in
+    let l = i.before.loop-j in
     let P : ℕ → ℕ → Type 0 = λ k v. k < a.m → v ≡ get_or a.numbers.now (cond (is_set a.places k) a.far a.near + k) 0 in
     let now : List ℕ → Type 0 = λ tuples. (length tuples ≡ 4) × ((k : ℕ) → k < l.j + 1 → P k (get_or tuples k 0)) in
     ⊎_elim
-    {C = now c.if2.tuples}
+    {C = now c.if-j-m.tuples}
     (λ w.
-    let at : tie.Joined3 invariant-loop decreases-loop = record { before = record { before = i; if2 = w.0 }; if3 = w.1 } in
+    let at : tie.Joined-places-j-eq1 invariant-loop decreases-loop = record { before = record { before = i; if2 = w.0 }; if3 = w.1 } in
     let v = get_or a.numbers.now (w.1.start + l.j) 0 in
     subst now (sym w.4) (
       length-set l.tuples l.j v ∙ l.invariant.0,
-      first-set P l.tuples l.j v (omega (arith, l.invariant.0, i.loop-test.true)) l.invariant.1 (λ _. ap (λ (k : ℕ). get_or a.numbers.now (k + l.j) 0) (start_is at)),
+      first-set P l.tuples l.j v (omega (arith, l.invariant.0, i.loop-j-test.true)) l.invariant.1 (λ _. ap (λ (k : ℕ). get_or a.numbers.now (k + l.j) 0) (start_is at)),
     ))
     (λ w. subst now (sym w.1) (l.invariant.0, λ k h m. l.invariant.1 k (omega (arith, h, m, w.0.left)) m))
-    c.if2.branch
+    c.if-j-m.branch-raw
 
-pub load-sides-spec : {M : Type 1} → statement M
-load-sides-spec =
+pub load_sides_spec : {M : Type 1} → statement M
+load_sides_spec =
     tie.close
     (tie.spec
     invariant-loop
@@ -107,4 +107,4 @@ load-sides-spec =
     (λ c. search rules)
     (λ c. search rules)
     loop-again
-    (λ c j l. c.before.loop.invariant.1 j (omega (arith, l, c.loop-test.false, c.before.before.before.before.requires.2)) l))
+    (λ c j l. c.before.loop-j.invariant.1 j (omega (arith, l, c.loop-j-test.false, c.before.before.before.before.requires.2)) l))

@@ -29,34 +29,34 @@ module _ (a : tie.Start) where
       }
 
   abbrev ready : TwinAt G a.args.words.now a.args.numbers.now a.args.p a.args.x a.args.at
-  ready = a.pre.0.0
+  ready = a.requires.0.0
 
   abbrev sound : Sound G
   sound = ready.at.sound
 
   abbrev live : LiveTwins G a.args.words.now a.args.p a.args.x a.args.y a.args.z
-  live = a.pre.1.1
+  live = a.requires.1.1
 
-abbrev start : tie.After-wide → tie.Start
+abbrev start : tie.After-wide-each → tie.Start
 start c = c.before.before.before.before.before
 
-each-is : (c : tie.After-wide) → c.wide.result ≡ (start c).args.m
-each-is c = c.wide.ensures.0
+each-is : (c : tie.After-wide-each) → c.wide-each.result ≡ (start c).args.m
+each-is c = c.wide-each.ensures.0
 
 -- ---- Where their numbers are
 
-near-back : (c : tie.After-wide2) → (let s = start c.before in c.wide2.result * c.before.wide.result ≡ (s.args.x - s.args.y) * s.args.m)
-near-back c = ap₂ (λ (k n : ℕ). k * n) c.wide2.ensures.0 (each-is c.before)
+near-back : (c : tie.After-wide) → (let s = start c.before in c.wide.result * c.before.wide-each.result ≡ (s.args.x - s.args.y) * s.args.m)
+near-back c = ap₂ (λ (k n : ℕ). k * n) c.wide.ensures.0 (each-is c.before)
 
-near-is : (c : tie.After-wide2) → (let s = start c.before in s.args.at - c.wide2.result * c.before.wide.result ≡ place_of (G s) s.args.p s.args.y)
+near-is : (c : tie.After-wide) → (let s = start c.before in s.args.at - c.wide.result * c.before.wide-each.result ≡ place_of (G s) s.args.p s.args.y)
 near-is c =
     let s = start c.before in
     ap (λ (k : ℕ). s.args.at - k) (near-back c) ∙ place-back (ready s) s.args.y (live s).y-before
 
-far-back : (c : tie.After-wide3) → (let w = c.before.before in let s = start w in c.wide3.result * w.wide.result ≡ (s.args.x - s.args.z) * s.args.m)
-far-back c = ap₂ (λ (k n : ℕ). k * n) c.wide3.ensures.0 (each-is c.before.before)
+far-back : (c : tie.After-wide-2) → (let w = c.before.before in let s = start w in c.wide-2.result * w.wide-each.result ≡ (s.args.x - s.args.z) * s.args.m)
+far-back c = ap₂ (λ (k n : ℕ). k * n) c.wide-2.ensures.0 (each-is c.before.before)
 
-far-is : (c : tie.After-wide3) → (let w = c.before.before in let s = start w in s.args.at - c.wide3.result * w.wide.result ≡ place_of (G s) s.args.p s.args.z)
+far-is : (c : tie.After-wide-2) → (let w = c.before.before in let s = start w in s.args.at - c.wide-2.result * w.wide-each.result ≡ place_of (G s) s.args.p s.args.z)
 far-is c =
     let s = start c.before.before in
     ap (λ (k : ℕ). s.args.at - k) (far-back c) ∙ place-back (ready s) s.args.z (live s).z-before
@@ -67,28 +67,28 @@ own-within s = omega (arith, (ready s).begins, numbers-within (ready s) s.args.x
 
 -- ---- The tuples
 
-abbrev far : tie.After-load-sides → tie.After-wide3
+abbrev far : tie.After-load_sides-tuples → tie.After-wide-2
 far c = c.before.before
 
-abbrev begun : tie.After-load-sides → tie.After-wide
+abbrev begun : tie.After-load_sides-tuples → tie.After-wide-each
 begun c = (far c).before.before
 
-loads : (c : tie.After-load-sides) → (let s = start (begun c) in LoadsSides s.args.numbers.now (place_of (G s) s.args.p s.args.y) (place_of (G s) s.args.p s.args.z) s.args.m s.args.sides.places c.load-sides.result)
+loads : (c : tie.After-load_sides-tuples) → (let s = start (begun c) in LoadsSides s.args.numbers.now (place_of (G s) s.args.p s.args.y) (place_of (G s) s.args.p s.args.z) s.args.m s.args.sides.places c.load_sides-tuples.result)
 loads c =
     let w = far c in
     let s = start (begun c) in
-    subst (λ (m : ℕ). LoadsSides s.args.numbers.now (place_of (G s) s.args.p s.args.y) (place_of (G s) s.args.p s.args.z) m s.args.sides.places c.load-sides.result) (each-is (begun c))
-    (subst (λ (k : ℕ). LoadsSides s.args.numbers.now (place_of (G s) s.args.p s.args.y) k (begun c).wide.result s.args.sides.places c.load-sides.result) (far-is w)
-    (subst (λ (n : ℕ). LoadsSides s.args.numbers.now n (s.args.at - w.wide3.result * (begun c).wide.result) (begun c).wide.result s.args.sides.places c.load-sides.result) (near-is w.before) c.load-sides.ensures))
+    subst (λ (m : ℕ). LoadsSides s.args.numbers.now (place_of (G s) s.args.p s.args.y) (place_of (G s) s.args.p s.args.z) m s.args.sides.places c.load_sides-tuples.result) (each-is (begun c))
+    (subst (λ (k : ℕ). LoadsSides s.args.numbers.now (place_of (G s) s.args.p s.args.y) k (begun c).wide-each.result s.args.sides.places c.load_sides-tuples.result) (far-is w)
+    (subst (λ (n : ℕ). LoadsSides s.args.numbers.now n (s.args.at - w.wide-2.result * (begun c).wide-each.result) (begun c).wide-each.result s.args.sides.places c.load_sides-tuples.result) (near-is w.before) c.load_sides-tuples.ensures))
 
-long : (c : tie.After-load-sides) → (start (begun c)).args.m ≤ length c.load-sides.result
+long : (c : tie.After-load_sides-tuples) → (start (begun c)).args.m ≤ length c.load_sides-tuples.result
 long c =
-    let l : length c.load-sides.result ≡ 4 = search rules in
+    let l : length c.load_sides-tuples.result ≡ 4 = search rules in
     omega (arith, l, (sound (start (begun c))).paired.list.few)
 
 -- ---- The needs
 
-load-sides-requires : tie.Need-load-sides-requires
+load-sides-requires : tie.Need-load_sides-tuples-requires
 load-sides-requires c κs =
     let w = c.before in
     let b = w.before.before in
@@ -98,16 +98,16 @@ load-sides-requires c κs =
       omega (arith, each-is b, (sound s).paired.list.few),
     )
 
-agrees-with-requires : tie.Need-agrees-with-requires
+agrees-with-requires : tie.Need-agrees_with-requires
 agrees-with-requires c κs =
     let s = start (begun c) in
     record {
       at = (ready s).at;
       index = (ready s).index;
-      within = loaded-within (ready s) s.args.sides s.pre.0.1 s.args.y s.args.z s.pre.1.0 (live s) c.load-sides.result (loads c);
+      within = loaded-within (ready s) s.args.sides s.requires.0.1 s.args.y s.args.z s.requires.1.0 (live s) c.load_sides-tuples.result (loads c);
     }
 
-abbrev stored : tie.After-wide4 → tie.After-load-sides
+abbrev stored : tie.After-wide-3 → tie.After-load_sides-tuples
 stored c = c.before.before.before
 
 store-requires : tie.Need-store-requires
@@ -116,7 +116,7 @@ store-requires c κs =
     let s = start w in
     (omega (arith, each-is w, own-within s), omega (arith, each-is w, (sound s).paired.list.few))
 
-returns-2 : tie.Need-returns-2
+returns-2 : tie.Need-returns
 returns-2 c =
     let t = c.before.before in
     let u = t.before.before in
@@ -129,9 +129,9 @@ returns-2 c =
     subst (Outcome (G s) a.p a.x a.words.now a.numbers.now twin.Taken)
     (sym
     (t.store.ensures
-    ∙ ap (λ (is : List ℕ). replaced a.numbers.now (take w.wide.result is) a.at w.wide.result) u.put.ensures
-    ∙ ap₂ (λ (k i : ℕ). replaced a.numbers.now (take k (set l.load-sides.result (i % k) a.x)) a.at k) (each-is w) o.wide4.ensures.0))
-    (taken (ready s) a.sides s.pre.0.1 a.y a.z s.pre.1.0 (live s) l.load-sides.result (loads l) (long l) (agreed.agrees-with.ensures (not-false agreed.agrees-with.result o.before.if1.false)))
+    ∙ ap (λ (is : List ℕ). replaced a.numbers.now (take w.wide-each.result is) a.at w.wide-each.result) u.put-own.ensures
+    ∙ ap₂ (λ (k i : ℕ). replaced a.numbers.now (take k (set l.load_sides-tuples.result (i % k) a.x)) a.at k) (each-is w) o.wide-3.ensures.0))
+    (taken (ready s) a.sides s.requires.0.1 a.y a.z s.requires.1.0 (live s) l.load_sides-tuples.result (loads l) (long l) (agreed.agrees_with.ensures (not-false agreed.agrees_with.result o.before.if-not-agrees_with.false-raw)))
 
 pub take_spec : {M : Type 1} → statement M
 take_spec =

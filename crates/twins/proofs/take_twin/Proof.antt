@@ -40,20 +40,20 @@ module _ (a : tie.Start) where
       }
 
   abbrev ready : TwinAt G a.args.words.now a.args.numbers.now a.args.p a.args.x a.args.at
-  ready = a.pre.0
+  ready = a.requires.0
 
   abbrev sound : Sound G
   sound = ready.at.sound
 
-abbrev entry : tie.After-shared-slice-known4 → tie.Start
+abbrev entry : tie.After-shared_slice_known-4-1 → tie.Start
 entry c = c.before.before.before.before.before.before
 
 -- the relation read is the pair's member
-member_is : (c : tie.After-shared-slice-known4) → get_or (entry c).args.members.now c.before.wide.result 0 ≡ pair_member (entry c).args.members.now (entry c).args.p
+member_is : (c : tie.After-shared_slice_known-4-1) → get_or (entry c).args.members.now c.before.wide.result 0 ≡ pair_member (entry c).args.members.now (entry c).args.p
 member_is c = ap (λ (q : ℕ). get_or (entry c).args.members.now q 0) c.before.wide.ensures.0
 
 -- a tuple of the pair's member is one of the relation read
-tuple_at : (c : tie.After-shared-slice-known4) (x : ℕ) → x < size (network (G (entry c))) (pair_member (entry c).args.members.now (entry c).args.p) → TupleAt (G (entry c)).lists (get_or (entry c).args.members.now c.before.wide.result 0) x
+tuple_at : (c : tie.After-shared_slice_known-4-1) (x : ℕ) → x < size (network (G (entry c))) (pair_member (entry c).args.members.now (entry c).args.p) → TupleAt (G (entry c)).lists (get_or (entry c).args.members.now c.before.wide.result 0) x
 tuple_at c x h =
     let s = entry c in
     record { laid = (sound s).laid; own = subst (λ (r : ℕ). x < size (network (G s)) r) (sym (member_is c)) h }
@@ -61,12 +61,12 @@ tuple_at c x h =
 -- ---- The earlier tuples
 
 -- what is found in the table is such a tuple
-earlier : (c : tie.After-shared-slice-known4) (set y : ℕ) (after : List ℕ) → (let s = entry c in FirstAlike (G s).lists set (get_or s.args.members.now c.before.wide.result 0) s.args.x s.args.sought.now y after → Earlier (G s) s.args.words.now s.args.p s.args.x set y)
+earlier : (c : tie.After-shared_slice_known-4-1) (set y : ℕ) (after : List ℕ) → (let s = entry c in FirstAlike (G s).lists set (get_or s.args.members.now c.before.wide.result 0) s.args.x s.args.sought.now y after → Earlier (G s) s.args.words.now s.args.p s.args.x set y)
 earlier c set y after found =
     let s = entry c in
     record {
       alike = λ l. subst (λ (r : ℕ). Alike (G s).lists set r s.args.x y) (member_is c) (found.alike l);
-      sought = λ l. let at = found.entry l in was-sought (ready s) y l s.pre.1.0 at.0 at.1 at.2;
+      sought = λ l. let at = found.entry l in was-sought (ready s) y l s.requires.1.0 at.0 at.1 at.2;
     }
 
 -- what is found of the far side lives
@@ -75,35 +75,35 @@ record Found (G : Setting) (words : List ℕ) (p x : ℕ) (sides : Sides) (y fir
   entered : Entered x before after
   lives : (sides.places ≡ 0 → ⊥) → z < x → is_live words (first + z) ≡ true
 
-abbrev near : tie.Joined1 → tie.After-alike-soon
+abbrev near : tie.Joined-sides-ne0 → tie.After-alike_soon-y
 near c = c.before.before
 
-abbrev read : tie.After-alike-soon → tie.After-tuple-start
+abbrev read : tie.After-alike_soon-y → tie.After-tuple_start-first
 read c = c.before.before
 
-abbrev start : tie.Joined1 → tie.Start
+abbrev start : tie.Joined-sides-ne0 → tie.Start
 start c = entry (read (near c)).before
 
-abbrev y : tie.Joined1 → ℕ
-y c = (near c).alike-soon.result
+abbrev y : tie.Joined-sides-ne0 → ℕ
+y c = (near c).alike_soon-y.result
 
-abbrev z : tie.Joined1 → ℕ
-z c = c.if1.z
+abbrev z : tie.Joined-sides-ne0 → ℕ
+z c = c.if-sides-ne0.z
 
 -- the table once x is sought by the near side
-abbrev between : tie.After-alike-soon → List ℕ
-between c = c.alike-soon.new.1.1.1.0
+abbrev between : tie.After-alike_soon-y → List ℕ
+between c = c.alike_soon-y.new.1.1.1.0
 
-by_near : (c : tie.After-alike-soon) → (let k = (read c).before in let s = entry k in Earlier (G s) s.args.words.now s.args.p s.args.x s.args.sides.near c.alike-soon.result)
-by_near c = let k = (read c).before in earlier k (entry k).args.sides.near c.alike-soon.result (between c) c.alike-soon.ensures
+by_near : (c : tie.After-alike_soon-y) → (let k = (read c).before in let s = entry k in Earlier (G s) s.args.words.now s.args.p s.args.x s.args.sides.near c.alike_soon-y.result)
+by_near c = let k = (read c).before in earlier k (entry k).args.sides.near c.alike_soon-y.result (between c) c.alike_soon-y.ensures
 
-found : (c : tie.Joined1) → (let s = start c in Found (G s) s.args.words.now s.args.p s.args.x s.args.sides (y c) (read (near c)).tuple-start.result s.args.sought.now c.if1.sought (z c))
+found : (c : tie.Joined-sides-ne0) → (let s = start c in Found (G s) s.args.words.now s.args.p s.args.x s.args.sides (y c) (read (near c)).tuple_start-first.result s.args.sought.now c.if-sides-ne0.sought (z c))
 found c =
     let n = near c in
     let k = (read n).before in
     let s = start c in
-    let F = Found (G s) s.args.words.now s.args.p s.args.x s.args.sides (y c) (read n).tuple-start.result s.args.sought.now in
-    let joins : (after : List ℕ) (z' : ℕ) → c.if1.sought ≡ after → z c ≡ z' → F after z' → F c.if1.sought (z c) =
+    let F = Found (G s) s.args.words.now s.args.p s.args.x s.args.sides (y c) (read n).tuple_start-first.result s.args.sought.now in
+    let joins : (after : List ℕ) (z' : ℕ) → c.if-sides-ne0.sought ≡ after → z c ≡ z' → F after z' → F c.if-sides-ne0.sought (z c) =
     λ after z' e f t. subst (λ (l : List ℕ). F l (z c)) (sym e) (subst (F after) (sym f) t) in
     ⊎_elim
     (λ w.
@@ -113,51 +113,51 @@ found c =
     (record {
       twins = record {
         near = by_near n;
-        far = λ _. earlier k s.args.sides.far w.2.result after (alike-after s.args.x s.args.sought.now (between n) after n.alike-soon.ensures.entered T.found);
+        far = λ _. earlier k s.args.sides.far w.2.result after (alike-after s.args.x s.args.sought.now (between n) after n.alike_soon-y.ensures.entered T.found);
         one = λ q. absurd (w.0.taken q);
       };
-      entered = entered-both s.args.x s.args.sought.now (between n) after n.alike-soon.ensures.entered T.found.entered;
+      entered = entered-both s.args.x s.args.sought.now (between n) after n.alike_soon-y.ensures.entered T.found.entered;
       lives = λ _. T.lives;
     }))
     (λ w.
     joins (between n) (y c) w.1 w.2
-    (record { twins = record { near = by_near n; far = λ d. absurd (d w.0.left); one = λ _. refl }; entered = n.alike-soon.ensures.entered; lives = λ d. absurd (d w.0.left) }))
-    c.if1.branch
+    (record { twins = record { near = by_near n; far = λ d. absurd (d w.0.left); one = λ _. refl }; entered = n.alike_soon-y.ensures.entered; lives = λ d. absurd (d w.0.left) }))
+    c.if-sides-ne0.branch-raw
 
 -- ---- Whether they live
 
-abbrev looked : tie.Else3 → tie.Joined1
+abbrev looked : tie.Else-x-z → tie.Joined-sides-ne0
 looked c = c.before.before
 
-y-before : (c : tie.Else3) → y (looked c) < (start (looked c)).args.x
-y-before c = omega (arith, c.before.if2.false)
+y-before : (c : tie.Else-x-z) → y (looked c) < (start (looked c)).args.x
+y-before c = omega (arith, c.before.if-x-y.false)
 
-z-before : (c : tie.Else3) → z (looked c) < (start (looked c)).args.x
-z-before c = omega (arith, c.if3.false)
+z-before : (c : tie.Else-x-z) → z (looked c) < (start (looked c)).args.x
+z-before c = omega (arith, c.if-x-z.false)
 
 -- the id of a tuple k of the member
-id-is : (c : tie.After-tuple-start) (k : ℕ) → (let s = entry c.before in c.tuple-start.result + k ≡ tuple_start s.args.starts.now (pair_member s.args.members.now s.args.p) + k)
+id-is : (c : tie.After-tuple_start-first) (k : ℕ) → (let s = entry c.before in c.tuple_start-first.result + k ≡ tuple_start s.args.starts.now (pair_member s.args.members.now s.args.p) + k)
 id-is c k =
     let s = entry c.before in
-    ap (λ (g : ℕ). g + k) (c.tuple-start.ensures ∙ ap (tuple_start s.args.starts.now) (member_is c.before))
+    ap (λ (g : ℕ). g + k) (c.tuple_start-first.ensures ∙ ap (tuple_start s.args.starts.now) (member_is c.before))
 
-own_below : (c : tie.After-tuple-start) → (let s = entry c.before in c.tuple-start.result + s.args.x < total (network (G s)))
+own_below : (c : tie.After-tuple_start-first) → (let s = entry c.before in c.tuple_start-first.result + s.args.x < total (network (G s)))
 own_below c =
     let s = entry c.before in
     let b = member_below (sound s).laid.framed (sound s).paired s.args.p (ready s).at.pair in
     omega (arith, id-is c s.args.x, tuple-start (sound s).laid.framed (pair_member s.args.members.now s.args.p) (omega (arith, b)), tuple-below (sound s) s.args.p s.args.x (ready s).at.pair (ready s).index)
 
-abbrev tested : tie.After-is-live → tie.Else3
+abbrev tested : tie.After-is_live → tie.Else-x-z
 tested c = c.before.before
 
-y-lives : (c : tie.After-is-live) → (let f = looked (tested c) in let s = start f in has (live_in (G s) s.args.words.now) (tuple_id (G s) s.args.p (y f)) ≡ c.is_live.result)
+y-lives : (c : tie.After-is_live) → (let f = looked (tested c) in let s = start f in has (live_in (G s) s.args.words.now) (tuple_id (G s) s.args.p (y f)) ≡ c.is_live.result)
 y-lives c =
     let e = tested c in
     let f = looked e in
     let s = start f in
     lives-is (ready s) (y f) (y-before e) ∙ sym (c.is_live.ensures ∙ ap (is_live s.args.words.now) (id-is (read (near f)) (y f)))
 
-z-lives : (c : tie.After-is-live) → c.is_live.result ≡ true → (let f = looked (tested c) in let s = start f in has (live_in (G s) s.args.words.now) (tuple_id (G s) s.args.p (z f)) ≡ true)
+z-lives : (c : tie.After-is_live) → c.is_live.result ≡ true → (let f = looked (tested c) in let s = start f in has (live_in (G s) s.args.words.now) (tuple_id (G s) s.args.p (z f)) ≡ true)
 z-lives c live = go (ℕ_discrete (start (looked (tested c))).args.sides.places 0)
   where
     go : (let f = looked (tested c) in let s = start f in Dec (s.args.sides.places ≡ 0) → has (live_in (G s) s.args.words.now) (tuple_id (G s) s.args.p (z f)) ≡ true)
@@ -173,23 +173,23 @@ z-lives c live = go (ℕ_discrete (start (looked (tested c))).args.sides.places 
 
 -- ---- The needs
 
-far-twin-requires : tie.Need-far-twin-requires
+far-twin-requires : tie.Need-far_twin-z-requires
 far-twin-requires c κs =
     let n = c.before.before.before in
     let k = (read n).before in
     let s = entry k in (
-      (tuple_at k s.args.x (ready s).index, n.alike-soon.ensures.entered.0 ∙ s.pre.1.0.long),
+      (tuple_at k s.args.x (ready s).index, n.alike_soon-y.ensures.entered.0 ∙ s.requires.1.0.long),
       (omega (arith, own_below (read n), tuples-few (sound s).laid.framed), omega (arith, own_below (read n), (ready s).enough)),
     )
 
-returns-3 : tie.Need-returns-3
+returns-3 : tie.Need-returns-then-sides-eq0
 returns-3 c =
     let l = c.before.before.before in
     let e = tested l in
     let f = looked e in
     let s = start f in
     let T = (found f).twins.near in (
-      (refl, fallen-twin (ready s) (y f) (y-before e) (T.sought (y-before e)) s.args.sides.near (common-near (ready s) s.args.sides s.pre.1.1 c.if5.true) (y-lives l ∙ not-true l.is_live.result c.before.before.if4.true) (T.alike (y-before e))),
+      (refl, fallen-twin (ready s) (y f) (y-before e) (T.sought (y-before e)) s.args.sides.near (common-near (ready s) s.args.sides s.requires.1.1 c.if-sides-eq0.true) (y-lives l ∙ not-true l.is_live.result c.before.before.if-not-is_live.true-raw) (T.alike (y-before e))),
       (found f).entered,
     )
 
@@ -200,18 +200,18 @@ take-requires c κs =
     let e = tested l in
     let f = looked e in
     let s = start f in
-    let live = not-false l.is_live.result n.if4.false in
-    ((ready s, s.pre.1.1), ((found f).twins, record { y-before = y-before e; z-before = z-before e; y-lives = y-lives l ∙ live; z-lives = z-lives l live }))
+    let live = not-false l.is_live.result n.if-not-is_live.false-raw in
+    ((ready s, s.requires.1.1), ((found f).twins, record { y-before = y-before e; z-before = z-before e; y-lives = y-lives l ∙ live; z-lives = z-lives l live }))
 
-pub take-twin-spec : {M : Type 1} → statement M
-take-twin-spec =
+pub take_twin_spec : {M : Type 1} → statement M
+take_twin_spec =
     tie.close
     (tie.spec
     (λ c κs. search rules)
     (λ c. omega (arith, c.wide.ensures.1))
     (λ c. omega (arith, c.before.wide.ensures.0, (ready (entry c)).at.pair))
     (λ c κs. let s = entry c in omega (arith, member_is c, member_below (sound s).laid.framed (sound s).paired s.args.p (ready s).at.pair))
-    (λ c κs. let k = c.before.before in let s = entry k in (tuple_at k s.args.x (ready s).index, s.pre.1.0.long))
+    (λ c κs. let k = c.before.before in let s = entry k in (tuple_at k s.args.x (ready s).index, s.requires.1.0.long))
     far-twin-requires
     (λ c. (refl, (found c.before).entered))
     (λ c. (refl, (found c.before.before).entered))

@@ -9,12 +9,16 @@ use Rattle.value_index.proofs.column_start.Tie as tie
 
 returns : tie.Need-returns
 returns c =
-    ap₂ (λ (r k : ℕ). get_or c.before.before.before.args.index.now (r * 8 + k) 0) c.before.before.wide.ensures.0 c.before.wide2.ensures.0
+    ap₂ (λ (r k : ℕ). get_or c.before.before.before.args.index.now (r * 8 + k) 0) c.before.before.wide.ensures.0 c.before.wide-2.ensures.0
 
-pub column-start-spec : {M : Type 1} → statement M
-column-start-spec =
+pub column_start_spec : {M : Type 1} → statement M
+column_start_spec =
     tie.close
     (tie.spec
-    (λ c κs. search rules) (λ c. search rules) (λ c κs. search rules) (λ c. search rules)
-    (λ c. search rules) (λ c. search rules)
+    (λ c κs. search rules)
+    (λ c. search rules)
+    (λ c κs. search rules)
+    (λ c. search rules)
+    (λ c. search rules)
+    (λ c. search rules)
     returns)

@@ -30,7 +30,7 @@ module _ (c : tie.After-wide) where
   is_at = omega (arith, c.wide.ensures.0)
 
   few : at < index_words
-  few = omega (arith, is_at, start.pre.1.1)
+  few = omega (arith, is_at, start.requires.1.1)
 
 returns : tie.Need-returns
 returns c =
@@ -38,13 +38,13 @@ returns c =
     let s = start w in
     let ws = s.args.index.now in
     let bit : place w % 64 ≡ s.args.g % 64 = omega arith in (
-      length-set ws (at w) _ ∙ s.pre.0,
+      length-set ws (at w) _ ∙ s.requires.0,
       (
-        λ k h. get_or-set_other ws (at w) k _ 0 (λ e. absurd (omega (arith, s.pre.1.0))),
+        λ k h. get_or-set_other ws (at w) k _ 0 (λ e. absurd (omega (arith, s.requires.1.0))),
         λ h.
             subst (λ (i : ℕ). is_live (set ws i (bit_or (get_or ws i 0) (1 * 2 ^ (s.args.g % 64) % 2 ^ 64))) h ≡ (is_live ws h || eqb (place w) h)) (is_at w)
             (subst (λ (j : ℕ). is_live (set ws (place w / 64) (bit_or (get_or ws (place w / 64) 0) (1 * 2 ^ j % 2 ^ 64))) h ≡ (is_live ws h || eqb (place w) h)) bit
-            (entered-one ws (place w) h (omega (arith, is_at w, few w, s.pre.0)))),
+            (entered-one ws (place w) h (omega (arith, is_at w, few w, s.requires.0)))),
       ),
     )
 
@@ -53,7 +53,11 @@ enter_spec =
     tie.close
     (tie.spec
     (λ c κs. search rules)
-    (λ c. omega (arith, few c)) (λ c. omega (arith, few c)) (λ c. omega (arith, few c))
-    (λ c. search rules) (λ c. search rules)
-    (λ c. omega (arith, few c.before)) (λ c. omega (arith, few c.before))
+    (λ c. omega (arith, few c))
+    (λ c. omega (arith, few c))
+    (λ c. omega (arith, few c))
+    (λ c. search rules)
+    (λ c. search rules)
+    (λ c. omega (arith, few c.before))
+    (λ c. omega (arith, few c.before))
     returns)

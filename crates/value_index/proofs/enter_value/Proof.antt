@@ -13,18 +13,18 @@ use borrow.Author.Rules.{rules}
 use Rattle.value_index.proofs.enter_value.Statement.{statement}
 use Rattle.value_index.proofs.enter_value.Tie as tie
 
-abbrev invariant-loop : tie.invariant-loop
+abbrev invariant-loop : tie.invariant-loop-i
 invariant-loop index₀ plan start value g count hash₀ i₀ index hash i =
     ((i ≤ digit_count index) × (count ≡ digit_count index))
     × (((Laid index (g + 1) × ColumnRows index start) × (plan ≡ row_plan index))
     × ((hash ≡ hash_at index value i) × (Grows index₀ index × InRows index start value i g)))
 
-abbrev decreases-loop : tie.decreases-loop
+abbrev decreases-loop : tie.decreases-loop-i
 decreases-loop index₀ plan start value g count hash₀ i₀ index hash i = digit_count index - i
 
 -- the digit reached
-module _ (c : tie.In-loop invariant-loop decreases-loop) where
-  abbrev loop : tie.At-loop invariant-loop decreases-loop
+module _ (c : tie.In-loop-i invariant-loop decreases-loop) where
+  abbrev loop : tie.At-loop-i invariant-loop decreases-loop
   loop = c.before
 
   abbrev start : tie.Start invariant-loop decreases-loop
@@ -43,7 +43,7 @@ module _ (c : tie.In-loop invariant-loop decreases-loop) where
   planned = loop.loop.inv.1.0.1
 
   reached : loop.loop.i < digit_count index
-  reached = omega (arith, c.loop-test.true, loop.loop.inv.0.1)
+  reached = omega (arith, c.loop-i-test.true, loop.loop.inv.0.1)
 
   below : loop.loop.hash < hashes
   below = omega (arith, loop.loop.inv.1.1.0, hash-below index start.args.value loop.loop.i)
@@ -59,7 +59,7 @@ module _ (c : tie.In-loop invariant-loop decreases-loop) where
 
 -- the row reached is entered
 module _ (e : tie.After-enter invariant-loop decreases-loop) where
-  abbrev turn : tie.In-loop invariant-loop decreases-loop
+  abbrev turn : tie.In-loop-i invariant-loop decreases-loop
   turn = e.before.before.before.before
 
   abbrev new : List ℕ
@@ -77,22 +77,22 @@ module _ (e : tie.After-enter invariant-loop decreases-loop) where
   still-planned : (start turn).args.plan ≡ row_plan new
   still-planned = planned turn ∙ sym (plan-same (index turn) new same)
 
-loop-holds : tie.Need-loop-init invariant-loop decreases-loop
+loop-holds : tie.Need-loop-i-init invariant-loop decreases-loop
 loop-holds c =
     let s = c.before.before in
-    ((omega arith, ap (λ (p : RowPlan). p.digits) s.requires.1), (s.requires, (c.hash-of.ensures, (grows_none s.args.index.now, λ i h. absurd (omega arith)))))
+    ((omega arith, ap (λ (p : RowPlan). p.digits) s.requires.1), (s.requires, (c.hash_of-hash.ensures, (grows_none s.args.index.now, λ i h. absurd (omega arith)))))
 
 enter-requires : tie.Need-enter-requires invariant-loop decreases-loop
 enter-requires r κs =
     let t = r.before.before.before in
-    ((laid t).full, (omega (arith, r.row-of.ensures, behind t), omega (arith, r.row-of.ensures, within t, (laid t).bits)))
+    ((laid t).full, (omega (arith, r.row_of.ensures, behind t), omega (arith, r.row_of.ensures, within t, (laid t).bits)))
 
-loop-again : tie.Need-loop-preserved invariant-loop decreases-loop
+loop-again : tie.Need-loop-i-preserved invariant-loop decreases-loop
 loop-again c =
     let e = c.before.before in
     let r = e.before in
     let t = turn e in
-    let l = (loop t).loop in
+    let l = (loop t).loop-i in
     let a = (start t).args in
     let place = row_is l.index a.start a.value l.i l.hash l.inv.1.1.0 in
     let digits = digits_same l.index (new e) (same e) in (
@@ -100,10 +100,10 @@ loop-again c =
       (
         ((still e, column-same l.index (new e) (same e) a.start (column t)), still-planned e),
         (
-          c.hash-behind.ensures ∙ ap (hash_behind (new e)) (l.inv.1.1.0 ∙ sym (hash-same l.index (new e) (same e) a.value l.i)) ∙ sym (hash-next (new e) a.value l.i),
+          c.hash_behind-hash.ensures ∙ ap (hash_behind (new e)) (l.inv.1.1.0 ∙ sym (hash-same l.index (new e) (same e) a.value l.i)) ∙ sym (hash-next (new e) a.value l.i),
           (
             grows-on a.index.now l.index (new e) l.inv.1.1.1.0 (one e),
-            rows_more l.index (new e) a.start a.value l.i a.g _ (omega (arith, r.row-of.ensures, place)) (same e) e.enter.ensures.1.1 l.inv.1.1.1.1,
+            rows_more l.index (new e) a.start a.value l.i a.g _ (omega (arith, r.row_of.ensures, place)) (same e) e.enter.ensures.1.1 l.inv.1.1.1.1,
           ),
         ),
       ),
@@ -111,13 +111,13 @@ loop-again c =
 
 returns : tie.Need-returns invariant-loop decreases-loop
 returns c =
-    let l = c.before.loop in
+    let l = c.before.loop-i in
     let a = c.before.before.before.before.args in
-    let e : l.i ≡ digit_count l.index = omega (arith, c.loop-test.false, l.invariant.0) in
+    let e : l.i ≡ digit_count l.index = omega (arith, c.loop-i-test.false, l.invariant.0) in
     (l.invariant.1.0.0.0.full, (l.invariant.1.1.1.0, rows_all l.index a.start a.value a.g (subst (λ (n : ℕ). InRows l.index a.start a.value n a.g) e l.invariant.1.1.1.1)))
 
-pub enter-value-spec : {M : Type 1} → statement M
-enter-value-spec =
+pub enter_value_spec : {M : Type 1} → statement M
+enter_value_spec =
     tie.close
     (tie.spec
     invariant-loop

@@ -4,10 +4,10 @@ use borrow.Author.Rules.{rules}
 use Rattle.value_index.proofs.hash_of.Statement.{statement}
 use Rattle.value_index.proofs.hash_of.Tie as tie
 
-pub hash-of-spec : {M : Type 1} → statement M
-hash-of-spec =
+pub hash_of_spec : {M : Type 1} → statement M
+hash_of_spec =
     tie.close
     (tie.spec
     (λ c κs. search rules)
-    (λ c κs. (c.before.requires, c.row-plan.ensures))
-    (λ c. c.hash-of.ensures))
+    (λ c κs. (c.before.requires, c.row_plan.ensures))
+    (λ c. c.hash_of.ensures))

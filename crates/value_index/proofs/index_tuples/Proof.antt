@@ -13,25 +13,25 @@ returns c =
     let entered = c.before.before in
     let s = entered.before.before.before in
     let a = s.args in
-    let mid = entered.enter-tuples.new.1.1.1.1.1.1.0 in
-    let new = c.spread-columns.new.0 in
-    let grown = c.spread-columns.ensures.1.0 in (
-      c.spread-columns.ensures.0,
+    let mid = entered.enter_tuples.new.1.1.1.1.1.1.0 in
+    let new = c.spread_columns.new.0 in
+    let grown = c.spread_columns.ensures.1.0 in (
+      c.spread_columns.ensures.0,
       (
-        grows-on a.index.now mid new entered.enter-tuples.ensures.1.0 grown,
+        grows-on a.index.now mid new entered.enter_tuples.ensures.1.0 grown,
         λ g u h k l.
             spread-indexed mid new grown a.r k (get_or a.values.now (a.at + (g - a.start) * a.width + k) 0) g a.start a.end s.requires.0.1.0 (omega (arith, l, s.requires.0.1.1)) u h
-            (c.spread-columns.ensures.1.1 k l) (entered.enter-tuples.ensures.1.1 k l g u h),
+            (c.spread_columns.ensures.1.1 k l) (entered.enter_tuples.ensures.1.1 k l g u h),
       ),
     )
 
-pub index-tuples-spec : {M : Type 1} → statement M
-index-tuples-spec =
+pub index_tuples_spec : {M : Type 1} → statement M
+index_tuples_spec =
     tie.close
     (tie.spec
     (λ c κs. c.before.before.requires)
     (λ c κs.
     let entered = c.before in
     let s = entered.before.before.before in
-    (laid_on s.args.index.now _ s.args.end entered.enter-tuples.ensures.1.0 entered.enter-tuples.ensures.0 s.requires.0.0, s.requires.0.1))
+    (laid_on s.args.index.now _ s.args.end entered.enter_tuples.ensures.1.0 entered.enter_tuples.ensures.0 s.requires.0.0, s.requires.0.1))
     returns)

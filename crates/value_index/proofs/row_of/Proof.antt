@@ -4,10 +4,10 @@ use borrow.Author.Rules.{rules}
 use Rattle.value_index.proofs.row_of.Statement.{statement}
 use Rattle.value_index.proofs.row_of.Tie as tie
 
-pub row-of-spec : {M : Type 1} → statement M
-row-of-spec =
+pub row_of_spec : {M : Type 1} → statement M
+row_of_spec =
     tie.close
     (tie.spec
     (λ c κs. search rules)
-    (λ c κs. (c.before.requires, c.row-plan.ensures))
-    (λ c. c.row-of.ensures))
+    (λ c κs. (c.before.requires, c.row_plan.ensures))
+    (λ c. c.row_of.ensures))

@@ -6,20 +6,24 @@ use Rattle.wire.proofs.Entries.{Stored, stored-start, stored_next, stored-end}
 use Rattle.wire.proofs.store16.Statement.{statement}
 use Rattle.wire.proofs.store16.Tie as tie
 
-abbrev invariant-loop : tie.invariant-loop
+abbrev invariant-loop : tie.invariant-loop-i
 invariant-loop s d₀ i₀ d i = Stored 2 i s d₀ d
 
-abbrev decreases-loop : tie.decreases-loop
+abbrev decreases-loop : tie.decreases-loop-i
 decreases-loop s d₀ i₀ d i = length s - i
 
-pub store16-spec : {M : Type 1} → statement M
-store16-spec =
+pub store16_spec : {M : Type 1} → statement M
+store16_spec =
     tie.close
     (tie.spec
     invariant-loop
     decreases-loop
     (λ c. search stored-start)
-    (λ c. search rules) (λ c. search rules) (λ c κs. search rules) (λ c. search rules) (λ c. search rules)
+    (λ c. search rules)
+    (λ c. search rules)
+    (λ c κs. search rules)
+    (λ c. search rules)
+    (λ c. search rules)
     (λ c. search stored_next)
     (λ c. search rules)
     (λ c. search stored-end))

@@ -16,7 +16,7 @@ use Rattle.byte_calls.proofs.Calls.{bytes-refused, bytes-accepted, planned-refus
 use Rattle.byte_calls.proofs.change.change_counted.Statement.{statement}
 use Rattle.byte_calls.proofs.change.change_counted.Tie as tie
 
-abbrev start : tie.After-counted → tie.Start
+abbrev start : tie.After-counted-opened → tie.Start
 start c = c.before.before.before.before.before.before.before.before.before.before.before.before.before
 
 abbrev instance : tie.Start → Shape → Instance
@@ -32,31 +32,31 @@ replied s S = let a = s.args in reply (request_in (instance s S) a.sheets.now a.
 abbrev OpenedBy : tie.Start → Shape → Type 0
 OpenedBy s S = let a = s.args in OpenedOn a.opening (instance s S) a.marks.now a.supports.now
 
-plan-requires : tie.Need-plan-requires
+plan-requires : tie.Need-plan-plan-requires
 plan-requires c κs =
     let s = start c in
     let a = s.args in
-    let S = s.pre.shape in
-    λ z. (opened-sufficient S a.variables.now a.values.now a.m a.members.now (length a.marks.now / 8) (length a.supports.now / 2) _ (asked s) c.counted.result
-    (checked-opens S a.variables.now a.values.now a.m a.members.now a.sheets.now a.marks.now a.supports.now a.opening s.pre.opened s.pre.none a.words.now a.counts.now s.pre.decoded c.counted.result c.counted.ensures)
+    let S = s.requires.shape in
+    λ z. (opened-sufficient S a.variables.now a.values.now a.m a.members.now (length a.marks.now / 8) (length a.supports.now / 2) _ (asked s) c.counted-opened.result
+    (checked-opens S a.variables.now a.values.now a.m a.members.now a.sheets.now a.marks.now a.supports.now a.opening s.requires.opened s.requires.none a.words.now a.counts.now s.requires.decoded c.counted-opened.result c.counted-opened.ensures)
     z).sound.laid
 
-planned : (c : tie.After-plan) (S : Shape) → OpenedBy (start c.before) S → (let s = start c.before in PlannedOn c.plan.result (instance s S) s.args.sheets.now s.args.marks.now s.args.supports.now (asked s))
+planned : (c : tie.After-plan-plan) (S : Shape) → OpenedBy (start c.before) S → (let s = start c.before in PlannedOn c.plan-plan.result (instance s S) s.args.sheets.now s.args.marks.now s.args.supports.now (asked s))
 planned c S opened =
     let k = c.before in
     let s = start k in
     let a = s.args in
-    c.plan.ensures S a.m a.members.now _ _ _
-    (checked-opens S a.variables.now a.values.now a.m a.members.now a.sheets.now a.marks.now a.supports.now a.opening opened s.pre.none a.words.now a.counts.now s.pre.decoded k.counted.result k.counted.ensures)
+    c.plan-plan.ensures S a.m a.members.now _ _ _
+    (checked-opens S a.variables.now a.values.now a.m a.members.now a.sheets.now a.marks.now a.supports.now a.opening opened s.requires.none a.words.now a.counts.now s.requires.decoded k.counted-opened.result k.counted-opened.ensures)
 
-returns : tie.Need-returns
+returns : tie.Need-returns-then-plan-ne0
 returns c =
     let p = c.before.before.before in
     let s = start p.before in
     let a = s.args in
     λ S opened.
-    bytes-refused (replied s S) a.sheets.now a.marks.now a.supports.now p.plan.result.fault _ c.pack.ensures
-    (planned-refused (instance s S) (asked s) a.sheets.now a.marks.now a.supports.now p.plan.result (planned p S opened) c.before.if1.true)
+    bytes-refused (replied s S) a.sheets.now a.marks.now a.supports.now p.plan-plan.result.fault _ c.pack.ensures
+    (planned-refused (instance s S) (asked s) a.sheets.now a.marks.now a.supports.now p.plan-plan.result (planned p S opened) c.before.if-plan-ne0.true)
 
 make-requires : tie.Need-make-requires
 make-requires c κs =
@@ -64,23 +64,23 @@ make-requires c κs =
     let p = passed.before.before in
     let s = start p.before in
     let a = s.args in
-    let S = s.pre.shape in
-    let decoded = s.pre.decoded in
+    let S = s.requires.shape in
+    let decoded = s.requires.decoded in
     record {
       shape = S;
       change = asked s;
-      planned = planned p S s.pre.opened;
-      none = passed.if1.false;
+      planned = planned p S s.requires.opened;
+      none = passed.if-plan-ne0.false;
       decoded = record {
-        covered = planned-covered (instance s S) (asked s) a.sheets.now a.marks.now a.supports.now p.plan.result (planned p S s.pre.opened) passed.if1.false a.words.now
-            (decoded-enough S a.variables.now a.values.now a.m a.members.now a.sheets.now a.marks.now a.supports.now a.opening s.pre.opened s.pre.none a.words.now a.counts.now decoded);
+        covered = planned-covered (instance s S) (asked s) a.sheets.now a.marks.now a.supports.now p.plan-plan.result (planned p S s.requires.opened) passed.if-plan-ne0.false a.words.now
+            (decoded-enough S a.variables.now a.values.now a.m a.members.now a.sheets.now a.marks.now a.supports.now a.opening s.requires.opened s.requires.none a.words.now a.counts.now decoded);
         first = decoded.first;
         all = decoded.all;
       };
-      whole = s.pre.whole;
+      whole = s.requires.whole;
     }
 
-returns-2 : tie.Need-returns-2
+returns-2 : tie.Need-returns
 returns-2 c =
     let made = c.before.before.before.before.before.before.before.before.before.before in
     let passed = made.before.before.before.before.before.before in
@@ -89,16 +89,22 @@ returns-2 c =
     let a = s.args in
     λ S opened.
     made.make.ensures S (asked s) (planned p S opened)
-    ∙ bytes-accepted (replied s S) a.sheets.now a.marks.now a.supports.now (planned-accepted (instance s S) (asked s) a.sheets.now a.marks.now a.supports.now p.plan.result (planned p S opened) passed.if1.false)
+    ∙ bytes-accepted (replied s S) a.sheets.now a.marks.now a.supports.now (planned-accepted (instance s S) (asked s) a.sheets.now a.marks.now a.supports.now p.plan-plan.result (planned p S opened) passed.if-plan-ne0.false)
 
-pub change-counted-spec : {M : Type 1} → statement M
-change-counted-spec =
+pub change_counted_spec : {M : Type 1} → statement M
+change_counted_spec =
     tie.close
     (tie.spec
     (λ c κs. λ _. c.before.before.before.before.before.before.before.before.before.before.before.before.requires.decoded.covered)
     plan-requires
-    (λ c κs. search rules) (λ c. search rules) (λ c. search rules)
+    (λ c κs. search rules)
+    (λ c. search rules)
+    (λ c. search rules)
     returns
     make-requires
-    (λ c. search rules) (λ c. search rules) (λ c. search rules) (λ c. search rules) (λ c. search rules)
+    (λ c. search rules)
+    (λ c. search rules)
+    (λ c. search rules)
+    (λ c. search rules)
+    (λ c. search rules)
     returns-2)

@@ -9,14 +9,14 @@ use Rattle.byte_calls.proofs.Calls.{decoded-reply}
 use Rattle.byte_calls.proofs.change.change_many.Statement.{statement}
 use Rattle.byte_calls.proofs.change.change_many.Tie as tie
 
-abbrev start : tie.After-shape-at → tie.Start
+abbrev start : tie.After-shape_at-shape → tie.Start
 start c = c.before.before.before.before.before.before.before.before.before.before
 
-change-decoded-requires : tie.Need-change-decoded-requires
+change-decoded-requires : tie.Need-change_decoded-requires
 change-decoded-requires c κs =
     let shape = c.before.before.before.before.before.before.before.before.before.before.before.before.before.before.before in
     let s = start shape in
-    (shape-count s.args.sheets.now shape.shape_at.result shape.shape_at.ensures, s.pre)
+    (shape-count s.args.sheets.now shape.shape_at-shape.result shape.shape_at-shape.ensures, s.requires)
 
 returns : tie.Need-returns
 returns c =
@@ -26,17 +26,29 @@ returns c =
     let variables = values.before.before.before in
     let shape = variables.before.before in
     let a = (start shape).args in
-    made.change-decoded.ensures
+    made.change_decoded.ensures
     ∙ ap (λ (r : Reply). reply_bytes r a.sheets.now a.marks.now a.supports.now)
-    (decoded-reply a.sheets.now a.questions.now a.codes.now _ _ _ shape.shape_at.ensures variables.load16.ensures.held values.load32.ensures.held a.m a.combinations.now _ members.load162.ensures.held _ _ _ _)
+    (decoded-reply a.sheets.now a.questions.now a.codes.now _ _ _ shape.shape_at-shape.ensures variables.load16-variable_count.ensures.held values.load32-value_count.ensures.held a.m a.combinations.now _ members.load16-member_count.ensures.held _ _ _ _)
 
-pub change-many-spec : {M : Type 1} → statement M
-change-many-spec =
+pub change_many_spec : {M : Type 1} → statement M
+change_many_spec =
     tie.close
     (tie.spec
-    (λ c κs. search rules) (λ c. search rules) (λ c κs. search rules) (λ c. search rules)
-    (λ c κs. search rules) (λ c. search rules) (λ c κs. search rules) (λ c. search rules)
-    (λ c. search rules) (λ c. search rules) (λ c. search rules) (λ c. search rules) (λ c. search rules)
+    (λ c κs. search rules)
+    (λ c. search rules)
+    (λ c κs. search rules)
+    (λ c. search rules)
+    (λ c κs. search rules)
+    (λ c. search rules)
+    (λ c κs. search rules)
+    (λ c. search rules)
+    (λ c. search rules)
+    (λ c. search rules)
+    (λ c. search rules)
+    (λ c. search rules)
+    (λ c. search rules)
     change-decoded-requires
-    (λ c. search rules) (λ c. search rules) (λ c. search rules)
+    (λ c. search rules)
+    (λ c. search rules)
+    (λ c. search rules)
     returns)

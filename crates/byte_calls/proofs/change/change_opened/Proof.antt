@@ -23,7 +23,7 @@ use Rattle.byte_calls.proofs.change.change_opened.Tie as tie
 
 -- ---- How much is needed
 
-module _ (c : tie.After-words-for) where
+module _ (c : tie.After-words_for-word_count) where
   abbrev start : tie.Start
   start = c.before.before.before.before.before.before.before.before.before.before.before.before
 
@@ -31,34 +31,34 @@ module _ (c : tie.After-words-for) where
   marks = start.args.marks.now
 
   abbrev w : ℕ
-  w = c.words-for.result
+  w = c.words_for-word_count.result
 
   abbrev lists : Setting
-  lists = let a = start.args in asked a.shape a.variables.now a.values.now a.m a.members.now (length marks / 8) a.opening start.pre.none
+  lists = let a = start.args in asked a.shape a.variables.now a.values.now a.m a.members.now (length marks / 8) a.opening start.requires.none
 
   tested : (let a = start.args in Opened a.opening (test_faults_on (instance_of a.shape a.variables.now a.values.now a.m a.members.now) (length marks / 8)) (relations_of a.shape))
-  tested = let a = start.args in checked-tested a.shape a.variables.now a.values.now a.m a.members.now (length marks / 8) a.opening start.pre.none (length a.supports.now / 2) start.pre.opened
+  tested = let a = start.args in checked-tested a.shape a.variables.now a.values.now a.m a.members.now (length marks / 8) a.opening start.requires.none (length a.supports.now / 2) start.requires.opened
 
   sound : Sound lists
-  sound = let a = start.args in tested-sound a.shape a.variables.now a.values.now a.m a.members.now (length marks / 8) a.opening start.pre.none tested
+  sound = let a = start.args in tested-sound a.shape a.variables.now a.values.now a.m a.members.now (length marks / 8) a.opening start.requires.none tested
 
   words-needed : (total (network lists) ≤ word_bits * w) × ((w ≤ 64) × (8 * w ≤ length marks))
   words-needed =
       let a = start.args in
-      let count = c.before.tuple-count.ensures ∙ tuple-count sound.laid.framed in
-      let each = c.words-for.ensures in
-      let bits = tested-enough a.shape a.variables.now a.values.now a.m a.members.now (length marks / 8) a.opening start.pre.none tested in (
+      let count = c.before.tuple_count.ensures ∙ tuple-count sound.laid.framed in
+      let each = c.words_for-word_count.ensures in
+      let bits = tested-enough a.shape a.variables.now a.values.now a.m a.members.now (length marks / 8) a.opening start.requires.none tested in (
         omega (arith, count, each),
         (omega (arith, count, each, tuples-few sound.laid.framed), omega (arith, count, each, bits)),
       )
 
   counts-few : start.args.shape.count ≤ max_relations
-  counts-few = let a = start.args in relations-few a.shape a.variables.now a.values.now a.m a.members.now marks a.supports.now a.opening start.pre.opened start.pre.none
+  counts-few = let a = start.args in relations-few a.shape a.variables.now a.values.now a.m a.members.now marks a.supports.now a.opening start.requires.opened start.requires.none
 
 -- ---- The arrays into which the needed words and the counts are decoded
 
 module _ (c : tie.After-load64) where
-  abbrev sized : tie.After-words-for
+  abbrev sized : tie.After-words_for-word_count
   sized = c.before.before.before
 
   abbrev array : List ℕ
@@ -73,49 +73,50 @@ module _ (c : tie.After-load64) where
   words_long : length (take (w sized) array) ≡ w sized
   words_long = length-take-le (w sized) array room
 
-module _ (c : tie.After-counts-at) where
+module _ (c : tie.After-counts_at-counts) where
   abbrev loading : tie.After-load64
   loading = c.before.before.before
 
-  abbrev k : tie.After-words-for
+  abbrev k : tie.After-words_for-word_count
   k = sized loading
 
   abbrev count : ℕ
   count = (start k).args.shape.count
 
-  counted : take count c.counts-at.result ≡ counts_in (start k).args.sheets.now
-  counted = read_all (start k).args.sheets.now count c.counts-at.result c.counts-at.ensures (start k).pre.records (counts-few k)
+  counted : take count c.counts_at-counts.result ≡ counts_in (start k).args.sheets.now
+  counted = read_all (start k).args.sheets.now count c.counts_at-counts.result c.counts_at-counts.ensures (start k).requires.records (counts-few k)
 
-  counts-long : length (take count c.counts-at.result) ≡ count
-  counts-long = ap length counted ∙ counts-length (start k).args.sheets.now ∙ sym (start k).pre.records
+  counts-long : length (take count c.counts_at-counts.result) ≡ count
+  counts-long = ap length counted ∙ counts-length (start k).args.sheets.now ∙ sym (start k).requires.records
 
 -- ---- The needs
 
-change-counted-requires : tie.Need-change-counted-requires
+change-counted-requires : tie.Need-change_counted-requires
 change-counted-requires c κs =
     let l = c.before.before.before.before.before in
     let s = start (k l) in
     let long = words_long (loading l) in
     record {
       shape = s.args.shape;
-      opened = s.pre.opened;
-      none = s.pre.none;
+      opened = s.requires.opened;
+      none = s.requires.none;
       decoded = record {
         covered = record { framed = (sound (k l)).laid.framed; enough = omega (arith, (words-needed (k l)).0, long) };
         first = holds (loading l) ∙ ap (λ (n : ℕ). take n (entries64 (marks (k l)))) (sym long);
         all = counted l;
       };
-      whole = s.pre.whole;
+      whole = s.requires.whole;
     }
 
 returns : tie.Need-returns
-returns c = let made = c.before.before.before.before.before.before.before.before in let s = made.before.before.before.before.before.before.before.before.before.before.before.before.before.before.before.before.before.before.before.before.before.before.before.before in made.change-counted.ensures s.args.shape s.requires.opened
+returns c = let made = c.before.before.before.before.before.before.before.before in let s = made.before.before.before.before.before.before.before.before.before.before.before.before.before.before.before.before.before.before.before.before.before.before.before.before in made.change_counted.ensures s.args.shape s.requires.opened
 
-pub change-opened-spec : {M : Type 1} → statement M
-change-opened-spec =
+pub change_opened_spec : {M : Type 1} → statement M
+change_opened_spec =
     tie.close
     (tie.spec
-    (λ c κs. search rules) (λ c κs. search rules)
+    (λ c κs. search rules)
+    (λ c κs. search rules)
     (λ c. omega (arith, (words-needed c).1.0))
     (λ c. (words-needed c).1.1)
     (λ c. sym (length-take-le (8 * w c.before) (marks c.before) (words-needed c.before).1.1))
@@ -124,8 +125,10 @@ change-opened-spec =
     (λ c κs. search rules)
     (λ c. room (loading c))
     (λ c. sym (words_long (loading c.before)))
-    (λ c. omega (arith, counts-long c.before, length-take (count c.before) c.before.counts-at.result))
+    (λ c. omega (arith, counts-long c.before, length-take (count c.before) c.before.counts_at-counts.result))
     (λ c. sym (counts-long c.before.before))
     change-counted-requires
-    (λ c. search rules) (λ c. search rules) (λ c. search rules)
+    (λ c. search rules)
+    (λ c. search rules)
+    (λ c. search rules)
     returns)

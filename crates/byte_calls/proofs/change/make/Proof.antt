@@ -39,15 +39,15 @@ clear s = s.requires.planned.clear s.requires.none
 abbrev blank : List ℕ
 blank = replicate 32768 0
 
-module _ (c : tie.After-needed) where
+module _ (c : tie.After-needed-number_count) where
   abbrev start : tie.Start
   start = c.before.before.before.before.before.before.before.before.before.before.before
 
   abbrev n : ℕ
-  n = c.needed.result
+  n = c.needed-number_count.result
 
   numbers-needed : n ≡ needed (network (given start)) (listed (given start))
-  numbers-needed = c.needed.ensures ∙ needed-outline (given start).lists (listed (given start))
+  numbers-needed = c.needed-number_count.ensures ∙ needed-outline (given start).lists (listed (given start))
 
   numbers-few : (n ≤ 32768) × (2 * n ≤ length start.args.supports.now)
   numbers-few = (omega (arith, numbers-needed, (clear start).sufficient.short), omega (arith, numbers-needed, (clear start).sufficient.room))
@@ -57,17 +57,17 @@ module _ (c : tie.After-needed) where
 
 -- ---- The needs
 
-write-change-requires : tie.Need-write-change-requires
+write-change-requires : tie.Need-write_change-requires
 write-change-requires c κs =
     let k = c.before.before.before.before.before.before in
     let s = start k in
     let a = s.args in
-    let decoded = s.pre.decoded in
+    let decoded = s.requires.decoded in
     let tally = ap length decoded.all in
     record {
-      ready = clear-ready a.plan (instance s) (length a.marks.now / 8) (length a.supports.now / 2) s.pre.change (clear s) a.words.now (take (n k) blank) a.counts.now
+      ready = clear-ready a.plan (instance s) (length a.marks.now / 8) (length a.supports.now / 2) s.requires.change (clear s) a.words.now (take (n k) blank) a.counts.now
           decoded.covered.enough (omega (arith, numbers-needed k, numbers-long k))
-          (tally ∙ planned-counts (instance s) s.pre.change a.sheets.now a.marks.now a.supports.now a.plan s.pre.planned s.pre.none);
+          (tally ∙ planned-counts (instance s) s.requires.change a.sheets.now a.marks.now a.supports.now a.plan s.requires.planned s.requires.none);
       sheets-room = omega (arith, tally, counts-length a.sheets.now);
       marks-room = omega (arith, ap length decoded.first, length-take (length a.words.now) (entries64 a.marks.now), entries64-length a.marks.now);
       supports-room = omega (arith, (numbers-few k).1, numbers-long k);
@@ -79,12 +79,12 @@ returns c =
     let k = made.before.before.before.before.before.before.before in
     let s = start k in
     let a = s.args in
-    let decoded = s.pre.decoded in
+    let decoded = s.requires.decoded in
     let known = k.before.before.before in
     λ S change planned.
-    made.write-change.ensures
-    ∙ made_bytes (instance_of S a.variables.now a.values.now a.m a.members.now) change a.sheets.now a.marks.now a.supports.now a.plan planned s.pre.none s.pre.whole
-    (λ i. (known.before.slice-known4.given i).fits) (λ i. (known.slice-known5.given i).fits)
+    made.write_change.ensures
+    ∙ made_bytes (instance_of S a.variables.now a.values.now a.m a.members.now) change a.sheets.now a.marks.now a.supports.now a.plan planned s.requires.none s.requires.whole
+    (λ i. (known.before.slice_known-4-1.given i).fits) (λ i. (known.slice_known-5-1.given i).fits)
     (length a.words.now) a.words.now (take (n k) blank) decoded.first
     decoded.covered.enough (numbers-long k ∙ numbers-needed k)
 
@@ -96,5 +96,9 @@ make_spec =
     (λ c. (numbers-few c.before).0)
     (λ c. sym (numbers-long c.before.before))
     write-change-requires
-    (λ c. search rules) (λ c. search rules) (λ c. search rules) (λ c. search rules) (λ c. search rules)
+    (λ c. search rules)
+    (λ c. search rules)
+    (λ c. search rules)
+    (λ c. search rules)
+    (λ c. search rules)
     returns)

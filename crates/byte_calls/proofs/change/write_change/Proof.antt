@@ -12,7 +12,7 @@ use borrow.Author.Rules.{rules}
 use Rattle.byte_calls.proofs.change.write_change.Statement.{statement}
 use Rattle.byte_calls.proofs.change.write_change.Tie as tie
 
-abbrev start : tie.After-change → tie.Start
+abbrev start : tie.After-change-a → tie.Start
 start c = c.before.before.before.before.before.before.before.before.before.before.before.before.before.before.before.before.before
 
 abbrev given : tie.Start → Setting
@@ -23,7 +23,7 @@ pack-requires c κs =
     let changed = c.before.before.before.before.before.before.before.before.before.before.before.before.before.before.before.before.before.before.before.before.before in
     let s = start changed in
     let a = s.args in
-    omega (arith, ap (λ (r : Reply). r.answer.subject) changed.change.ensures, changed-subject (instance_in (given s)) (is_live a.plan.removed) a.words.now a.numbers.now s.pre.ready.sound.laid.framed.bounded.relations)
+    omega (arith, ap (λ (r : Reply). r.answer.subject) changed.change-a.ensures, changed-subject (instance_in (given s)) (is_live a.plan.removed-1) a.words.now a.numbers.now s.requires.ready.sound.laid.framed.bounded.relations)
 
 returns : tie.Need-returns
 returns c =
@@ -32,15 +32,22 @@ returns c =
     let counts = words.before.before.before.before.before in
     let changed = counts.before.before.before.before.before.before.before.before.before in
     let a = (start changed).args in
-    (λ i. outcome (c.pack.ensures i) (counts.put-counts.ensures i) (words.store64.ensures i) (numbers.store16.ensures i))
-    ∙ ap (λ (r : Reply). written_over r a.sheets.now a.marks.now a.supports.now) changed.change.ensures
+    (λ i. outcome (c.pack.ensures i) (counts.put_counts.ensures i) (words.store64.ensures i) (numbers.store16.ensures i))
+    ∙ ap (λ (r : Reply). written_over r a.sheets.now a.marks.now a.supports.now) changed.change-a.ensures
 
-pub write-change-spec : {M : Type 1} → statement M
-write-change-spec =
+pub write_change_spec : {M : Type 1} → statement M
+write_change_spec =
     tie.close
     (tie.spec
     (λ c κs. c.before.before.before.before.before.before.before.before.before.before.before.before.before.before.before.before.requires.ready)
-    (λ c κs. search rules) (λ c κs. search rules) (λ c κs. search rules)
+    (λ c κs. search rules)
+    (λ c κs. search rules)
+    (λ c κs. search rules)
     pack-requires
-    (λ c. search rules) (λ c. search rules) (λ c. search rules) (λ c. search rules) (λ c. search rules) (λ c. search rules)
+    (λ c. search rules)
+    (λ c. search rules)
+    (λ c. search rules)
+    (λ c. search rules)
+    (λ c. search rules)
+    (λ c. search rules)
     returns)

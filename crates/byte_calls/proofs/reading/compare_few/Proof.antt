@@ -10,16 +10,24 @@ use Rattle.byte_calls.proofs.reading.compare_few.Tie as tie
 returns : tie.Need-returns
 returns c =
     let a = c.before.before.before.before.before.before.before.before.before.before.before.before.before.before.args in
-    c.pack-comparison.ensures
+    c.pack_comparison.ensures
     ∙ ap packed_pair
     (c.before.compare.ensures
-    ∙ decoded-compare a.sheets.now a.questions.now a.codes.now _ _ _ c.before.before.before.before.before.before.before.before.before.before.shape_at.ensures c.before.before.before.before.before.before.before.before.load16.ensures.held (c.before.before.before.before.before.load32.ensures.held ∙ few-values a.codes.now c.before.before.before.before.before.before.before.before.before.before.before.before.before.before.requires) a.a a.b)
+    ∙ decoded-compare a.sheets.now a.questions.now a.codes.now _ _ _ c.before.before.before.before.before.before.before.before.before.before.shape_at-shape.ensures c.before.before.before.before.before.before.before.before.load16-variable_count.ensures.held (c.before.before.before.before.before.load32-value_count.ensures.held ∙ few-values a.codes.now c.before.before.before.before.before.before.before.before.before.before.before.before.before.before.requires) a.a a.b)
 
-pub compare-few-spec : {M : Type 1} → statement M
-compare-few-spec =
+pub compare_few_spec : {M : Type 1} → statement M
+compare_few_spec =
     tie.close
     (tie.spec
-    (λ c κs. search rules) (λ c. search rules) (λ c κs. search rules) (λ c. search rules)
-    (λ c κs. search rules) (λ c. search rules) (λ c. search rules) (λ c. search rules)
-    (λ c. search rules) (λ c κs. search rules) (λ c κs. search rules)
+    (λ c κs. search rules)
+    (λ c. search rules)
+    (λ c κs. search rules)
+    (λ c. search rules)
+    (λ c κs. search rules)
+    (λ c. search rules)
+    (λ c. search rules)
+    (λ c. search rules)
+    (λ c. search rules)
+    (λ c κs. search rules)
+    (λ c κs. search rules)
     returns)

@@ -10,16 +10,26 @@ use Rattle.byte_calls.proofs.reading.test_few.Tie as tie
 returns : tie.Need-returns
 returns c =
     let a = c.before.before.before.before.before.before.before.before.before.before.before.before.before.before.before.before.before.before.before.args in
-    c.test-decoded.ensures
+    c.test_decoded.ensures
     ∙ ap packed_pair
-    (decoded-test a.sheets.now a.questions.now a.codes.now _ _ _ c.before.before.before.before.before.before.before.before.before.before.before.before.before.shape_at.ensures c.before.before.before.before.before.before.before.before.before.before.before.load16.ensures.held (c.before.before.before.before.before.before.before.before.load32.ensures.held ∙ few-values a.codes.now c.before.before.before.before.before.before.before.before.before.before.before.before.before.before.before.before.before.before.before.requires) a.m a.combinations.now _ c.before.before.before.before.before.load162.ensures.held _)
+    (decoded-test a.sheets.now a.questions.now a.codes.now _ _ _ c.before.before.before.before.before.before.before.before.before.before.before.before.before.shape_at-shape.ensures c.before.before.before.before.before.before.before.before.before.before.before.load16-variable_count.ensures.held (c.before.before.before.before.before.before.before.before.load32-value_count.ensures.held ∙ few-values a.codes.now c.before.before.before.before.before.before.before.before.before.before.before.before.before.before.before.before.before.before.before.requires) a.m a.combinations.now _ c.before.before.before.before.before.load16-member_count.ensures.held _)
 
-pub test-few-spec : {M : Type 1} → statement M
-test-few-spec =
+pub test_few_spec : {M : Type 1} → statement M
+test_few_spec =
     tie.close
     (tie.spec
-    (λ c κs. search rules) (λ c. search rules) (λ c κs. search rules) (λ c. search rules)
-    (λ c κs. search rules) (λ c. search rules) (λ c κs. search rules) (λ c. search rules)
-    (λ c. search rules) (λ c. search rules) (λ c. search rules) (λ c. search rules) (λ c. search rules)
+    (λ c κs. search rules)
+    (λ c. search rules)
+    (λ c κs. search rules)
+    (λ c. search rules)
+    (λ c κs. search rules)
+    (λ c. search rules)
+    (λ c κs. search rules)
+    (λ c. search rules)
+    (λ c. search rules)
+    (λ c. search rules)
+    (λ c. search rules)
+    (λ c. search rules)
+    (λ c. search rules)
     (λ c κs. search rules)
     returns)

@@ -17,7 +17,7 @@ use borrow.Author.Rules.{rules}
 use Rattle.desk.proofs.combinations.listed.Statement.{statement}
 use Rattle.desk.proofs.combinations.listed.Tie as tie
 
-module _ (c : tie.After-combinations) where
+module _ (c : tie.After-combinations-answer) where
   abbrev start : tie.Start
   start = c.before.before.before.before
 
@@ -26,24 +26,26 @@ module _ (c : tie.After-combinations) where
 
   -- what is left in the list
   abbrev members : List ℕ
-  members = c.combinations.new.1.1.1.1.0
+  members = c.combinations-answer.new.1.1.1.1.0
 
 print-requires : tie.Need-print-requires
 print-requires c κs =
     let k = c.before.before.before in (
       search rules,
-      λ n e. let f = listed-fits (network k) (start k).args.m (replicate max_member_list 0) k.combinations.result (members k) k.combinations.ensures n e in (f.0, omega (arith, f.1, length-replicate {A = ℕ} max_member_list 0)),
+      λ n e. let f = listed-fits (network k) (start k).args.m (replicate max_member_list 0) k.combinations-answer.result (members k) k.combinations-answer.ensures n e in (f.0, omega (arith, f.1, length-replicate {A = ℕ} max_member_list 0)),
     )
 
 returns : tie.Need-returns
 returns c =
     let k = c.before.before.before.before in
-    appended-same (ap (λ (p : EnumerationReply). text_of (enumeration_lines (start k).args.m p)) k.combinations.ensures) c.print.ensures
+    appended-same (ap (λ (p : EnumerationReply). text_of (enumeration_lines (start k).args.m p)) k.combinations-answer.ensures) c.print.ensures
 
-pub listed-spec : {M : Type 1} → statement M
-listed-spec =
+pub listed_spec : {M : Type 1} → statement M
+listed_spec =
     tie.close
     (tie.spec
-    (λ c. search rules) (λ c κs. search rules) (λ c. search rules)
+    (λ c. search rules)
+    (λ c κs. search rules)
+    (λ c. search rules)
     print-requires
     returns)

@@ -16,38 +16,40 @@ use borrow.Author.Rules.{rules}
 use Rattle.desk.proofs.combinations.print.Statement.{statement}
 use Rattle.desk.proofs.combinations.print.Tie as tie
 
-print-listed-requires : tie.Need-print-listed-requires
+print-listed-requires : tie.Need-print_listed-requires
 print-listed-requires c κs =
     let s = c.before.before.before.before.before in
-    let is = c.before.before.answer.given in
+    let is = c.before.before.answer-1.given in
     (s.requires.0, s.requires.1 is.0.0 is.1)
 
 line-requires : tie.Need-line-requires
 line-requires c κs =
     let s = c.before.before.before.before.before.before in
     let long : length s.args.out.now ≡ output = search rules in
-    (search rules, omega (arith, long, line_text-length 2 (c.before.before.before.answer2.given.0.0 ∷ 0 ∷ 0 ∷ [])))
+    (search rules, omega (arith, long, line_text-length 2 (c.before.before.before.answer-in-Refused-1.given.0.0 ∷ 0 ∷ 0 ∷ [])))
 
-returns : tie.Need-returns
+returns : tie.Need-returns-in-Listed
 returns c =
     let s = c.before.before.before.before.before.before in
-    appended-same (ap (λ (a : Enumeration). text_of (enumeration_lines s.args.m (enumerated a s.args.members.now))) (sym c.before.before.before.answer.given.1))
-    c.print-listed.ensures
+    appended-same (ap (λ (a : Enumeration). text_of (enumeration_lines s.args.m (enumerated a s.args.members.now))) (sym c.before.before.before.answer-1.given.1))
+    c.print_listed.ensures
 
-returns-2 : tie.Need-returns-2
+returns-2 : tie.Need-returns-in-Refused
 returns-2 c =
-    let is = c.before.before.before.before.answer2.given in
+    let is = c.before.before.before.before.answer-in-Refused-1.given in
     let s = c.before.before.before.before.before.before.before in
     appended-same (refused-text is.0.0 s.args.m s.args.members.now ∙ ap (λ (a : Enumeration). text_of (enumeration_lines s.args.m (enumerated a s.args.members.now))) (sym is.1))
     c.line.ensures
 
-pub print-spec : {M : Type 1} → statement M
-print-spec =
+pub print_spec : {M : Type 1} → statement M
+print_spec =
     tie.close
     (tie.spec
     (λ c. search rules)
     print-listed-requires
-    (λ c. search rules) (λ c. search rules) (λ c. search rules)
+    (λ c. search rules)
+    (λ c. search rules)
+    (λ c. search rules)
     line-requires
     returns
     returns-2)

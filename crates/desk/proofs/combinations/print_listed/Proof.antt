@@ -22,7 +22,7 @@ use Rattle.desk.proofs.combinations.print_listed.Tie as tie
 answer-short : (count : ℕ) → length (line_text (0 ∷ 0 ∷ count ∷ 0 ∷ [])) ≤ answer_room
 answer-short count = line_text-length 0 (0 ∷ count ∷ 0 ∷ [])
 
-line-requires : tie.Need-line-requires
+line-requires : tie.Need-line-n-requires
 line-requires c κs =
     let s = c.before.before.before in
     let long : length s.args.out.now ≡ output = search rules in
@@ -30,7 +30,7 @@ line-requires c κs =
 
 -- ---- The members
 
-module _ (c : tie.After-wide2) where
+module _ (c : tie.After-wide) where
   abbrev start : tie.Start
   start = c.before.before.before.before.before.before
 
@@ -38,24 +38,24 @@ module _ (c : tie.After-wide2) where
   members = start.args.members.now
 
   abbrev each : ℕ
-  each = c.before.wide.result
+  each = c.before.wide-each.result
 
   -- so many numbers
   abbrev end : ℕ
-  end = c.wide2.result * each
+  end = c.wide.result * each
 
   is-end : end ≡ start.args.count * start.args.m
-  is-end = ap₂ (λ (n m : ℕ). n * m) c.wide2.ensures.0 c.before.wide.ensures.0
+  is-end = ap₂ (λ (n m : ℕ). n * m) c.wide.ensures.0 c.before.wide-each.ensures.0
 
   few : end ≤ max_member_list
-  few = omega (arith, is-end, start.pre.1.1)
+  few = omega (arith, is-end, start.requires.1.1)
 
   room : end ≤ length members
-  room = omega (arith, few, start.pre.0)
+  room = omega (arith, few, start.requires.0)
 
 -- the numbers copied
 module _ (c : tie.After-widened) where
-  abbrev counted : tie.After-wide2
+  abbrev counted : tie.After-wide
   counted = c.before.before.before
 
   abbrev numbers : List ℕ
@@ -67,16 +67,16 @@ module _ (c : tie.After-widened) where
 widened-requires : tie.Need-widened-requires
 widened-requires c κs = let w = c.before.before in omega (arith, few w, length-take-le (end w) (members w) (room w))
 
-combination-lines-requires : tie.Need-combination-lines-requires
+combination-lines-requires : tie.Need-combination_lines-requires
 combination-lines-requires c κs =
     let n = c.before.before.before in
     let w = counted n in
     let l = w.before.before in
     let s = start w in
     let long : length s.args.out.now ≡ output = search rules in
-    let pos : 0 < each w = omega (arith, w.before.wide.ensures.0, s.pre.1.0) in (
+    let pos : 0 < each w = omega (arith, w.before.wide-each.ensures.0, s.requires.1.0) in (
       pos,
-      omega (arith, long, few w, answer-short s.args.count, appended-end {at = 0} (omega arith) l.line.ensures, l.line.ensures.long, combinations-short (each w) pos (take (end w) (numbers n)), length-take-le (end w) (numbers n) (numbers-room n)),
+      omega (arith, long, few w, answer-short s.args.count, appended-end {at = 0} (omega arith) l.line-n.ensures, l.line-n.ensures.long, combinations-short (each w) pos (take (end w) (numbers n)), length-take-le (end w) (numbers n) (numbers-room n)),
     )
 
 returns : tie.Need-returns
@@ -84,16 +84,17 @@ returns c =
     let n = c.before.before.before.before in
     let w = counted n in
     let s = start w in
-    appended-same (listed-text s.args.count s.args.m (each w) (end w) (members w) (numbers n) w.before.wide.ensures.0 (is-end w) (room w) n.widened.ensures)
-    (appended_then w.before.before.line.ensures c.combination-lines.ensures)
+    appended-same (listed-text s.args.count s.args.m (each w) (end w) (members w) (numbers n) w.before.wide-each.ensures.0 (is-end w) (room w) n.widened.ensures)
+    (appended_then w.before.before.line-n.ensures c.combination_lines.ensures)
 
-pub print-listed-spec : {M : Type 1} → statement M
-print-listed-spec =
+pub print_listed_spec : {M : Type 1} → statement M
+print_listed_spec =
     tie.close
     (tie.spec
     (λ c. search rules)
     line-requires
-    (λ c κs. search rules) (λ c κs. search rules)
+    (λ c κs. search rules)
+    (λ c κs. search rules)
     (λ c. omega (arith, few c))
     (λ c. let w = c.before in sym (length-take-le (end w) (members w) (room w)))
     (λ c. search rules)

@@ -14,44 +14,47 @@ use Rattle.model.proofs.Agreement.{cells-under}
 use Rattle.doubles.proofs.alike.equal_in.Statement.{statement}
 use Rattle.doubles.proofs.alike.equal_in.Tie as tie
 
-abbrev invariant-loop : tie.invariant-loop
+abbrev invariant-loop : tie.invariant-loop-c
 invariant-loop scope a b common c₀ c =
     (c ≤ length scope) × ((k : ℕ) → k < c → is_set common (get_or scope k 0) ≡ true → get_or a k 0 ≡ get_or b k 0)
 
-abbrev decreases-loop : tie.decreases-loop
+abbrev decreases-loop : tie.decreases-loop-c
 decreases-loop scope a b common c₀ c = length scope - c
 
-loop-again : tie.Need-loop-preserved invariant-loop decreases-loop
+loop-again : tie.Need-loop-c-preserved invariant-loop decreases-loop
 loop-again c =
     let l = c.before.before.before.before in (
-      omega (arith, c.before.before.before.loop-test.true),
-      below_more _ _ l.loop.invariant.1
+      omega (arith, c.before.before.before.loop-c-test.true),
+      below_more _ _ l.loop-c.invariant.1
           (⊎_elim
           (λ w e. w.3.left)
-          (λ w e. absurd (not-both (c.before.has-variable.ensures ∙ e) w.left))
-          c.if1.branch),
+          (λ w e. absurd (not-both (c.before.has_variable.ensures ∙ e) w.left))
+          c.if-has_variable.branch-raw),
     )
 
-returns-2 : tie.Need-returns-2 invariant-loop decreases-loop
+returns-2 : tie.Need-returns invariant-loop decreases-loop
 returns-2 c =
     let l = c.before in
     let s = l.before.before.before.before in
     let a = s.args in
-    λ _. cells-under (is_set a.common) a.scope.now a.a.now a.b.now s.requires.0 s.requires.1 (λ k h. l.loop.invariant.1 k (omega (arith, c.loop-test.false)))
+    λ _. cells-under (is_set a.common) a.scope.now a.a.now a.b.now s.requires.0 s.requires.1 (λ k h. l.loop-c.invariant.1 k (omega (arith, c.loop-c-test.false)))
 
-pub equal-in-spec : {M : Type 1} → statement M
-equal-in-spec =
+pub equal_in_spec : {M : Type 1} → statement M
+equal_in_spec =
     tie.close
     (tie.spec
     invariant-loop
     decreases-loop
     (λ c. (omega arith, λ k h. absurd (omega arith)))
-    (λ c. search rules) (λ c. search rules) (λ c κs. search rules)
+    (λ c. search rules)
+    (λ c. search rules)
+    (λ c κs. search rules)
     (λ c. search rules)
     (λ c. search rules)
     (λ c. search rules)
     (λ c. search rules)
     (λ c e. absurd (true≢false (sym e)))
-    (λ c. search rules) (λ c. search rules)
+    (λ c. search rules)
+    (λ c. search rules)
     loop-again
     returns-2)

@@ -8,14 +8,18 @@ use Rattle.live.proofs.Bits.{is_set-high}
 use Rattle.doubles.proofs.alike.has_variable.Statement.{statement}
 use Rattle.doubles.proofs.alike.has_variable.Tie as tie
 
-returns : tie.Need-returns
+returns : tie.Need-returns-then-wide-ge-VARIABLES
 returns c =
     let a = c.before.before in
-    sym (is_set-high a.args.set 64 a.args.v a.well-formed.0.1 (omega (arith, c.if1.true, c.before.wide.ensures.0)))
+    sym (is_set-high a.args.set 64 a.args.v a.well-formed.0.1 (omega (arith, c.if-wide-ge-VARIABLES.true, c.before.wide.ensures.0)))
 
-returns-2 : tie.Need-returns-2
+returns-2 : tie.Need-returns
 unfolding is_set bit
 returns-2 c = refl
 
-pub has-variable-spec : {M : Type 1} → statement M
-has-variable-spec = tie.close (tie.spec (λ c κs. search rules) returns (λ c. search rules) returns-2)
+pub has_variable_spec : {M : Type 1} → statement M
+has_variable_spec = tie.close (tie.spec
+    (λ c κs. search rules)
+    returns
+    (λ c. search rules)
+    returns-2)

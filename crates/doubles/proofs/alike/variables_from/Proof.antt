@@ -12,36 +12,37 @@ use Rattle.doubles.proofs.Others.{Collected, collected-more, collected-past}
 use Rattle.doubles.proofs.alike.variables_from.Statement.{statement}
 use Rattle.doubles.proofs.alike.variables_from.Tie as tie
 
-abbrev invariant-loop : tie.invariant-loop
+abbrev invariant-loop : tie.invariant-loop-j
 invariant-loop variables values starts members place from common₀ j₀ common j =
     Collected (network_in (record { variables = variables; values = values; starts = starts })) members place from j common
 
-abbrev decreases-loop : tie.decreases-loop
+abbrev decreases-loop : tie.decreases-loop-j
 decreases-loop variables values starts members place from common₀ j₀ common j = length members - j
 
-loop-again : tie.Need-loop-preserved invariant-loop decreases-loop
+loop-again : tie.Need-loop-j-preserved invariant-loop decreases-loop
 loop-again c =
     let i = c.before in
     let s = i.before.before.before.before.before in
     let N : Network = network_in (record { variables = s.args.variables.now; values = s.args.values.now; starts = s.args.starts.now }) in
-    let l = i.before.loop in
+    let l = i.before.loop-j in
     let now = Collected N s.args.members.now s.args.place s.args.from (l.j + 1) in
     ⊎_elim
-    {C = now c.if1.common}
+    {C = now c.if-j-place.common}
     (λ w. subst now (sym w.3) (collected-more N s.args.members.now s.args.place s.args.from l.j l.common l.invariant w.2.result w.2.ensures))
     (λ w. subst now (sym w.1) (collected-past N s.args.members.now s.args.place s.args.from l.j l.common l.invariant w.0.left))
-    c.if1.branch
+    c.if-j-place.branch-raw
 
-pub variables-from-spec : {M : Type 1} → statement M
-variables-from-spec =
+pub variables_from_spec : {M : Type 1} → statement M
+variables_from_spec =
     tie.close
     (tie.spec
     invariant-loop
     decreases-loop
     (λ c i f l. absurd (omega (arith, f, l)))
     (λ c. search rules)
-    (λ c. c.before.before.loop-test.true)
-    (λ c κs. let s = c.before.before.before.before.before.before.before in (s.requires.laid, s.requires.exist c.before.before.before.loop.j c.before.before.loop-test.true))
-    (λ c. search rules) (λ c. search rules)
+    (λ c. c.before.before.loop-j-test.true)
+    (λ c κs. let s = c.before.before.before.before.before.before.before in (s.requires.laid, s.requires.exist c.before.before.before.loop-j.j c.before.before.loop-j-test.true))
+    (λ c. search rules)
+    (λ c. search rules)
     loop-again
-    (λ c i f l. c.before.loop.invariant i f (omega (arith, l, c.loop-test.false))))
+    (λ c i f l. c.before.loop-j.invariant i f (omega (arith, l, c.loop-j-test.false))))

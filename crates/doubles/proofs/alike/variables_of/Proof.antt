@@ -22,33 +22,33 @@ given s = record { variables = s.args.variables.now; values = s.args.values.now;
 few : (s : tie.Start) → s.args.r < max_relations
 few s = omega (arith, s.requires.1, relations-few s.requires.0.framed)
 
-abbrev start : tie.After-variable-start2 → tie.Start
+abbrev start : tie.After-variable_start-scope_end → tie.Start
 start c = c.before.before.before.before
 
-rises : (c : tie.After-variable-start2) → (c.before.variable-start.result ≤ c.variable-start2.result) × (c.variable-start2.result ≤ length (start c).args.variables.now)
+rises : (c : tie.After-variable_start-scope_end) → (c.before.variable_start-scope.result ≤ c.variable_start-scope_end.result) × (c.variable_start-scope_end.result ≤ length (start c).args.variables.now)
 rises c =
     let s = start c in
     omega (
       arith,
-      c.variable-start2.ensures.0,
-      c.before.variable-start.ensures.0,
-      scope-rises s.pre.0.framed s.args.r (few s),
-      scope-within s.pre.0 s.args.r (few s),
+      c.variable_start-scope_end.ensures.0,
+      c.before.variable_start-scope.ensures.0,
+      scope-rises s.requires.0.framed s.args.r (few s),
+      scope-within s.requires.0 s.args.r (few s),
     )
 
-part-is : (c : tie.After-variable-start2) → take (c.variable-start2.result - c.before.variable-start.result) (drop c.before.variable-start.result (start c).args.variables.now) ≡ scope_of (network_in (given (start c))) (start c).args.r
+part-is : (c : tie.After-variable_start-scope_end) → take (c.variable_start-scope_end.result - c.before.variable_start-scope.result) (drop c.before.variable_start-scope.result (start c).args.variables.now) ≡ scope_of (network_in (given (start c))) (start c).args.r
 part-is c =
     let s = start c in
-    ap₂ (λ (n k : ℕ). take (n - k) (drop k s.args.variables.now)) c.variable-start2.ensures.0 c.before.variable-start.ensures.0
-    ∙ scope-is s.pre.0 s.args.r (few s)
+    ap₂ (λ (n k : ℕ). take (n - k) (drop k s.args.variables.now)) c.variable_start-scope_end.ensures.0 c.before.variable_start-scope.ensures.0
+    ∙ scope-is s.requires.0 s.args.r (few s)
 
-mask-of-requires : tie.Need-mask-of-requires
+mask-of-requires : tie.Need-mask_of-requires
 mask-of-requires c κs =
     let s = start c.before in
-    ap (all (λ (x : ℕ). ltb x variable_count)) (part-is c.before) ∙ scope-variables s.pre.0 s.args.r s.pre.1
+    ap (all (λ (x : ℕ). ltb x variable_count)) (part-is c.before) ∙ scope-variables s.requires.0 s.args.r s.requires.1
 
-pub variables-of-spec : {M : Type 1} → statement M
-variables-of-spec =
+pub variables_of_spec : {M : Type 1} → statement M
+variables_of_spec =
     tie.close
     (tie.spec
     (λ c κs. omega (arith, few c.before.before))
@@ -59,4 +59,4 @@ variables-of-spec =
     (λ c. (rises c).0)
     (λ c. (rises c).1)
     mask-of-requires
-    (λ c x. c.mask-of.ensures x ∙ ap (elem x) (part-is c.before.before)))
+    (λ c x. c.mask_of.ensures x ∙ ap (elem x) (part-is c.before.before)))

@@ -10,42 +10,43 @@ use borrow.Author.Rules.{rules}
 use Rattle.encoding.proofs.ids.ids_at.Statement.{statement}
 use Rattle.encoding.proofs.ids.ids_at.Tie as tie
 
-abbrev invariant-loop : tie.invariant-loop
+abbrev invariant-loop : tie.invariant-loop-i
 invariant-loop ids n words₀ bound₀ i₀ words bound i = (i ≤ n) × Filled (entries16 ids) words bound i
 
-abbrev decreases-loop : tie.decreases-loop
+abbrev decreases-loop : tie.decreases-loop-i
 decreases-loop ids n words₀ bound₀ i₀ words bound i = n - i
 
-loop-again : tie.Need-loop-preserved invariant-loop decreases-loop
+loop-again : tie.Need-loop-i-preserved invariant-loop decreases-loop
 loop-again c =
     let a = c.before in
     let read = a.before in
     let turn = read.before.before in
-    let l = turn.before.loop in
+    let l = turn.before.loop-i in
     let ids = turn.before.before.before.args.ids.now in (
-      omega (arith, turn.loop-test.true),
-      filled_next (entries16 ids) l.words l.bound l.i l.invariant.1 _ _ _ (omega (arith, turn.loop-test.true, entries16-length ids))
-          (read.u16-at.ensures ∙ sym (entries16-at ids l.i (omega (arith, turn.loop-test.true))))
-          a.add.ensures.0
-          a.add.ensures.1,
+      omega (arith, turn.loop-i-test.true),
+      filled_next (entries16 ids) l.words-1 l.bound l.i l.invariant.1 _ _ _ (omega (arith, turn.loop-i-test.true, entries16-length ids))
+          (read.u16_at.ensures ∙ sym (entries16-at ids l.i (omega (arith, turn.loop-i-test.true))))
+          a.add-bound.ensures.0
+          a.add-bound.ensures.1,
     )
 
 returns : tie.Need-returns invariant-loop decreases-loop
 returns c =
-    let l = c.before.loop in
+    let l = c.before.loop-i in
     let ids = c.before.before.before.args.ids.now in
-    filled-end (entries16 ids) l.words l.bound l.i l.invariant.1 (omega (arith, c.loop-test.false, entries16-length ids))
+    filled-end (entries16 ids) l.words-1 l.bound l.i l.invariant.1 (omega (arith, c.loop-i-test.false, entries16-length ids))
 
-pub ids-at-spec : {M : Type 1} → statement M
-ids-at-spec =
+pub ids_at_spec : {M : Type 1} → statement M
+ids_at_spec =
     tie.close
     (tie.spec
     invariant-loop
     decreases-loop
     (λ c. (omega arith, filled-start _))
-    (λ c. sym c.before.before.loop.invariant.1.full.long)
+    (λ c. sym c.before.before.loop-i.invariant.1.full.long)
     (λ c κs. omega arith)
-    (λ c κs. c.before.before.before.loop.invariant.1.full.long)
-    (λ c. search rules) (λ c. search rules)
+    (λ c κs. c.before.before.before.loop-i.invariant.1.full.long)
+    (λ c. search rules)
+    (λ c. search rules)
     loop-again
     returns)

@@ -7,11 +7,13 @@ use Rattle.encoding.proofs.Whole.{second}
 use Rattle.encoding.proofs.lengths.cells_whole.Statement.{statement}
 use Rattle.encoding.proofs.lengths.cells_whole.Tie as tie
 
-returns : tie.Need-returns
-returns c = simp (ne_eqb _ _ c.if1.true)
+returns : tie.Need-returns-then-questions-ne0
+returns c = simp (ne_eqb _ _ c.if-questions-ne0.true)
 
-returns-2 : tie.Need-returns-2
-returns-2 c = second _ (eq-eqb _ _ c.if1.false)
+returns-2 : tie.Need-returns
+returns-2 c = second _ (eq-eqb _ _ c.if-questions-ne0.false)
 
-pub cells-whole-spec : {M : Type 1} → statement M
-cells-whole-spec = tie.close (tie.spec returns returns-2)
+pub cells_whole_spec : {M : Type 1} → statement M
+cells_whole_spec = tie.close (tie.spec
+    returns
+    returns-2)

@@ -7,16 +7,20 @@ use borrow.Author.Rules.{rules}
 use Rattle.encoding.proofs.lengths.change_whole.Statement.{statement}
 use Rattle.encoding.proofs.lengths.change_whole.Tie as tie
 
-returns : tie.Need-returns
-returns c = simp (sym c.before.instance-whole.ensures ∙ not-true _ c.if1.true)
+returns : tie.Need-returns-then-not-instance_whole
+returns c = simp (sym c.before.instance_whole.ensures ∙ not-true _ c.if-not-instance_whole.true-raw)
 
-returns-2 : tie.Need-returns-2
-returns-2 c = simp (sym c.before.before.instance-whole.ensures ∙ not-false _ c.before.if1.false, ne_eqb _ _ c.if2.true)
+returns-2 : tie.Need-returns-then-marks-ne0
+returns-2 c = simp (sym c.before.before.instance_whole.ensures ∙ not-false _ c.before.if-not-instance_whole.false-raw, ne_eqb _ _ c.if-marks-ne0.true)
 
-returns-3 : tie.Need-returns-3
+returns-3 : tie.Need-returns
 returns-3 c =
-    third _ (sym c.before.before.instance-whole.ensures ∙ not-false _ c.before.if1.false) (eq-eqb _ _ c.if2.false)
+    third _ (sym c.before.before.instance_whole.ensures ∙ not-false _ c.before.if-not-instance_whole.false-raw) (eq-eqb _ _ c.if-marks-ne0.false)
 
-pub change-whole-spec : {M : Type 1} → statement M
-change-whole-spec =
-    tie.close (tie.spec (λ c κs. search rules) returns returns-2 returns-3)
+pub change_whole_spec : {M : Type 1} → statement M
+change_whole_spec =
+    tie.close (tie.spec
+    (λ c κs. search rules)
+    returns
+    returns-2
+    returns-3)

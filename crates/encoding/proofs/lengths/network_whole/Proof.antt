@@ -7,11 +7,14 @@ use Rattle.encoding.proofs.Whole.{second}
 use Rattle.encoding.proofs.lengths.network_whole.Statement.{statement}
 use Rattle.encoding.proofs.lengths.network_whole.Tie as tie
 
-returns : tie.Need-returns
-returns c = simp (ne_eqb _ _ c.if1.true)
+returns : tie.Need-returns-then-sheets-ne0
+returns c = simp (ne_eqb _ _ c.if-sheets-ne0.true)
 
-returns-2 : tie.Need-returns-2
-returns-2 c = c.cells_Whole.ensures ∙ second _ (eq-eqb _ _ c.before.if1.false)
+returns-2 : tie.Need-returns
+returns-2 c = c.cells_Whole.ensures ∙ second _ (eq-eqb _ _ c.before.if-sheets-ne0.false)
 
-pub network-whole-spec : {M : Type 1} → statement M
-network-whole-spec = tie.close (tie.spec returns (λ c κs. search rules) returns-2)
+pub network_whole_spec : {M : Type 1} → statement M
+network_whole_spec = tie.close (tie.spec
+    returns
+    (λ c κs. search rules)
+    returns-2)

@@ -5,21 +5,29 @@ use borrow.Author.Rules.{rules}
 use Rattle.encoding.proofs.packing.pack_comparison.Statement.{statement}
 use Rattle.encoding.proofs.packing.pack_comparison.Tie as tie
 
-returns : tie.Need-returns
-returns c = rw c.before.a.given.1 (omega arith)
+returns : tie.Need-returns-in-Differ
+returns c = rw c.before.a-1.given.1 (omega arith)
 
-returns-2 : tie.Need-returns-2
-returns-2 c = rw c.enum_told.given.1
+returns-2 : tie.Need-returns-in-Agree
+returns-2 c = rw c.enum_told-1.given.1
 
-returns-3 : tie.Need-returns-3
-returns-3 c = rw c.before.a2.given.1 (omega arith)
+returns-3 : tie.Need-returns-in-Refused
+returns-3 c = rw c.before.a-in-Refused-1.given.1 (omega arith)
 
-pub pack-comparison-spec : {M : Type 1} → statement M
-pack-comparison-spec =
+pub pack_comparison_spec : {M : Type 1} → statement M
+pack_comparison_spec =
     tie.close
     (tie.spec
-    (λ c. search rules) (λ c. search rules) (λ c. search rules) (λ c. search rules) (λ c. search rules)
-    (λ c. search rules) (λ c. search rules) (λ c. search rules) (λ c. search rules) (λ c. search rules)
+    (λ c. search rules)
+    (λ c. search rules)
+    (λ c. search rules)
+    (λ c. search rules)
+    (λ c. search rules)
+    (λ c. search rules)
+    (λ c. search rules)
+    (λ c. search rules)
+    (λ c. search rules)
+    (λ c. search rules)
     (λ c. search rules)
     returns
     returns-2

@@ -12,16 +12,20 @@ use Rattle.encoding.proofs.packing.pack_enumeration.Tie as tie
 abbrev number : Enumeration → ℕ
 number a = packed (enumeration_numbers a)
 
-returns : tie.Need-returns
-returns c = c.pack-numbers.ensures ∙ ap number (sym c.before.before.a.given.1)
+returns : tie.Need-returns-in-Listed
+returns c = c.pack_numbers.ensures ∙ ap number (sym c.before.before.a-1.given.1)
 
-returns-2 : tie.Need-returns-2
-returns-2 c = c.pack-numbers2.ensures ∙ ap number (sym c.before.before.a2.given.1)
+returns-2 : tie.Need-returns-in-Refused
+returns-2 c = c.pack_numbers-in-Refused.ensures ∙ ap number (sym c.before.before.a-in-Refused-1.given.1)
 
-pub pack-enumeration-spec : {M : Type 1} → statement M
-pack-enumeration-spec =
+pub pack_enumeration_spec : {M : Type 1} → statement M
+pack_enumeration_spec =
     tie.close
     (tie.spec
-    (λ c. search rules) (λ c κs. search rules) (λ c. search rules) (λ c. search rules) (λ c κs. search rules)
+    (λ c. search rules)
+    (λ c κs. search rules)
+    (λ c. search rules)
+    (λ c. search rules)
+    (λ c κs. search rules)
     returns
     returns-2)

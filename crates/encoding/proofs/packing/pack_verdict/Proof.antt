@@ -5,20 +5,24 @@ use borrow.Author.Rules.{rules}
 use Rattle.encoding.proofs.packing.pack_verdict.Statement.{statement}
 use Rattle.encoding.proofs.packing.pack_verdict.Tie as tie
 
-returns : tie.Need-returns
-returns c = rw c.enum_told.given.1
+returns : tie.Need-returns-in-No
+returns c = rw c.enum_told-1.given.1
 
-returns-2 : tie.Need-returns-2
-returns-2 c = rw c.enum-told2.given.1
+returns-2 : tie.Need-returns-in-Yes
+returns-2 c = rw c.enum_told-in-Yes-1.given.1
 
-returns-3 : tie.Need-returns-3
-returns-3 c = rw c.before.v.given.1 (omega arith)
+returns-3 : tie.Need-returns-in-Refused
+returns-3 c = rw c.before.v-1.given.1 (omega arith)
 
-pub pack-verdict-spec : {M : Type 1} → statement M
-pack-verdict-spec =
+pub pack_verdict_spec : {M : Type 1} → statement M
+pack_verdict_spec =
     tie.close
     (tie.spec
-    (λ c. search rules) (λ c. search rules) (λ c. search rules) (λ c. search rules) (λ c. search rules)
+    (λ c. search rules)
+    (λ c. search rules)
+    (λ c. search rules)
+    (λ c. search rules)
+    (λ c. search rules)
     (λ c. search rules)
     returns
     returns-2

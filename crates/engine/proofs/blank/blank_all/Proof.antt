@@ -15,80 +15,82 @@ use Rattle.engine.proofs.Blanks.{blank-as, blanked-none, blanked-more}
 use Rattle.engine.proofs.blank.blank_all.Statement.{statement}
 use Rattle.engine.proofs.blank.blank_all.Tie as tie
 
-abbrev invariant-loop : tie.invariant-loop
+abbrev invariant-loop : tie.invariant-loop-p
 invariant-loop starts members m pair-starts words numbers₀ p₀ numbers p =
     (p ≤ length members) × Blanked (outline starts) m members p words numbers₀ numbers
 
-abbrev decreases-loop : tie.decreases-loop
+abbrev decreases-loop : tie.decreases-loop-p
 decreases-loop starts members m pair-starts words numbers₀ p₀ numbers p = length members - p
 
 -- the relation of pair p
-below : (c : tie.In-loop invariant-loop decreases-loop) → get_or c.before.before.before.before.before.args.members.now c.before.loop.p 0 < 64
-below c = let s = c.before.before.before.before.before in member_below s.requires.framed s.requires.paired c.before.loop.p c.loop-test.true
+below : (c : tie.In-loop-p invariant-loop decreases-loop) → get_or c.before.before.before.before.before.args.members.now c.before.loop-p.p 0 < 64
+below c = let s = c.before.before.before.before.before in member_below s.requires.framed s.requires.paired c.before.loop-p.p c.loop-p-test.true
 
-blank-dead-requires : tie.Need-blank-dead-requires invariant-loop decreases-loop
+blank-dead-requires : tie.Need-blank_dead-requires invariant-loop decreases-loop
 blank-dead-requires c κs =
     let ids = c.before.before.before in
     let turn = c.before.before.before.before.before.before in
     let s = turn.before.before.before.before.before in
-    let l = turn.before.loop in
+    let l = turn.before.loop-p in
     let r = get_or s.args.members.now l.p 0 in
     let f = s.requires.framed in
     let h = below turn in
-    let begin = c.wide.ensures.0 ∙ s.requires.places l.p (omega (arith, turn.loop-test.true)) in
-    let within = pair-within f s.requires.paired l.p turn.loop-test.true in
+    let begin = c.wide.ensures.0 ∙ s.requires.places l.p (omega (arith, turn.loop-p-test.true)) in
+    let within = pair-within f s.requires.paired l.p turn.loop-p-test.true in
     record {
       few = s.requires.paired.list.few;
-      rises = omega (arith, ids.before.tuple-start.ensures, ids.tuple-start2.ensures, ids-rise f r h);
-      bits = omega (arith, ids.tuple-start2.ensures, ids-within f r h, s.requires.enough);
-      inside = omega (arith, begin, within, ap₂ (λ (e b : ℕ). (e - b) * s.args.m) ids.tuple-start2.ensures ids.before.tuple-start.ensures, s.requires.room, l.invariant.1.long);
+      rises = omega (arith, ids.before.tuple_start-first.ensures, ids.tuple_start-end.ensures, ids-rise f r h);
+      bits = omega (arith, ids.tuple_start-end.ensures, ids-within f r h, s.requires.enough);
+      inside = omega (arith, begin, within, ap₂ (λ (e b : ℕ). (e - b) * s.args.m) ids.tuple_start-end.ensures ids.before.tuple_start-first.ensures, s.requires.room, l.invariant.1.long);
     }
 
-loop-again : tie.Need-loop-preserved invariant-loop decreases-loop
+loop-again : tie.Need-loop-p-preserved invariant-loop decreases-loop
 loop-again c =
     let after = c.before.before in
     let ids = after.before.before.before.before in
     let turn = after.before.before.before.before.before.before.before in
     let s = turn.before.before.before.before.before in
     let a = s.args in
-    let l = turn.before.loop in
+    let l = turn.before.loop-p in
     let r = get_or a.members.now l.p 0 in
     let f = s.requires.framed in
     let N = outline a.starts.now in (
       search rules,
-      blanked-more N a.m a.members.now a.words.now a.numbers.now l.p turn.loop-test.true l.numbers after.blank-dead.new.1.0
+      blanked-more N a.m a.members.now a.words.now a.numbers.now l.p turn.loop-p-test.true l.numbers-1 after.blank_dead.new.1.0
           l.invariant.1
-          (blank-as a.m after.before.wide.result ids.before.tuple-start.result a.words.now l.numbers
-          (support_start N a.m a.members.now l.p) (first_id N r) (ids.tuple-start2.result - ids.before.tuple-start.result) (size N r) after.blank-dead.new.1.0
-          (after.before.wide.ensures.0 ∙ s.requires.places l.p (omega (arith, turn.loop-test.true)))
-          (ids.before.tuple-start.ensures ∙ tuple-start f r (omega (arith, below turn)))
-          (ap₂ (λ (e b : ℕ). e - b) ids.tuple-start2.ensures ids.before.tuple-start.ensures ∙ size_in f r (below turn))
-          after.blank-dead.ensures),
+          (blank-as a.m after.before.wide.result ids.before.tuple_start-first.result a.words.now l.numbers-1
+          (support_start N a.m a.members.now l.p) (first_id N r) (ids.tuple_start-end.result - ids.before.tuple_start-first.result) (size N r) after.blank_dead.new.1.0
+          (after.before.wide.ensures.0 ∙ s.requires.places l.p (omega (arith, turn.loop-p-test.true)))
+          (ids.before.tuple_start-first.ensures ∙ tuple-start f r (omega (arith, below turn)))
+          (ap₂ (λ (e b : ℕ). e - b) ids.tuple_start-end.ensures ids.before.tuple_start-first.ensures ∙ size_in f r (below turn))
+          after.blank_dead.ensures),
     )
 
 returns : tie.Need-returns invariant-loop decreases-loop
 returns c =
     let a = c.before.before.before.before.before.args in
-    let l = c.before.loop in
-    let e : l.p ≡ length a.members.now = omega (arith, l.invariant.0, c.loop-test.false) in
-    subst (λ (k : ℕ). Blanked (outline a.starts.now) a.m a.members.now k a.words.now a.numbers.now l.numbers) e l.invariant.1
+    let l = c.before.loop-p in
+    let e : l.p ≡ length a.members.now = omega (arith, l.invariant.0, c.loop-p-test.false) in
+    subst (λ (k : ℕ). Blanked (outline a.starts.now) a.m a.members.now k a.words.now a.numbers.now l.numbers-1) e l.invariant.1
 
-pub blank-all-spec : {M : Type 1} → statement M
-blank-all-spec =
+pub blank_all_spec : {M : Type 1} → statement M
+blank_all_spec =
     tie.close
     (tie.spec
     invariant-loop
     decreases-loop
     (λ c. let a = c.before.before.before.args in (search rules, blanked-none (outline a.starts.now) a.m a.members.now a.words.now a.numbers.now))
-    (λ c. search rules) (λ c. search rules)
+    (λ c. search rules)
+    (λ c. search rules)
     (λ c κs. omega (arith, below c.before))
     (λ c. omega (arith, below c.before.before))
     (λ c κs. omega (arith, below c.before.before))
     (λ c. search rules)
-    (λ c. let turn = c.before.before.before.before in omega (arith, turn.loop-test.true, turn.before.before.before.before.before.requires.paired.list.short))
+    (λ c. let turn = c.before.before.before.before in omega (arith, turn.loop-p-test.true, turn.before.before.before.before.before.requires.paired.list.short))
     (λ c κs. search rules)
     blank-dead-requires
-    (λ c. search rules) (λ c. search rules)
+    (λ c. search rules)
+    (λ c. search rules)
     loop-again
-    (λ c. c.before.loop.invariant.1.long)
+    (λ c. c.before.loop-p.invariant.1.long)
     returns)

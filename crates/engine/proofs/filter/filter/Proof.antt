@@ -34,7 +34,7 @@ given s =
 
 -- ---- The needed words
 
-module _ (c : tie.After-words-for) where
+module _ (c : tie.After-words_for-count) where
   abbrev entry : tie.Start
   entry = c.before.before.before.before.before.before.before.before.before
 
@@ -44,36 +44,36 @@ module _ (c : tie.After-words-for) where
   abbrev words : List ℕ
   words = entry.args.words.now
 
-  all : c.before.tuple-count.result ≡ n
-  all = c.before.tuple-count.ensures ∙ tuple-count entry.pre.0.laid.framed
+  all : c.before.tuple_count.result ≡ n
+  all = c.before.tuple_count.ensures ∙ tuple-count entry.requires.0.laid.framed
 
-  few : (c.words-for.result ≤ 64) × (c.words-for.result ≤ length words)
+  few : (c.words_for-count.result ≤ 64) × (c.words_for-count.result ≤ length words)
   few = (
-    omega (arith, c.words-for.ensures, all, tuples-few entry.pre.0.laid.framed),
-    omega (arith, c.words-for.ensures, all, entry.pre.1.enough),
+    omega (arith, c.words_for-count.ensures, all, tuples-few entry.requires.0.laid.framed),
+    omega (arith, c.words_for-count.ensures, all, entry.requires.1.enough),
   )
 
-  enough : n ≤ word_bits * c.words-for.result
-  enough = omega (arith, c.words-for.ensures, all)
+  enough : n ≤ word_bits * c.words_for-count.result
+  enough = omega (arith, c.words_for-count.ensures, all)
 
   small : (i : ℕ) → get_or words i 0 < 2 ^ 64
-  small i = (c.before.before.before.before.before.slice-known.given i).fits
+  small i = (c.before.before.before.before.before.slice_known-1.given i).fits
 
 -- ---- The copy
 
-abbrev sized : tie.After-copied → tie.After-words-for
+abbrev sized : tie.After-copied-live → tie.After-words_for-count
 sized c = c.before.before
 
 -- the same tuples live in it
-same : (c : tie.After-copied) → live_in (given (entry (sized c))) c.copied.result ≡ live_in (given (entry (sized c))) (words (sized c))
-same c = let w = sized c in copied-living w.words-for.result (words w) c.copied.result c.copied.ensures (n w) (enough w)
+same : (c : tie.After-copied-live) → live_in (given (entry (sized c))) c.copied-live.result ≡ live_in (given (entry (sized c))) (words (sized c))
+same c = let w = sized c in copied-living w.words_for-count.result (words w) c.copied-live.result c.copied-live.ensures (n w) (enough w)
 
-array : (c : tie.After-copied) → WordArray c.copied.result
-array c = let w = sized c in copied-array w.words-for.result (words w) c.copied.result c.copied.ensures (small w)
+array : (c : tie.After-copied-live) → WordArray c.copied-live.result
+array c = let w = sized c in copied-array w.words_for-count.result (words w) c.copied-live.result c.copied-live.ensures (small w)
 
 -- ---- The sweeps
 
-abbrev copying : tie.After-sweeps → tie.After-copied
+abbrev copying : tie.After-sweeps → tie.After-copied-live
 copying c = c.before.before.before
 
 module _ (c : tie.After-sweeps) where
@@ -85,7 +85,7 @@ module _ (c : tie.After-sweeps) where
   swept = c.sweeps.new.1.1.1.1.1.1.0
 
   swept-array : WordArray swept
-  swept-array = shrunk-array G (copying c).copied.result swept c.sweeps.ensures (array (copying c))
+  swept-array = shrunk-array G (copying c).copied-live.result swept c.sweeps.ensures (array (copying c))
 
   -- what filtering leaves of them
   abbrev left : TupleSet
@@ -104,11 +104,11 @@ settle-requires c κs =
     let k = c.before.before.before.before in
     let w = sized (copying k) in
     let s = entry w in (
-      (swept-array k, w.before.before.prepare.ensures),
-      record { enough = omega (arith, (swept-array k).long, tuples-few s.pre.0.laid.framed); short = s.pre.1.short; room = s.pre.1.room },
+      (swept-array k, w.before.before.prepare-begins.ensures),
+      record { enough = omega (arith, (swept-array k).long, tuples-few s.requires.0.laid.framed); short = s.requires.1.short; room = s.requires.1.room },
     )
 
-put-back-requires : tie.Need-put-back-requires
+put-back-requires : tie.Need-put_back-requires
 put-back-requires c κs =
     let s = c.before.before.before.before in
     let k = sweeping s in (
@@ -123,25 +123,27 @@ returns c =
     let copy = copying k in
     let w = sized copy in
     let ws = words w in
-    let j = w.words-for.result in
+    let j = w.words_for-count.result in
     let N = network (G k) in
     let C = listed (G k) in (
       c.before.before.put_back.ensures
           ∙ ap (λ (xs : List ℕ). take j xs ++ drop j ws) (s.settle.ensures.0 ∙ shrunk-written (G k) (left k) k.sweeps.ensures)
-          ∙ copied-written j ws copy.copied.result copy.copied.ensures (total N) (enough w) (left k) (few w).0 (few w).1 (small w)
+          ∙ copied-written j ws copy.copied-live.result copy.copied-live.ensures (total N) (enough w) (left k) (few w).0 (few w).1 (small w)
           ∙ ap (λ (S : TupleSet). written (total N) S ws) (left_is k),
       s.settle.ensures.1 ∙ ap (λ (S : TupleSet). support_list N C S ++ drop (needed N C) (entry w).args.numbers.now) (left_is k),
     )
 
-pub filter-spec : {M : Type 1} → statement M
-filter-spec =
+pub filter_spec : {M : Type 1} → statement M
+filter_spec =
     tie.close
     (tie.spec
     (λ c κs. let s = c.before.before.before.before.before.before in (search rules, record { sound = s.requires.0; short = omega (arith, needed-outline (given s).lists (listed (given s)), s.requires.1.short) }))
-    (λ c κs. search rules) (λ c κs. search rules)
+    (λ c κs. search rules)
+    (λ c κs. search rules)
     (λ c κs. few c.before)
-    (λ c κs. let k = c.before.before in let w = sized k in ((array k, (entry w).pre.0), w.before.before.prepare.ensures.indexed))
+    (λ c κs. let k = c.before.before in let w = sized k in ((array k, (entry w).requires.0), w.before.before.prepare-begins.ensures.indexed))
     settle-requires
     put-back-requires
-    (λ c. search rules) (λ c. search rules)
+    (λ c. search rules)
+    (λ c. search rules)
     returns)

@@ -3,10 +3,10 @@
 use Rattle.engine.proofs.filter.prepare.Statement.{statement}
 use Rattle.engine.proofs.filter.prepare.Tie as tie
 
-pub prepare-spec : {M : Type 1} → statement M
-prepare-spec =
+pub prepare_spec : {M : Type 1} → statement M
+prepare_spec =
     tie.close
     (tie.spec
     (λ c κs. let s = c.before.before.before.before in (s.requires.0, s.requires.1.sound.laid))
     (λ c κs. let s = c.before.before.before.before.before in (s.requires.1.sound.laid.framed, s.requires.1.sound.paired, s.requires.1.short))
-    (λ c. record { sound = c.before.before.before.before.before.before.requires.1.sound; indexed = c.before.index-all.ensures.1; places = c.pair-starts.ensures }))
+    (λ c. record { sound = c.before.before.before.before.before.before.requires.1.sound; indexed = c.before.index_all.ensures.1; places = c.pair_starts.ensures }))

@@ -29,11 +29,11 @@ abbrev setting_of : List ℕ → List ℕ → List ℕ → List ℕ → ℕ → 
 setting_of variables values starts members m =
     record { lists = record { variables = variables; values = values; starts = starts }; members = members; m = m }
 
-abbrev invariant-loop : tie.invariant-loop
+abbrev invariant-loop : tie.invariant-loop-taken
 invariant-loop variables values starts members m index pair-starts words₀ numbers₀ waiting₀ words numbers waiting =
     Progress (setting_of variables values starts members m) words₀ numbers₀ waiting.words words numbers
 
-abbrev decreases-loop : tie.decreases-loop
+abbrev decreases-loop : tie.decreases-loop-taken
 decreases-loop variables values starts members m index pair-starts words₀ numbers₀ waiting₀ words numbers waiting =
     weight (setting_of variables values starts members m) waiting.words words
 
@@ -47,11 +47,11 @@ abbrev sound : (s : tie.Start invariant-loop decreases-loop) → Sound (given s)
 sound s = s.requires.0.1.sound
 
 -- the start of the function, from the loop's test on
-abbrev entry : tie.At-loop invariant-loop decreases-loop → tie.Start invariant-loop decreases-loop
+abbrev entry : tie.At-loop-taken invariant-loop decreases-loop → tie.Start invariant-loop decreases-loop
 entry c = c.before.before.before.before.before.before.before.before.before.before.before.before
 
 -- the loop's test, from the visit on
-abbrev test : tie.After-visit invariant-loop decreases-loop → tie.At-loop invariant-loop decreases-loop
+abbrev test : tie.After-visit-waiting invariant-loop decreases-loop → tie.At-loop-taken invariant-loop decreases-loop
 test c = c.before.before.before.before.before.before.before
 
 -- how many numbers there are
@@ -71,77 +71,77 @@ fills c =
     c.fill.ensures ∙ ap (λ (n : ℕ). replicate n no_support ++ drop n s.args.numbers.now) (wanted c.before)
 
 -- the pair taken is one
-pair-below : (c : tie.Else1 invariant-loop decreases-loop) → c.before.before.take.result.pair < length (entry c.before.before.before).args.members.now
+pair-below : (c : tie.Else-wide-members invariant-loop decreases-loop) → c.before.before.take-taken.result.pair < length (entry c.before.before.before).args.members.now
 pair-below c = omega arith
 
-loop-holds : tie.Need-loop-init invariant-loop decreases-loop
+loop-holds : tie.Need-loop-taken-init invariant-loop decreases-loop
 loop-holds c =
     let s = c.before.before.before.before.before.before.before.before.before.before.before in
     let a = s.args in
     let G = given s in
     let fill = c.before.before.before.fill in
-    let f : (i : ℕ) → Fits w64 (get_or c.full.result.words i 0) = λ i. search rules in
+    let f : (i : ℕ) → Fits w64 (get_or c.full-waiting.result.words i 0) = λ i. search rules in
     record {
-      sixteen = words_of c.full.result.words (search rules) f;
+      sixteen = words_of c.full-waiting.result.words (search rules) f;
       working = filled-working G (sound s) a.words.now a.numbers.now fill.new.0 s.requires.1 (fills c.before.before.before);
       shrunk = shrunk-refl G a.words.now s.requires.0.0.small;
       beyond = refl;
       long = refl;
-      rest = full-rest G (sound s) c.full.result.words a.words.now fill.new.0 (length a.members.now) refl c.full.ensures;
+      rest = full-rest G (sound s) c.full-waiting.result.words a.words.now fill.new.0 (length a.members.now) refl c.full-waiting.ensures;
     }
 
 -- the queue that a visit gives back has sixteen words
-visit-words : (c : tie.After-visit invariant-loop decreases-loop) → Words c.visit.result.words
+visit-words : (c : tie.After-visit-waiting invariant-loop decreases-loop) → Words c.visit-waiting.result.words
 visit-words c =
-    let f : (i : ℕ) → Fits w64 (get_or c.visit.result.words i 0) = λ i. search rules in
-    words_of c.visit.result.words (search rules) f
+    let f : (i : ℕ) → Fits w64 (get_or c.visit-waiting.result.words i 0) = λ i. search rules in
+    words_of c.visit-waiting.result.words (search rules) f
 
-visit-requires : tie.Need-visit-requires invariant-loop decreases-loop
+visit-requires : tie.Need-visit-waiting-requires invariant-loop decreases-loop
 visit-requires c κs =
     let t = c.before.before.before.before.before.before in
     let s = entry t in (
-      shrunk-array (given s) s.args.words.now t.loop.words t.loop.invariant.shrunk s.pre.0.0,
-      record { prepared = s.pre.0.1; working = t.loop.invariant.working; pair = pair-below c.before.before.before },
+      shrunk-array (given s) s.args.words.now t.loop-taken.words t.loop-taken.invariant.shrunk s.requires.0.0,
+      record { prepared = s.requires.0.1; working = t.loop-taken.invariant.working; pair = pair-below c.before.before.before },
     )
 
-loop-less : tie.Need-loop-smaller invariant-loop decreases-loop
+loop-less : tie.Need-loop-taken-smaller invariant-loop decreases-loop
 loop-less c =
     let v = c.before.before in
     let t = test v in
     let s = entry t in
-    let take = v.before.before.before.before.before.before.take in
-    weight-less (given s) (sound s) t.loop.waiting.words t.loop.inv.sixteen take.result.pair take.ensures.0 (pair-below v.before.before.before.before) take.result.rest.words take.ensures.1
-    s.args.words.now s.args.numbers.now t.loop.words t.loop.numbers v.visit.result.words v.visit.new.1.1.1.1.1.1.1.1.0 v.visit.new.1.1.1.1.1.1.1.1.1.0 v.visit.ensures
+    let take = v.before.before.before.before.before.before.take-taken in
+    weight-less (given s) (sound s) t.loop-taken.waiting.words t.loop-taken.inv.sixteen take.result.pair take.ensures.0 (pair-below v.before.before.before.before) take.result.rest.words take.ensures.1
+    s.args.words.now s.args.numbers.now t.loop-taken.words t.loop-taken.numbers v.visit-waiting.result.words v.visit-waiting.new.1.1.1.1.1.1.1.1.0 v.visit-waiting.new.1.1.1.1.1.1.1.1.1.0 v.visit-waiting.ensures
 
-loop-again : tie.Need-loop-preserved invariant-loop decreases-loop
+loop-again : tie.Need-loop-taken-preserved invariant-loop decreases-loop
 loop-again c =
     let v = c.before.before in
     let t = test v in
     let s = entry t in
-    let take = v.before.before.before.before.before.before.take in
-    underway (given s) (sound s) t.loop.waiting.words t.loop.inv.sixteen take.result.pair take.ensures.0 (pair-below v.before.before.before.before) take.result.rest.words take.ensures.1
-    s.args.words.now t.before.before.before.before.fill.last.0 t.loop.words t.loop.numbers v.visit.result.words v.visit.new.1.1.1.1.1.1.1.1.0 v.visit.new.1.1.1.1.1.1.1.1.1.0 v.visit.ensures
-    (visit-words v) t.loop.inv
+    let take = v.before.before.before.before.before.before.take-taken in
+    underway (given s) (sound s) t.loop-taken.waiting.words t.loop-taken.inv.sixteen take.result.pair take.ensures.0 (pair-below v.before.before.before.before) take.result.rest.words take.ensures.1
+    s.args.words.now t.before.before.before.before.fill.last.0 t.loop-taken.words t.loop-taken.numbers v.visit-waiting.result.words v.visit-waiting.new.1.1.1.1.1.1.1.1.0 v.visit-waiting.new.1.1.1.1.1.1.1.1.1.0 v.visit-waiting.ensures
+    (visit-words v) t.loop-taken.inv
 
-blank-all-requires : tie.Need-blank-all-requires invariant-loop decreases-loop
+blank-all-requires : tie.Need-blank_all-requires invariant-loop decreases-loop
 blank-all-requires c κs =
     let t = c.before.before.before.before.before.before in
     let s = entry t in
-    let space = t.loop.invariant.working.space in
+    let space = t.loop-taken.invariant.working.space in
     record {
       framed = (sound s).laid.framed;
       paired = (sound s).paired;
-      places = s.pre.0.1.places;
+      places = s.requires.0.1.places;
       enough = space.enough;
       room = omega (arith, needed-outline (given s).lists (listed (given s)), space.room);
     }
 
 -- no pair waits
-finished : (c : tie.Then1 invariant-loop decreases-loop) → (let t = c.before.before.before in let G = given (entry t) in (q : ℕ) → q < length G.members → Done G t.loop.words t.loop.numbers q (size_of G q))
+finished : (c : tie.Then-wide-members invariant-loop decreases-loop) → (let t = c.before.before.before in let G = given (entry t) in (q : ℕ) → q < length G.members → Done G t.loop-taken.words t.loop-taken.numbers q (size_of G q))
 finished c =
     let t = c.before.before.before in
-    let take = c.before.before.take in
-    all_done (given (entry t)) (sound (entry t)) t.loop.words t.loop.numbers t.loop.waiting.words take.result.pair take.ensures.0 (omega arith) t.loop.invariant.rest
+    let take = c.before.before.take-taken in
+    all_done (given (entry t)) (sound (entry t)) t.loop-taken.words t.loop-taken.numbers t.loop-taken.waiting.words take.result.pair take.ensures.0 (omega arith) t.loop-taken.invariant.rest-1
 
 returns : tie.Need-returns invariant-loop decreases-loop
 returns c =
@@ -150,27 +150,27 @@ returns c =
     let G = given s in
     let N = network G in
     let a = s.args in
-    let l = t.loop in
+    let l = t.loop-taken in
     let done = finished c.before.before.before.before.before.before in
-    let final = c.before.before.blank-all.new.1.1.1.1.1.0 in
+    let final = c.before.before.blank_all.new.1.1.1.1.1.0 in
     let n = needed N (listed G) in
-    let beyond = l.invariant.beyond ∙ filled-beyond G (sound s) a.words.now a.numbers.now t.before.before.before.before.fill.new.0 s.pre.1 (fills t.before.before.before.before) in (
-      words-end G (sound s) l.words l.numbers done a.words.now l.invariant.shrunk,
-      numbers-end G (sound s) l.words l.numbers done final (blanked-network G.lists c.before.before.blank-all.ensures) a.numbers.now beyond
-          ∙ ap (λ (T : TupleSet). support_list N (listed G) T ++ drop n a.numbers.now) (left G (sound s) l.words l.numbers done a.words.now l.invariant.shrunk),
+    let beyond = l.invariant.beyond ∙ filled-beyond G (sound s) a.words.now a.numbers.now t.before.before.before.before.fill.new.0 s.requires.1 (fills t.before.before.before.before) in (
+      words-end G (sound s) l.words l.numbers-1 done a.words.now l.invariant.shrunk,
+      numbers-end G (sound s) l.words l.numbers-1 done final (blanked-network G.lists c.before.before.blank_all.ensures) a.numbers.now beyond
+          ∙ ap (λ (T : TupleSet). support_list N (listed G) T ++ drop n a.numbers.now) (left G (sound s) l.words l.numbers-1 done a.words.now l.invariant.shrunk),
     )
 
-same_length : tie.Need-same-length invariant-loop decreases-loop
+same_length : tie.Need-shape_of-numbers invariant-loop decreases-loop
 same_length c =
     let t = c.before.before.before.before.before.before.before.before.before in
     let s = entry t in
     let a = s.args in
-    c.before.before.blank-all.ensures.long
-    ∙ t.loop.invariant.long
-    ∙ filled-long (given s) (sound s) a.words.now a.numbers.now t.before.before.before.before.fill.new.0 s.pre.1 (fills t.before.before.before.before)
+    c.before.before.blank_all.ensures.long
+    ∙ t.loop-taken.invariant.long
+    ∙ filled-long (given s) (sound s) a.words.now a.numbers.now t.before.before.before.before.fill.new.0 s.requires.1 (fills t.before.before.before.before)
 
-pub settle-spec : {M : Type 1} → statement M
-settle-spec =
+pub settle_spec : {M : Type 1} → statement M
+settle_spec =
     tie.close
     (tie.spec
     invariant-loop
@@ -182,7 +182,8 @@ settle-spec =
     (λ c. let s = c.before.before.before.before.before.before.before.before.before.before in omega (arith, (sound s).paired.list.short))
     (λ c κs. let s = c.before.before.before.before.before.before.before.before.before.before in omega (arith, (sound s).paired.list.short))
     loop-holds
-    (λ c κs. search rules) (λ c κs. search rules)
+    (λ c κs. search rules)
+    (λ c κs. search rules)
     visit-requires
     loop-less
     loop-again

@@ -6,11 +6,17 @@ use Rattle.worklist.specs.Supports.{Chosen}
 use Rattle.engine.proofs.rest.holds.Statement.{statement}
 use Rattle.engine.proofs.rest.holds.Tie as tie
 
-all-live-requires : tie.Need-all-live-requires
+all-live-requires : tie.Need-all_live-requires
 all-live-requires c κs =
     let l = c.before in
     let s = l.before.before.before.before.before in
-    subst (Chosen s.args.words.now s.args.starts.now s.args.members.now s.args.base s.args.each) (sym l.load.ensures) (s.requires.chosen l.before.if1.false)
+    subst (Chosen s.args.words.now s.args.starts.now s.args.members.now s.args.base s.args.each) (sym l.load-held.ensures) (s.requires.chosen l.before.if-numbers-at.false)
 
-pub holds-spec : {M : Type 1} → statement M
-holds-spec = tie.close (tie.spec (λ c. search rules) (λ c. search rules) (λ c. search rules) (λ c κs. search rules) all-live-requires (λ c. search rules))
+pub holds_spec : {M : Type 1} → statement M
+holds_spec = tie.close (tie.spec
+    (λ c. search rules)
+    (λ c. search rules)
+    (λ c. search rules)
+    (λ c κs. search rules)
+    all-live-requires
+    (λ c. search rules))

@@ -29,48 +29,48 @@ module _ (a : tie.Start) where
       }
 
   abbrev seeker : Seeker G a.args.words.now a.args.numbers.now a.args.p a.args.x
-  seeker = a.pre.1.0.seek.seeker
+  seeker = a.requires.1.0.seek.seeker
 
   abbrev sound : Sound G
   sound = seeker.sound
 
   inside : a.args.at + a.args.m ≤ length a.args.numbers.now
-  inside = omega (arith, a.pre.1.0.seek.place, held-inside seeker)
+  inside = omega (arith, a.requires.1.0.seek.place, held-inside seeker)
 
-abbrev entry : tie.After-wide → tie.Start
+abbrev entry : tie.After-wide-each → tie.Start
 entry c = c.before.before.before.before.before
 
-each-is : (c : tie.After-wide) → c.wide.result ≡ (entry c).args.m
-each-is c = c.wide.ensures.0
+each-is : (c : tie.After-wide-each) → c.wide-each.result ≡ (entry c).args.m
+each-is c = c.wide-each.ensures.0
 
 -- ---- What is held
 
-abbrev begun : tie.After-wide2 → tie.After-wide
+abbrev begun : tie.After-wide → tie.After-wide-each
 begun c = c.before.before.before.before.before.before.before
 
-base-is : (c : tie.After-wide2) → (let w = begun c in let a = entry w in c.wide2.result / w.wide.result * w.wide.result ≡ a.args.p / a.args.m * a.args.m)
-base-is c = ap₂ (λ (q n : ℕ). q / n * n) c.wide2.ensures.0 (each-is (begun c))
+base-is : (c : tie.After-wide) → (let w = begun c in let a = entry w in c.wide.result / w.wide-each.result * w.wide-each.result ≡ a.args.p / a.args.m * a.args.m)
+base-is c = ap₂ (λ (q n : ℕ). q / n * n) c.wide.ensures.0 (each-is (begun c))
 
-loaded-is : (c : tie.After-load) → (let a = entry c.before.before.before.before in c.load.result ≡ loaded (seeker a))
+loaded-is : (c : tie.After-load-held) → (let a = entry c.before.before.before.before in c.load-held.result ≡ loaded (seeker a))
 loaded-is c =
     let w = c.before.before.before.before in
     let a = entry w in
-    c.load.ensures
-    ∙ ap₂ (λ (n at : ℕ). take n (drop at a.args.numbers.now) ++ replicate (max_members - n) 0) (each-is w) a.pre.1.0.seek.place
+    c.load-held.ensures
+    ∙ ap₂ (λ (n at : ℕ). take n (drop at a.args.numbers.now) ++ replicate (max_members - n) 0) (each-is w) a.requires.1.0.seek.place
 
 -- the first number is an index
-is-index : (c : tie.Then1) → lead (seeker (entry c.before.before)) ≡ no_support → ⊥
+is-index : (c : tie.Then-numbers-at) → lead (seeker (entry c.before.before)) ≡ no_support → ⊥
 is-index c e =
     let a = entry c.before.before in
-    c.if1.true (ap (λ (i : ℕ). get_or a.args.numbers.now i 0) a.pre.1.0.seek.place ∙ e)
+    c.if-numbers-at.true (ap (λ (i : ℕ). get_or a.args.numbers.now i 0) a.requires.1.0.seek.place ∙ e)
 
-load-requires : tie.Need-load-requires
+load-requires : tie.Need-load-held-requires
 load-requires c κs =
     let w = c.before.before.before in
     let a = entry w in
     (omega (arith, each-is w, inside a), omega (arith, each-is w, (sound a).paired.list.few))
 
-all-live-requires : tie.Need-all-live-requires
+all-live-requires : tie.Need-all_live-requires
 all-live-requires c κs =
     let l = c.before.before.before in
     let w = begun c in
@@ -78,12 +78,12 @@ all-live-requires c κs =
     let ws = a.args.words.now in
     let ts = a.args.starts.now in
     let ms = a.args.members.now in
-    subst (λ (n : ℕ). Chosen ws ts ms (c.wide2.result / w.wide.result * w.wide.result) n l.load.result) (sym (each-is w))
-    (subst (λ (b : ℕ). Chosen ws ts ms b a.args.m l.load.result) (sym (base-is c))
+    subst (λ (n : ℕ). Chosen ws ts ms (c.wide.result / w.wide-each.result * w.wide-each.result) n l.load-held.result) (sym (each-is w))
+    (subst (λ (b : ℕ). Chosen ws ts ms b a.args.m l.load-held.result) (sym (base-is c))
     (subst (Chosen ws ts ms (a.args.p / a.args.m * a.args.m) a.args.m) (sym (loaded-is l))
     (chosen (seeker a) (is-index l.before.before))))
 
-returns : tie.Need-returns
+returns : tie.Need-returns-then-all_live
 returns c =
     let q = c.before.before in
     let l = q.before.before.before in
@@ -94,22 +94,23 @@ returns c =
           (is-index l.before.before)
           (sym
           (c.before.all_live.ensures
-          ∙ ap₂ (λ (b n : ℕ). live b n l.load.result) (base-is q) (each-is w)
+          ∙ ap₂ (λ (b n : ℕ). live b n l.load-held.result) (base-is q) (each-is w)
           ∙ ap (live (a.args.p / a.args.m * a.args.m) a.args.m) (loaded-is l))
-          ∙ c.if2.true),
-      (entered-none a.args.x a.args.sought.now, (a.pre.0.1, a.pre.1.1)),
+          ∙ c.if-all_live.true),
+      (entered-none a.args.x a.args.sought.now, (a.requires.0.1, a.requires.1.1)),
     )
 
-pub renew-spec : {M : Type 1} → statement M
-renew-spec =
+pub renew_spec : {M : Type 1} → statement M
+renew_spec =
     tie.close
     (tie.spec
-    (λ c κs. search rules) (λ c. let i = inside (entry c) in search rules)
+    (λ c κs. search rules)
+    (λ c. let i = inside (entry c) in search rules)
     (λ c. let a = entry c.before in omega (arith, inside a, (sound a).paired.list.positive))
     load-requires
     (λ c κs. search rules)
     (λ c. let w = begun c in omega (arith, each-is w, (sound (entry w)).paired.list.positive))
-    (λ c. omega (arith, div-mul-le_self c.wide2.result (begun c).wide.result))
+    (λ c. omega (arith, div-mul-le_self c.wide.result (begun c).wide-each.result))
     all-live-requires
     (λ c. search rules)
     returns

@@ -29,7 +29,7 @@ module _ (a : tie.Start) where
       }
 
   abbrev seeker : Seeker G a.args.words.now a.args.numbers.now a.args.p a.args.x
-  seeker = a.pre.1.0.seek.seeker
+  seeker = a.requires.1.0.seek.seeker
 
   abbrev sound : Sound G
   sound = seeker.sound
@@ -42,40 +42,40 @@ entry c = c.before.before.before.before.before
 
 -- ---- The tuple's id
 
-module _ (c : tie.After-tuple-start) where
+module _ (c : tie.After-tuple_start) where
   abbrev start : tie.Start
   start = entry c.before.before
 
-  id-is : c.tuple-start.result + start.args.x ≡ tuple_id (G start) start.args.p start.args.x
+  id-is : c.tuple_start.result + start.args.x ≡ tuple_id (G start) start.args.p start.args.x
   id-is =
       let h = member-few start in
       ap (λ (g : ℕ). g + start.args.x)
-      (c.tuple-start.ensures
+      (c.tuple_start.ensures
       ∙ ap (λ (q : ℕ). tuple_start start.args.starts.now (get_or start.args.members.now q 0)) c.before.before.wide.ensures.0
       ∙ tuple-start (sound start).laid.framed (pair_member start.args.members.now start.args.p) (omega arith))
 
-  id_below : c.tuple-start.result + start.args.x < total (network (G start))
+  id_below : c.tuple_start.result + start.args.x < total (network (G start))
   id_below = omega (arith, id-is, tuple-below (sound start) start.args.p start.args.x (seeker start).pair (seeker start).index)
 
-tuple-start-requires : tie.Need-tuple-start-requires
+tuple-start-requires : tie.Need-tuple_start-requires
 tuple-start-requires c κs =
     let w = c.before in
     let a = entry w in
     let h = member-few a in
     subst (λ (q : ℕ). get_or a.args.members.now q 0 < 65) (sym w.wide.ensures.0) (omega arith)
 
-is-live-requires : tie.Need-is-live-requires
+is-live-requires : tie.Need-is_live-requires
 is-live-requires c κs =
     let t = c.before in
     let a = start t in
-    omega (arith, id_below t, tuples-few (sound a).laid.framed, a.pre.1.1.0.0)
+    omega (arith, id_below t, tuples-few (sound a).laid.framed, a.requires.1.1.0.0)
 
 clear-requires : tie.Need-clear-requires
 clear-requires c κs =
     let t = c.before.before.before.before in
     omega (arith, id_below t, (seeker (start t)).working.space.enough)
 
-returns : tie.Need-returns
+returns : tie.Need-returns-then-is_live
 returns c =
     let h = c.before.before in
     let t = h.before.before.before in
@@ -85,14 +85,14 @@ returns c =
         removed = λ _. (
           c.clear.ensures ∙ ap (λ (g : ℕ). cleared g a.args.words.now) (id-is t),
           refl,
-          a.pre.1.1.0.1 a.args.x (seeker a).index (ap (is_live a.args.doomed.now) (sym (id-is t)) ∙ sym h.before.is_live.ensures ∙ h.if1.true),
+          a.requires.1.1.0.1 a.args.x (seeker a).index (ap (is_live a.args.doomed.now) (sym (id-is t)) ∙ sym h.before.is_live.ensures ∙ h.if-is_live.true),
         );
       },
-      (entered-none a.args.x a.args.sought.now, (a.pre.0.1, a.pre.1.1.1)),
+      (entered-none a.args.x a.args.sought.now, (a.requires.0.1, a.requires.1.1.1)),
     )
 
-pub renew-or-fall-spec : {M : Type 1} → statement M
-renew-or-fall-spec =
+pub renew_or_fall_spec : {M : Type 1} → statement M
+renew_or_fall_spec =
     tie.close
     (tie.spec
     (λ c κs. search rules)
@@ -103,6 +103,6 @@ renew-or-fall-spec =
     is-live-requires
     clear-requires
     returns
-    (λ c κs. let a = start c.before.before.before.before.before.before.before.before.before in (a.pre.0, (a.pre.1.0, a.pre.1.1.1)))
+    (λ c κs. let a = start c.before.before.before.before.before.before.before.before.before in (a.requires.0, (a.requires.1.0, a.requires.1.1.1)))
     (λ c. search rules)
     (λ c. c.before.before.renew.ensures))

@@ -35,7 +35,7 @@ module _ (a : tie.Start) where
       }
 
   abbrev seeker : Seeker G a.args.words.now a.args.numbers.now a.args.p a.args.x
-  seeker = a.pre.1.0.seek.seeker
+  seeker = a.requires.1.0.seek.seeker
 
   abbrev sound : Sound G
   sound = seeker.sound
@@ -45,7 +45,7 @@ module _ (a : tie.Start) where
 abbrev entry : tie.After-take-twin-arg3 → tie.Start
 entry c = c.before.before.before.before.before.before.before
 
-take-twin-requires : tie.Need-take-twin-requires
+take-twin-requires : tie.Need-take_twin-twin-requires
 take-twin-requires c κs =
     let a = entry c in
     let s = seeker a in (
@@ -55,89 +55,89 @@ take-twin-requires c κs =
         lives = s.lives;
         enough = s.working.space.enough;
         room = s.working.space.room;
-        done = a.pre.1.0.done;
-        begins = a.pre.1.0.seek.place;
+        done = a.requires.1.0.done;
+        begins = a.requires.1.0.seek.place;
       },
-      (a.pre.1.0.noted, a.pre.1.0.sided),
+      (a.requires.1.0.noted, a.requires.1.0.sided),
     )
 
-abbrev start : tie.After-slice-known2 → tie.Start
+abbrev start : tie.After-slice_known-2-1 → tie.Start
 start c = entry c.before.before.before
 
 -- the numbers after it
-abbrev numbers_after : tie.After-slice-known2 → List ℕ
-numbers_after c = c.before.before.take-twin.new.1.1.1.1.1.1.0
+abbrev numbers_after : tie.After-slice_known-2-1 → List ℕ
+numbers_after c = c.before.before.take_twin-twin.new.1.1.1.1.1.1.0
 
 -- what comes of it
-came : (c : tie.After-slice-known2) (t : Twin) → c.before.before.take-twin.result ≡ t → (let a = start c in Outcome (G a) a.args.p a.args.x a.args.words.now a.args.numbers.now t (numbers_after c))
+came : (c : tie.After-slice_known-2-1) (t : Twin) → c.before.before.take_twin-twin.result ≡ t → (let a = start c in Outcome (G a) a.args.p a.args.x a.args.words.now a.args.numbers.now t (numbers_after c))
 came c t e =
     let a = start c in
-    subst (λ (t : Twin). Outcome (G a) a.args.p a.args.x a.args.words.now a.args.numbers.now t (numbers_after c)) e c.before.before.take-twin.ensures.0
+    subst (λ (t : Twin). Outcome (G a) a.args.p a.args.x a.args.words.now a.args.numbers.now t (numbers_after c)) e c.before.before.take_twin-twin.ensures.0
 
 -- ---- It is taken
 
-returns : tie.Need-returns
+returns : tie.Need-returns-in-Taken
 returns c =
     let k = c.before.before in
-    let t = came k twin.Taken c.enum_told.given.1 in
-    (record { kept = λ _. (refl, t.0, t.1); removed = λ q. absurd (true≢false q) }, (k.before.before.take-twin.ensures.1, ((start k).requires.0.1, (start k).requires.1.1)))
+    let t = came k twin.Taken c.enum_told-1.given.1 in
+    (record { kept = λ _. (refl, t.0, t.1); removed = λ q. absurd (true≢false q) }, (k.before.before.take_twin-twin.ensures.1, ((start k).requires.0.1, (start k).requires.1.1)))
 
 -- ---- It fell
 
-abbrev fell : tie.After-tuple-start → tie.After-slice-known2
+abbrev fell : tie.After-tuple_start → tie.After-slice_known-2-1
 fell c = c.before.before.before.before.before.before
 
-id-is : (c : tie.After-tuple-start) → (let a = start (fell c) in c.tuple-start.result + a.args.x ≡ tuple_id (G a) a.args.p a.args.x)
+id-is : (c : tie.After-tuple_start) → (let a = start (fell c) in c.tuple_start.result + a.args.x ≡ tuple_id (G a) a.args.p a.args.x)
 id-is c =
     let a = start (fell c) in
     let h = member_below (sound a).laid.framed (sound a).paired a.args.p (seeker a).pair in
     ap (λ (g : ℕ). g + a.args.x)
-    (c.tuple-start.ensures
+    (c.tuple_start.ensures
     ∙ ap (λ (q : ℕ). tuple_start a.args.starts.now (get_or a.args.members.now q 0)) c.before.before.wide.ensures.0
     ∙ tuple-start (sound a).laid.framed (pair_member a.args.members.now a.args.p) (omega arith))
 
-id_below : (c : tie.After-tuple-start) → (let a = start (fell c) in c.tuple-start.result + a.args.x < total (network (G a)))
+id_below : (c : tie.After-tuple_start) → (let a = start (fell c) in c.tuple_start.result + a.args.x < total (network (G a)))
 id_below c = let a = start (fell c) in omega (arith, id-is c, tuple-below (sound a) a.args.p a.args.x (seeker a).pair (seeker a).index)
 
-tuple-start-requires : tie.Need-tuple-start-requires
+tuple-start-requires : tie.Need-tuple_start-requires
 tuple-start-requires c κs =
     let a = start c.before.before.before.before.before in
     let h = member_below (sound a).laid.framed (sound a).paired a.args.p (seeker a).pair in
     subst (λ (q : ℕ). get_or a.args.members.now q 0 < 65) (sym c.before.wide.ensures.0) (omega arith)
 
-returns-2 : tie.Need-returns-2
+returns-2 : tie.Need-returns-in-Fallen
 returns-2 c =
     let l = c.before in
     let k = fell l in
     let a = start k in
-    let t = came k twin.Fallen l.before.before.before.before.enum-told2.given.1 in (
+    let t = came k twin.Fallen l.before.before.before.before.enum_told-in-Fallen-1.given.1 in (
       record {
         kept = λ q. absurd (true≢false (sym q));
         removed = λ _. (c.clear.ensures ∙ ap (λ (g : ℕ). cleared g a.args.words.now) (id-is l), t.0, t.1);
       },
-      (k.before.before.take-twin.ensures.1, (a.pre.0.1, a.pre.1.1)),
+      (k.before.before.take_twin-twin.ensures.1, (a.requires.0.1, a.requires.1.1)),
     )
 
 -- ---- There is none
 
 -- nothing has changed
-same : (c : tie.After-enum-told3) → (let k = c.before.before in numbers_after k ≡ (start k).args.numbers.now)
-same c = came c.before.before twin.None c.enum-told3.given.1
+same : (c : tie.In-None) → (let k = c.before.before in numbers_after k ≡ (start k).args.numbers.now)
+same c = came c.before.before twin.None c.enum_told-in-None-1.given.1
 
 seek-requires : tie.Need-seek-requires
 seek-requires c κs =
     let e = c.before.before.before.before.before in
     let a = start e.before.before in
-    ((a.pre.0.0, subst (λ (ns : List ℕ). SeekAt (G a) a.args.index.now a.args.words.now ns a.args.p a.args.x a.args.at) (sym (same e)) a.pre.1.0.seek), ((a.pre.0.1, a.pre.0.2), a.pre.1.1))
+    ((a.requires.0.0, subst (λ (ns : List ℕ). SeekAt (G a) a.args.index.now a.args.words.now ns a.args.p a.args.x a.args.at) (sym (same e)) a.requires.1.0.seek), ((a.requires.0.1, a.requires.0.2), a.requires.1.1))
 
-returns-3 : tie.Need-returns-3
+returns-3 : tie.Need-returns-in-None
 returns-3 c =
     let s = c.before.before in
     let e = s.before.before.before.before.before.before in
     let k = e.before.before in
     let a = start k in (
       subst (λ (ns : List ℕ). Renewed (G a) a.args.p a.args.x a.args.words.now ns (is_found s.seek.result) s.seek.new.1.1.1.1.1.1.0 s.seek.new.1.1.1.1.1.1.1.0) (same e) s.seek.ensures.0,
-      (k.before.before.take-twin.ensures.1, s.seek.ensures.1),
+      (k.before.before.take_twin-twin.ensures.1, s.seek.ensures.1),
     )
 
 pub replace_spec : {M : Type 1} → statement M
@@ -145,7 +145,9 @@ replace_spec =
     tie.close
     (tie.spec
     take-twin-requires
-    (λ c. search rules) (λ c. search rules) (λ c κs. search rules)
+    (λ c. search rules)
+    (λ c. search rules)
+    (λ c κs. search rules)
     (λ c. omega (arith, c.wide.ensures.1))
     (λ c. omega (arith, c.before.wide.ensures.0, (seeker (start c.before.before.before.before.before)).pair))
     tuple-start-requires

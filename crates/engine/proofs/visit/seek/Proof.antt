@@ -39,7 +39,7 @@ module _ (a : tie.Start) where
       }
 
   abbrev seeker : Seeker G a.args.words.now a.args.numbers.now a.args.p a.args.x
-  seeker = a.pre.0.1.seeker
+  seeker = a.requires.0.1.seeker
 
   abbrev sound : Sound G
   sound = seeker.sound
@@ -48,10 +48,10 @@ module _ (a : tie.Start) where
   in_members = seeker.pair
 
   abbrev is_at : a.args.at ≡ place_of G a.args.p a.args.x
-  is_at = a.pre.0.1.place
+  is_at = a.requires.0.1.place
 
   abbrev lean : LeanIn G a.args.p a.args.words.now a.args.lean.now
-  lean = a.pre.1.0.1
+  lean = a.requires.1.0.1
 
   inside : a.args.at + a.args.m ≤ length a.args.numbers.now
   inside = omega (arith, is_at, held-inside seeker)
@@ -59,25 +59,25 @@ module _ (a : tie.Start) where
   abbrev loaded_of : List ℕ
   loaded_of = loaded seeker
 
-abbrev entry : tie.After-wide2 → tie.Start
+abbrev entry : tie.After-wide-pair → tie.Start
 entry c = c.before.before.before.before.before.before
 
 -- ---- The numbers as they are read
 
-each-is : (c : tie.After-wide2) → c.before.wide.result ≡ (entry c).args.m
-each-is c = c.before.wide.ensures.0
+each-is : (c : tie.After-wide-pair) → c.before.wide-each.result ≡ (entry c).args.m
+each-is c = c.before.wide-each.ensures.0
 
-pair_is : (c : tie.After-wide2) → c.wide2.result ≡ (entry c).args.p
-pair_is c = c.wide2.ensures.0
+pair_is : (c : tie.After-wide-pair) → c.wide-pair.result ≡ (entry c).args.p
+pair_is c = c.wide-pair.ensures.0
 
-place_is : (c : tie.After-wide2) → c.wide2.result % c.before.wide.result ≡ (entry c).args.p % (entry c).args.m
+place_is : (c : tie.After-wide-pair) → c.wide-pair.result % c.before.wide-each.result ≡ (entry c).args.p % (entry c).args.m
 place_is c = ap₂ (λ (q n : ℕ). q % n) (pair_is c) (each-is c)
 
-end_is : (c : tie.After-wide2) → c.wide2.result / c.before.wide.result * c.before.wide.result + c.before.wide.result ≤ length (entry c).args.members.now
-end_is c = let a = entry c in part-within (sound a) (in_members a) c.wide2.result c.before.wide.result (pair_is c) (each-is c)
+end_is : (c : tie.After-wide-pair) → c.wide-pair.result / c.before.wide-each.result * c.before.wide-each.result + c.before.wide-each.result ≤ length (entry c).args.members.now
+end_is c = let a = entry c in part-within (sound a) (in_members a) c.wide-pair.result c.before.wide-each.result (pair_is c) (each-is c)
 
 -- the numbers loaded
-loaded-is : (w : tie.After-wide2) {low : List ℕ} → (let a = entry w in let n = w.before.wide.result in low ≡ take n (drop a.args.at a.args.numbers.now) ++ replicate (max_members - n) 0) → low ≡ loaded_of (entry w)
+loaded-is : (w : tie.After-wide-pair) {low : List ℕ} → (let a = entry w in let n = w.before.wide-each.result in low ≡ take n (drop a.args.at a.args.numbers.now) ++ replicate (max_members - n) 0) → low ≡ loaded_of (entry w)
 loaded-is w e =
     let a = entry w in
     e ∙ ap₂ (λ (n at : ℕ). take n (drop at a.args.numbers.now) ++ replicate (max_members - n) 0) (each-is w) (is_at a)
@@ -85,78 +85,78 @@ loaded-is w e =
 lead_is : (a : tie.Start) → get_or a.args.numbers.now a.args.at 0 ≡ lead (seeker a)
 lead_is a = ap (λ (i : ℕ). get_or a.args.numbers.now i 0) (is_at a)
 
-low-is : (c : tie.Joined1) → c.if1.low ≡ low_of (seeker (entry c.before.before.before))
+low-is : (c : tie.Joined-numbers-at) → c.if-numbers-at.low ≡ low_of (seeker (entry c.before.before.before))
 low-is c =
     let w = c.before.before.before in
     let a = entry w in
     ⊎_elim
-    {C = c.if1.low ≡ low_of (seeker a)}
+    {C = c.if-numbers-at.low ≡ low_of (seeker a)}
     (λ t. t.3 ∙ loaded-is w t.2.ensures ∙ sym (low_held (seeker a) (λ e. t.0.taken (lead_is a ∙ e))))
-    (λ t. t.1 ∙ c.before.before.put.ensures ∙ ap (λ (q : ℕ). set (replicate max_members 0) q a.args.x) (place_is w) ∙ sym (low-none (seeker a) (sym (lead_is a) ∙ t.0.left)))
-    c.if1.branch
+    (λ t. t.1 ∙ c.before.before.put-low.ensures ∙ ap (λ (q : ℕ). set (replicate max_members 0) q a.args.x) (place_is w) ∙ sym (low-none (seeker a) (sym (lead_is a) ∙ t.0.left)))
+    c.if-numbers-at.branch-raw
 
 -- the combination
-is-part : (c : tie.After-wide2) → (let a = entry c in let n = c.before.wide.result in let b = c.wide2.result / n * n in take (b + n - b) (drop b a.args.members.now) ≡ combination_of (G a) a.args.p)
-is-part c = let a = entry c in part-is (sound a) (in_members a) c.wide2.result c.before.wide.result (pair_is c) (each-is c)
+is-part : (c : tie.After-wide-pair) → (let a = entry c in let n = c.before.wide-each.result in let b = c.wide-pair.result / n * n in take (b + n - b) (drop b a.args.members.now) ≡ combination_of (G a) a.args.p)
+is-part c = let a = entry c in part-is (sound a) (in_members a) c.wide-pair.result c.before.wide-each.result (pair_is c) (each-is c)
 
 -- the search
 abbrev search_of : tie.Start → List ℕ → ℕ → List ℕ → Search
 search_of a members place low =
     record { lists = (G a).lists; words = a.args.lean.now; members = members; place = place; own = a.args.x; low = low }
 
-search_is : (c : tie.Joined1) → (let w = c.before.before.before in let a = entry w in let n = w.before.wide.result in let b = w.wide2.result / n * n in search_of a (take (b + n - b) (drop b a.args.members.now)) (w.wide2.result % n) c.if1.low ≡ searched (seeker a) a.args.lean.now)
+search_is : (c : tie.Joined-numbers-at) → (let w = c.before.before.before in let a = entry w in let n = w.before.wide-each.result in let b = w.wide-pair.result / n * n in search_of a (take (b + n - b) (drop b a.args.members.now)) (w.wide-pair.result % n) c.if-numbers-at.low ≡ searched (seeker a) a.args.lean.now)
 search_is c =
     let w = c.before.before.before in
     let a = entry w in
-    ap₂ (λ (ms : List ℕ) (q : ℕ). search_of a ms q c.if1.low) (is-part w) (place_is w)
+    ap₂ (λ (ms : List ℕ) (q : ℕ). search_of a ms q c.if-numbers-at.low) (is-part w) (place_is w)
     ∙ ap (search_of a (combination_of (G a) a.args.p) (a.args.p % a.args.m)) (low-is c)
 
 -- what it answers
-answer-is : (c : tie.After-first-support) → (let a = entry c.before.before.before.before.before.before.before.before in let Q = searched (seeker a) a.args.words.now in answer (is_found c.first-support.result.kind) (take (length Q.members) c.first-support.result.tuples) ≡ support_from (net_of Q) (live_of Q) Q.members (support.seeker Q) Q.low)
+answer-is : (c : tie.After-first_support-found) → (let a = entry c.before.before.before.before.before.before.before.before in let Q = searched (seeker a) a.args.words.now in answer (is_found c.first_support-found.result.kind) (take (length Q.members) c.first_support-found.result.tuples) ≡ support_from (net_of Q) (live_of Q) Q.members (support.seeker Q) Q.low)
 answer-is c =
     let a = entry c.before.before.before.before.before.before.before.before in
-    subst (λ (Q : Search). answer (is_found c.first-support.result.kind) (take (length Q.members) c.first-support.result.tuples) ≡ support_from (net_of Q) (live_of Q) Q.members (support.seeker Q) Q.low)
+    subst (λ (Q : Search). answer (is_found c.first_support-found.result.kind) (take (length Q.members) c.first_support-found.result.tuples) ≡ support_from (net_of Q) (live_of Q) Q.members (support.seeker Q) Q.low)
     (search_is c.before.before.before.before.before)
-    c.first-support.ensures.0
+    c.first_support-found.ensures.0
     ∙ lean-searched (seeker a) (lean a)
 
 -- what is known of fresh tuples afterwards
-beside : (c : tie.After-first-support) → (let a = entry c.before.before.before.before.before.before.before.before in Beside (G a) a.args.p a.args.lean.now c.first-support.new.1.1.1.1.1.1.1.1.1.1.0)
+beside : (c : tie.After-first_support-found) → (let a = entry c.before.before.before.before.before.before.before.before in Beside (G a) a.args.p a.args.lean.now c.first_support-found.new.1.1.1.1.1.1.1.1.1.1.0)
 beside c =
-    (c.first-support.ensures.1.0.0, subst (λ (Q : Search). MeetsBeside Q c.first-support.new.1.1.1.1.1.1.1.1.1.1.0) (search_is c.before.before.before.before.before) c.first-support.ensures.1.0.1)
+    (c.first_support-found.ensures.1.0.0, subst (λ (Q : Search). MeetsBeside Q c.first_support-found.new.1.1.1.1.1.1.1.1.1.1.0) (search_is c.before.before.before.before.before) c.first_support-found.ensures.1.0.1)
 
 -- ---- The tuple's id
 
-abbrev looked : tie.After-tuple-start → tie.After-wide2
+abbrev looked : tie.After-tuple_start → tie.After-wide-pair
 looked c = c.before.before.before.before.before.before.before.before.before.before.before.before
 
-id-is : (c : tie.After-tuple-start) → (let a = entry (looked c) in c.tuple-start.result + a.args.x ≡ tuple_id (G a) a.args.p a.args.x)
+id-is : (c : tie.After-tuple_start) → (let a = entry (looked c) in c.tuple_start.result + a.args.x ≡ tuple_id (G a) a.args.p a.args.x)
 id-is c =
     let a = entry (looked c) in
     let h = member_below (sound a).laid.framed (sound a).paired a.args.p (in_members a) in
     ap (λ (g : ℕ). g + a.args.x)
-    (c.tuple-start.ensures
+    (c.tuple_start.ensures
     ∙ ap (λ (q : ℕ). tuple_start a.args.starts.now (get_or a.args.members.now q 0)) (pair_is (looked c))
     ∙ tuple-start (sound a).laid.framed (get_or a.args.members.now a.args.p 0) (omega arith))
 
-id_below : (c : tie.After-tuple-start) → (let a = entry (looked c) in c.tuple-start.result + a.args.x < total (network (G a)))
+id_below : (c : tie.After-tuple_start) → (let a = entry (looked c) in c.tuple_start.result + a.args.x < total (network (G a)))
 id_below c = let a = entry (looked c) in omega (arith, id-is c, tuple-below (sound a) a.args.p a.args.x (in_members a) (seeker a).index)
 
 -- ---- The needs
 
-load-requires : tie.Need-load-requires
+load-requires : tie.Need-load-low-requires
 load-requires c κs =
     let w = c.before.before.before.before in
     let a = entry w in
     (omega (arith, each-is w, inside a), omega (arith, each-is w, (sound a).paired.list.few))
 
-first-support-requires : tie.Need-first-support-requires
+first-support-requires : tie.Need-first_support-found-requires
 first-support-requires c κs =
     let b = c.before.before.before.before in
     let w = b.before.before.before in
     let a = entry w in (
-      ((lean a).long, record { sound = subst SoundSearch (sym (search_is b)) (ready (seeker a) (lean a).long); indexed = a.pre.0.1.indexed }),
-      ((a.pre.1.0.0.0, subst (λ (Q : Search). FreshFrom Q a.args.fresh.now) (sym (search_is b)) (record { meets = a.pre.1.0.0.1; lowest = lean-searched-lowest (seeker a) (lean a) })), a.pre.1.1),
+      ((lean a).long, record { sound = subst SoundSearch (sym (search_is b)) (ready (seeker a) (lean a).long); indexed = a.requires.0.1.indexed }),
+      ((a.requires.1.0.0.0, subst (λ (Q : Search). FreshFrom Q a.args.fresh.now) (sym (search_is b)) (record { meets = a.requires.1.0.0.1; lowest = lean-searched-lowest (seeker a) (lean a) })), a.requires.1.1),
     )
 
 store-requires : tie.Need-store-requires
@@ -165,46 +165,49 @@ store-requires c κs =
     let a = entry w in
     (omega (arith, each-is w, inside a), omega (arith, each-is w, (sound a).paired.list.few))
 
-returns : tie.Need-returns
+returns : tie.Need-returns-then-kind-eq-FOUND
 returns c =
     let f = c.before.before.before.before.before.before in
     let w = f.before.before.before.before.before.before.before.before in
     let a = entry w in (
-      subst (Renewed (G a) a.args.p a.args.x a.args.words.now a.args.numbers.now (is_found f.first-support.result.kind) a.args.words.now)
+      subst (Renewed (G a) a.args.p a.args.x a.args.words.now a.args.numbers.now (is_found f.first_support-found.result.kind) a.args.words.now)
           (sym
           (c.before.before.store.ensures
-          ∙ ap₂ (λ (at n : ℕ). take at a.args.numbers.now ++ take n f.first-support.result.tuples ++ drop (at + n) a.args.numbers.now) (is_at a) (each-is w)))
+          ∙ ap₂ (λ (at n : ℕ). take at a.args.numbers.now ++ take n f.first_support-found.result.tuples ++ drop (at + n) a.args.numbers.now) (is_at a) (each-is w)))
           (renewed-found (seeker a)
-          (is_found f.first-support.result.kind) f.first-support.result.tuples (answer-is f) (eq-eqb (f.first-support.result.kind % 2) 1 c.before.before.before.before.before.if2.true)),
-      (beside f, f.first-support.ensures.1.1),
+          (is_found f.first_support-found.result.kind) f.first_support-found.result.tuples (answer-is f) (eq-eqb (f.first_support-found.result.kind % 2) 1 c.before.before.before.before.before.if-kind-eq-FOUND.true)),
+      (beside f, f.first_support-found.ensures.1.1),
     )
 
-returns-2 : tie.Need-returns-2
+returns-2 : tie.Need-returns
 returns-2 c =
     let l = c.before in
     let f = l.before.before.before.before in
     let a = entry (looked l) in (
-      subst (λ (ws : List ℕ). Renewed (G a) a.args.p a.args.x a.args.words.now a.args.numbers.now (is_found f.first-support.result.kind) ws a.args.numbers.now)
+      subst (λ (ws : List ℕ). Renewed (G a) a.args.p a.args.x a.args.words.now a.args.numbers.now (is_found f.first_support-found.result.kind) ws a.args.numbers.now)
           (sym (c.clear.ensures ∙ ap (λ (g : ℕ). cleared g a.args.words.now) (id-is l)))
           (renewed-none (seeker a)
-          (is_found f.first-support.result.kind) f.first-support.result.tuples (answer-is f) (ne_eqb (f.first-support.result.kind % 2) 1 l.before.before.before.if2.false)),
-      (beside f, f.first-support.ensures.1.1),
+          (is_found f.first_support-found.result.kind) f.first_support-found.result.tuples (answer-is f) (ne_eqb (f.first_support-found.result.kind % 2) 1 l.before.before.before.if-kind-eq-FOUND.false)),
+      (beside f, f.first_support-found.ensures.1.1),
     )
 
-pub seek-spec : {M : Type 1} → statement M
-seek-spec =
+pub seek_spec : {M : Type 1} → statement M
+seek_spec =
     tie.close
     (tie.spec
-    (λ c κs. search rules) (λ c κs. search rules) (λ c. search rules)
-    (λ c. omega (arith, div-mul-le_self c.wide2.result c.before.wide.result))
-    (λ c. omega (arith, div-mul-le_self c.wide2.result c.before.wide.result))
+    (λ c κs. search rules)
+    (λ c κs. search rules)
+    (λ c. search rules)
+    (λ c. omega (arith, div-mul-le_self c.wide-pair.result c.before.wide-each.result))
+    (λ c. omega (arith, div-mul-le_self c.wide-pair.result c.before.wide-each.result))
     (λ c. search rules)
     (λ c κs. search rules)
     (λ c. let i = inside (entry c.before) in search rules)
     (λ c. let a = entry c.before.before in omega (arith, inside a, (sound a).paired.list.positive))
     load-requires
-    (λ c. let w = c.before.before.before in omega (arith, div-mul-le_self w.wide2.result w.before.wide.result))
-    (λ c. search rules) (λ c. search rules)
+    (λ c. let w = c.before.before.before in omega (arith, div-mul-le_self w.wide-pair.result w.before.wide-each.result))
+    (λ c. search rules)
+    (λ c. search rules)
     (λ c. end_is c.before.before.before)
     first-support-requires
     store-requires

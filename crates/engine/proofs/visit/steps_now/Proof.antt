@@ -16,7 +16,7 @@ use Rattle.engine.proofs.Parts.{part-within, part-is}
 use Rattle.engine.proofs.visit.steps_now.Statement.{statement}
 use Rattle.engine.proofs.visit.steps_now.Tie as tie
 
-module _ (c : tie.After-wide2) where
+module _ (c : tie.After-wide) where
   abbrev a : tie.Start
   a = c.before.before.before.before.before.before
 
@@ -29,32 +29,32 @@ module _ (c : tie.After-wide2) where
       }
 
   abbrev sound : Sound G
-  sound = a.pre.1.sound
+  sound = a.requires.1.sound
 
-  each-is : c.before.wide.result ≡ a.args.m
-  each-is = c.before.wide.ensures.0
+  each-is : c.before.wide-each.result ≡ a.args.m
+  each-is = c.before.wide-each.ensures.0
 
-  within : c.wide2.result / c.before.wide.result * c.before.wide.result + c.before.wide.result ≤ length a.args.members.now
-  within = part-within sound a.pre.1.pair c.wide2.result c.before.wide.result c.wide2.ensures.0 each-is
+  within : c.wide.result / c.before.wide-each.result * c.before.wide-each.result + c.before.wide-each.result ≤ length a.args.members.now
+  within = part-within sound a.requires.1.pair c.wide.result c.before.wide-each.result c.wide.ensures.0 each-is
 
   -- the part that is handed on
   abbrev part : List ℕ
-  part = let b = c.wide2.result / c.before.wide.result * c.before.wide.result in take (b + c.before.wide.result - b) (drop b a.args.members.now)
+  part = let b = c.wide.result / c.before.wide-each.result * c.before.wide-each.result in take (b + c.before.wide-each.result - b) (drop b a.args.members.now)
 
   is-part : part ≡ combination_of G a.args.p
-  is-part = part-is sound a.pre.1.pair c.wide2.result c.before.wide.result c.wide2.ensures.0 each-is
+  is-part = part-is sound a.requires.1.pair c.wide.result c.before.wide-each.result c.wide.ensures.0 each-is
 
 -- .. and the place is the member's
-place_is : (c : tie.After-wide3) → (let b = c.before.before in c.wide3.result % b.before.wide.result ≡ (a b).args.p % (a b).args.m)
-place_is c = ap₂ (λ (q n : ℕ). q % n) c.wide3.ensures.0 (each-is c.before.before)
+place_is : (c : tie.After-wide-2) → (let b = c.before.before in c.wide-2.result % b.before.wide-each.result ≡ (a b).args.p % (a b).args.m)
+place_is c = ap₂ (λ (q n : ℕ). q % n) c.wide-2.ensures.0 (each-is c.before.before)
 
-steps-once-hard-requires : tie.Need-steps-once-hard-requires
+steps-once-hard-requires : tie.Need-steps_once_hard-requires
 steps-once-hard-requires c κs =
     let w = c in
     let b = w.before.before in
     let s = a b in
-    let E = pair-asks (sound b) s.args.p s.pre.1.pair in (
-      s.pre.0,
+    let E = pair-asks (sound b) s.args.p s.requires.1.pair in (
+      s.requires.0,
       (
         (sound b).laid,
         (
@@ -64,14 +64,15 @@ steps-once-hard-requires c κs =
       ),
     )
 
-pub steps-now-spec : {M : Type 1} → statement M
-steps-now-spec =
+pub steps_now_spec : {M : Type 1} → statement M
+steps_now_spec =
     tie.close
     (tie.spec
     (λ c. search rules)
-    (λ c κs. search rules) (λ c κs. search rules)
+    (λ c κs. search rules)
+    (λ c κs. search rules)
     (λ c. omega (arith, each-is c, (sound c).paired.list.positive))
-    (λ c. omega (arith, div-mul-le_self c.wide2.result c.before.wide.result))
+    (λ c. omega (arith, div-mul-le_self c.wide.result c.before.wide-each.result))
     (λ c. let w = within c in search rules)
     (λ c. let w = within c in search rules)
     (λ c. search rules)

@@ -38,12 +38,12 @@ extend-at t = and 3 extend-kinds.ps (is 3 extend-kinds.ps μ-extend t) extend.Pr
 abbrev extend-below : ℕ → In 3 extend-kinds.ps
 extend-below t = and 3 extend-kinds.ps (falls 3 extend-kinds.ps ◌<◌ μ-extend t) extend.Pre
 
-abbrev invariant-loop : extend-lts.invariant-loop
+abbrev invariant-loop : extend-lts.invariant-loop-r
 invariant-loop near count m members k sets from list₀ found n₀ r₀ list n r =
     (r ≤ count)
     × Going m (extensions near sets members m k r count) (extensions near sets members m k from count) found list₀ n list
 
-abbrev decreases-loop : extend-lts.decreases-loop
+abbrev decreases-loop : extend-lts.decreases-loop-r
 decreases-loop near count m members k sets from list₀ found n₀ r₀ list n r = count - r
 
 abbrev callees : ℕ → extend-lts.Claims
@@ -55,61 +55,61 @@ module _ (t : ℕ) where
   Begun = extend-lts.Start (callees t) (extend-at t) extend.Post invariant-loop decreases-loop
 
   abbrev Turn : Type 0
-  Turn = extend-lts.In-loop (callees t) (extend-at t) extend.Post invariant-loop decreases-loop
+  Turn = extend-lts.In-loop-r (callees t) (extend-at t) extend.Post invariant-loop decreases-loop
 
   -- those from i on
   abbrev es : Begun → ℕ → List Combination
   es a i = extensions a.args.near.now a.args.sets.now a.args.members a.args.m a.args.k i a.args.count
 
   sized : (a : Begun) → length a.args.members ≡ 4
-  sized a = good_length (e_int w16) 4 a.args.members _ a.good.1.1.1.0
+  sized a = good_length (e_int w16) 4 a.args.members _ a.well_formed.1.1.1.0
 
   abbrev begun : Turn → Begun
   begun c = c.before.before.before.before
 
   -- more than two are left to choose
   some_left : (c : Turn) → (begun c).args.k + 2 < (begun c).args.m
-  some_left c = omega (arith, c.before.before.if1.false, (begun c).requires.1.two)
+  some_left c = omega (arith, c.before.before.if-k-m.false, (begun c).requires.1.two)
 
-  few : (c : Turn) → c.before.loop.r < max_relations
-  few c = omega (arith, c.loop-test.true, (begun c).requires.1.choice.relations)
+  few : (c : Turn) → c.before.loop-r.r < max_relations
+  few c = omega (arith, c.loop-r-test.true, (begun c).requires.1.choice.relations)
 
   -- with relation r, and without it
-  ahead : (c : extend-lts.After-joined (callees t) (extend-at t) extend.Post invariant-loop decreases-loop) → let turn = c.before.before.before.before.before in let a = begun turn in let l = turn.before.loop in Going a.args.m (extensions a.args.near.now c.joined.result (set a.args.members a.args.k l.r) a.args.m (a.args.k + 1) (l.r + 1) a.args.count ++ es a (l.r + 1)) (es a a.args.from) a.args.found a.args.list.now l.n l.list
+  ahead : (c : extend-lts.After-joined-more (callees t) (extend-at t) extend.Post invariant-loop decreases-loop) → let turn = c.before.before.before.before.before in let a = begun turn in let l = turn.before.loop-r in Going a.args.m (extensions a.args.near.now c.joined-more.result (set a.args.members a.args.k l.r) a.args.m (a.args.k + 1) (l.r + 1) a.args.count ++ es a (l.r + 1)) (es a a.args.from) a.args.found a.args.list.now l.n l.list-1
   ahead c =
       let turn = c.before.before.before.before.before in
       let a = begun turn in
-      let l = turn.before.loop in
-      subst (λ (todo : List Combination). Going a.args.m todo (es a a.args.from) a.args.found a.args.list.now l.n l.list)
-      (extensions-next a.args.near.now a.args.sets.now a.args.members a.args.m a.args.k a.args.count l.r c.joined.result (omega (arith, some_left turn)) (omega (arith, sized a, a.pre.1.choice.few)) turn.loop-test.true
-      (c.joined.ensures ∙ ap (λ (i : ℕ). joined l.r (get_or a.args.near.now i 0) (take a.args.k a.args.sets.now)) c.before.before.wide.ensures.0))
+      let l = turn.before.loop-r in
+      subst (λ (todo : List Combination). Going a.args.m todo (es a a.args.from) a.args.found a.args.list.now l.n l.list-1)
+      (extensions-next a.args.near.now a.args.sets.now a.args.members a.args.m a.args.k a.args.count l.r c.joined-more.result (omega (arith, some_left turn)) (omega (arith, sized a, a.requires.1.choice.few)) turn.loop-r-test.true
+      (c.joined-more.ensures ∙ ap (λ (i : ℕ). joined l.r (get_or a.args.near.now i 0) (take a.args.k a.args.sets.now)) c.before.before.wide.ensures.0))
       l.invariant.1
 
   -- what was added
-  added : (c : extend-lts.After-extend (callees t) (extend-at t) extend.Post invariant-loop decreases-loop) → let j = c.before.before.before.before in let turn = j.before.before.before.before.before in let a = begun turn in let l = turn.before.loop in Adds a.args.m (extensions a.args.near.now j.joined.result (set a.args.members a.args.k l.r) a.args.m (a.args.k + 1) (l.r + 1) a.args.count) l.n l.list c.extend.result c.extend.new.1.1.1.1.1.1.1.0
+  added : (c : extend-lts.After-extend-n (callees t) (extend-at t) extend.Post invariant-loop decreases-loop) → let j = c.before.before.before.before in let turn = j.before.before.before.before.before in let a = begun turn in let l = turn.before.loop-r in Adds a.args.m (extensions a.args.near.now j.joined-more.result (set a.args.members a.args.k l.r) a.args.m (a.args.k + 1) (l.r + 1) a.args.count) l.n l.list-1 c.extend-n.result c.extend-n.new.1.1.1.1.1.1.1.0
   added c =
       let p = c.before.before.before in
       let j = p.before in
       let turn = j.before.before.before.before.before in
       let a = begun turn in
-      let l = turn.before.loop in
-      subst (λ (xs : List ℕ). Adds a.args.m (extensions a.args.near.now j.joined.result xs a.args.m (a.args.k + 1) (l.r + 1) a.args.count) l.n l.list c.extend.result c.extend.new.1.1.1.1.1.1.1.0) p.put.ensures c.extend.ensures
+      let l = turn.before.loop-r in
+      subst (λ (xs : List ℕ). Adds a.args.m (extensions a.args.near.now j.joined-more.result xs a.args.m (a.args.k + 1) (l.r + 1) a.args.count) l.n l.list-1 c.extend-n.result c.extend-n.new.1.1.1.1.1.1.1.0) p.put.ensures c.extend-n.ensures
 
-  extend-requires : extend-lts.Need-extend-requires (callees t) (extend-at t) extend.Post invariant-loop decreases-loop
+  extend-requires : extend-lts.Need-extend-n-requires (callees t) (extend-at t) extend.Post invariant-loop decreases-loop
   extend-requires c κs =
       let turn = c.before.before.before.before.before.before.before.before in
       let a = begun turn in
-      let l = turn.before.loop in
-      let p = a.pre.1.choice in (
-        omega (arith, a.pre.0, some_left turn),
+      let l = turn.before.loop-r in
+      let p = a.requires.1.choice in (
+        omega (arith, a.requires.0, some_left turn),
         record {
-          both_ways = a.pre.1.both_ways;
+          both_ways = a.requires.1.both_ways;
           sized = search rules;
           two = omega (arith, some_left turn);
-          most = a.pre.1.most;
+          most = a.requires.1.most;
           choice = record {
-            few = omega (arith, some_left turn, a.pre.1.most);
-            low = omega (arith, turn.loop-test.true);
+            few = omega (arith, some_left turn, a.requires.1.most);
+            low = omega (arith, turn.loop-r-test.true);
             relations = p.relations;
             room = l.invariant.1.long ∙ p.room;
             under = l.invariant.1.under;
@@ -117,62 +117,62 @@ module _ (t : ℕ) where
         },
       )
 
-  loop-again : extend-lts.Need-loop-preserved (callees t) (extend-at t) extend.Post invariant-loop decreases-loop
+  loop-again : extend-lts.Need-loop-r-preserved (callees t) (extend-at t) extend.Post invariant-loop decreases-loop
   loop-again c =
       let e = c.before.before.before.before in
       let j = e.before.before.before.before in
       let turn = j.before.before.before.before.before in
       let a = begun turn in
-      let l = turn.before.loop in (
-        omega (arith, turn.loop-test.true),
-        going_next a.args.m (extensions a.args.near.now j.joined.result (set a.args.members a.args.k l.r) a.args.m (a.args.k + 1) (l.r + 1) a.args.count) (es a (l.r + 1)) (ahead j)
-            (added e) (omega (arith, c.if3.false, c.before.wide2.ensures.0)),
+      let l = turn.before.loop-r in (
+        omega (arith, turn.loop-r-test.true),
+        going_next a.args.m (extensions a.args.near.now j.joined-more.result (set a.args.members a.args.k l.r) a.args.m (a.args.k + 1) (l.r + 1) a.args.count) (es a (l.r + 1)) (ahead j)
+            (added e) (omega (arith, c.if-wide-gt-MAX_COMBINATIONS.false, c.before.wide-in-loop-r.ensures.0)),
       )
 
-  returns-over : extend-lts.Need-returns-3 (callees t) (extend-at t) extend.Post invariant-loop decreases-loop
+  returns-over : extend-lts.Need-returns-then-wide-gt-MAX_COMBINATIONS (callees t) (extend-at t) extend.Post invariant-loop decreases-loop
   returns-over c =
       let e = c.before.before.before.before in
       let j = e.before.before.before.before in
       let turn = j.before.before.before.before.before in
       let a = begun turn in
-      let l = turn.before.loop in
-      going-over a.args.m (extensions a.args.near.now j.joined.result (set a.args.members a.args.k l.r) a.args.m (a.args.k + 1) (l.r + 1) a.args.count) (es a (l.r + 1)) (ahead j)
-      (added e) (omega (arith, c.if3.true, c.before.wide2.ensures.0))
+      let l = turn.before.loop-r in
+      going-over a.args.m (extensions a.args.near.now j.joined-more.result (set a.args.members a.args.k l.r) a.args.m (a.args.k + 1) (l.r + 1) a.args.count) (es a (l.r + 1)) (ahead j)
+      (added e) (omega (arith, c.if-wide-gt-MAX_COMBINATIONS.true, c.before.wide-in-loop-r.ensures.0))
 
   -- some set has no relation from r on
-  returns-shut : extend-lts.Need-returns-2 (callees t) (extend-at t) extend.Post invariant-loop decreases-loop
+  returns-shut : extend-lts.Need-returns-then-not-extendable (callees t) (extend-at t) extend.Post invariant-loop decreases-loop
   returns-shut c =
       let x = c.before in
       let turn = x.before in
       let a = begun turn in
-      let l = turn.before.loop in
+      let l = turn.before.loop-r in
       going_end a.args.m
-      (subst (λ (todo : List Combination). Going a.args.m todo (es a a.args.from) a.args.found a.args.list.now l.n l.list)
-      (extensions-shut a.args.near.now a.args.sets.now a.args.members a.args.m a.args.k a.args.count (omega (arith, a.pre.1.two)) l.r
-      (sym x.extendable.ensures ∙ not-true _ c.if2.true)) l.invariant.1)
+      (subst (λ (todo : List Combination). Going a.args.m todo (es a a.args.from) a.args.found a.args.list.now l.n l.list-1)
+      (extensions-shut a.args.near.now a.args.sets.now a.args.members a.args.m a.args.k a.args.count (omega (arith, a.requires.1.two)) l.r
+      (sym x.extendable.ensures ∙ not-true _ c.if-not-extendable.true-raw)) l.invariant.1)
 
-  returns-end : extend-lts.Need-returns-4 (callees t) (extend-at t) extend.Post invariant-loop decreases-loop
+  returns-end : extend-lts.Need-returns (callees t) (extend-at t) extend.Post invariant-loop decreases-loop
   returns-end c =
       let a = c.before.before.before.before in
-      let l = c.before.loop in
+      let l = c.before.loop-r in
       going_end a.args.m
-      (subst (λ (todo : List Combination). Going a.args.m todo (es a a.args.from) a.args.found a.args.list.now l.n l.list)
-      (extensions-end a.args.near.now a.args.sets.now a.args.members a.args.m a.args.k a.args.count (omega (arith, a.requires.1.two)) l.r c.loop-test.false) l.invariant.1)
+      (subst (λ (todo : List Combination). Going a.args.m todo (es a a.args.from) a.args.found a.args.list.now l.n l.list-1)
+      (extensions-end a.args.near.now a.args.sets.now a.args.members a.args.m a.args.k a.args.count (omega (arith, a.requires.1.two)) l.r c.loop-r-test.false) l.invariant.1)
 
-pub +extend-spec : {M : Type 1} → statement M
-+extend-spec = close μ-extend λ t. extend-lts.spec (callees t) (extend-at t) extend.Post invariant-loop decreases-loop
+pub +extend_spec : {M : Type 1} → statement M
++extend_spec = close μ-extend λ t. extend-lts.spec (callees t) (extend-at t) extend.Post invariant-loop decreases-loop
     (λ c. let a = c.before in omega (arith, a.requires.1.choice.few))
-    (λ c κs. let a = c.before.before.before in (a.requires.1, c.before.if1.true))
-    (λ c. c.before.before.extend-two.ensures.long)
-    (λ c. c.before.before.extend-two.ensures)
+    (λ c κs. let a = c.before.before.before in (a.requires.1, c.before.if-k-m.true))
+    (λ c. c.before.before.extend_two.ensures.long)
+    (λ c. c.before.before.extend_two.ensures)
     (λ c. let a = c.before.before in (a.requires.1.choice.low, going_start a.args.m a.requires.1.choice.under))
-    (λ c κs. let a = begun t c in (a.pre.1.sized, (omega (arith, some_left t c, a.pre.1.most), few t c)))
-    (λ c. c.before.before.before.loop.invariant.1.long)
+    (λ c κs. let a = begun t c in (a.requires.1.sized, (omega (arith, some_left t c, a.requires.1.most), few t c)))
+    (λ c. c.before.before.before.loop-r.invariant.1.long)
     (returns-shut t)
     (λ c κs. search rules)
     (λ c. search rules)
     (λ c. omega (arith, few t c.before.before.before, c.wide.ensures.0))
-    (λ c κs. let turn = c.before.before.before.before in let a = begun t turn in (a.pre.1.sized, (omega (arith, some_left t turn, a.pre.1.most), few t turn)))
+    (λ c κs. let turn = c.before.before.before.before in let a = begun t turn in (a.requires.1.sized, (omega (arith, some_left t turn, a.requires.1.most), few t turn)))
     (λ c κs. search rules)
     (λ c. let turn = c.before.before.before.before.before.before in omega (arith, (begun t turn).requires.1.choice.few))
     (λ c. let turn = c.before.before.before.before.before.before.before in omega (arith, few t turn))
@@ -181,7 +181,7 @@ pub +extend-spec : {M : Type 1} → statement M
     (λ c. (returns-over t c).long)
     (returns-over t)
     (λ c. let turn = c.before.before.before.before.before.before.before.before.before.before.before.before.before in omega (arith, few t turn))
-    (λ c. let turn = c.before.before.before.before.before.before.before.before.before.before.before.before.before in omega (arith, turn.loop-test.true))
+    (λ c. let turn = c.before.before.before.before.before.before.before.before.before.before.before.before.before in omega (arith, turn.loop-r-test.true))
     (loop-again t)
-    (λ c. c.before.loop.invariant.1.long)
+    (λ c. c.before.loop-r.invariant.1.long)
     (returns-end t)

@@ -30,19 +30,22 @@ returns c =
     let whole = w.before.before in
     let s = whole.before.before in
     let a = s.args in
-    let wrote = p.paste.ensures ∙ ap (λ (xs : List ℕ). paste a.list.now (w.wide.result * (a.k + 1)) xs max_members) whole.put.ensures in
+    let wrote = p.paste.ensures ∙ ap (λ (xs : List ℕ). paste a.list.now (w.wide.result * (a.k + 1)) xs max_members) whole.put-whole.ensures in
     (added-one a.found a.k a.r w.wide.result a.list.now a.members _ w.wide.ensures.0 s.requires.0 (sized s) s.requires.1.0 s.requires.1.1 wrote, refl)
 
 pub add_spec : {M : Type 1} → statement M
 add_spec =
     tie.close
     (tie.spec
-    (λ c κs. search rules) (λ c κs. search rules) (λ c. search rules)
+    (λ c κs. search rules)
+    (λ c κs. search rules)
+    (λ c. search rules)
     (λ c. omega (arith, place c))
     (λ c. search rules)
     (λ c κs.
     let whole = c.before.before.before in
     let s = whole.before.before in
-    (omega (arith, place c.before, s.requires.0), omega (arith, ap length whole.put.ensures, sized s, s.requires.1.0, length-set s.args.members s.args.k s.args.r)))
-    (λ c. search rules) (λ c. search rules)
+    (omega (arith, place c.before, s.requires.0), omega (arith, ap length whole.put-whole.ensures, sized s, s.requires.1.0, length-set s.args.members s.args.k s.args.r)))
+    (λ c. search rules)
+    (λ c. search rules)
     returns)

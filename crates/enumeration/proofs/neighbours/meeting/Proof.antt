@@ -17,21 +17,21 @@ use Rattle.enumeration.proofs.Meeting.{bits-with, bits-without}
 use Rattle.enumeration.proofs.neighbours.meeting.Statement.{statement}
 use Rattle.enumeration.proofs.neighbours.meeting.Tie as tie
 
-abbrev invariant-loop : tie.invariant-loop
+abbrev invariant-loop : tie.invariant-loop-s
 invariant-loop masks count set found₀ s₀ found s = (s ≤ count) × ((x : ℕ) → is_set found x ≡ (ltb x s && meets masks set x))
 
-abbrev decreases-loop : tie.decreases-loop
+abbrev decreases-loop : tie.decreases-loop-s
 decreases-loop masks count set found₀ s₀ found s = count - s
 
-few : (c : tie.In-loop invariant-loop decreases-loop) → c.before.loop.s < max_relations
-few c = omega (arith, c.loop-test.true, c.before.before.requires)
+few : (c : tie.In-loop-s invariant-loop decreases-loop) → c.before.loop-s.s < max_relations
+few c = omega (arith, c.loop-s-test.true, c.before.before.requires)
 
 -- the relation asked
-asked : (c : tie.Joined1 invariant-loop decreases-loop) → (x : ℕ) → let turn = c.before.before.before in let a = turn.before.before.args in is_set c.if1.found x ≡ (ltb x (turn.before.loop.s + 1) && meets a.masks.now a.set x)
+asked : (c : tie.Joined-masks-wide-ne0 invariant-loop decreases-loop) → (x : ℕ) → let turn = c.before.before.before in let a = turn.before.before.args in is_set c.if-masks-wide-ne0.found x ≡ (ltb x (turn.before.loop-s.s + 1) && meets a.masks.now a.set x)
 asked c x =
     let turn = c.before.before.before in
     let a = turn.before.before.args in
-    let l = turn.before.loop in
+    let l = turn.before.loop-s in
     let p = meets a.masks.now a.set in
     let e = c.before.before.wide.ensures.0 in
     ⊎_elim
@@ -39,17 +39,17 @@ asked c x =
     (ap (λ (i : ℕ). meets a.masks.now a.set i) (sym e) ∙ ap not (ne_eqb (bit_and (get_or a.masks.now c.before.before.wide.result 0) a.set) 0 h.0.taken)) x)
     (λ h. ap (λ (w : ℕ). is_set w x) h.1 ∙ bits-without p l.found l.s l.invariant.1
     (ap (λ (i : ℕ). meets a.masks.now a.set i) (sym e) ∙ ap not (eq-eqb (bit_and (get_or a.masks.now c.before.before.wide.result 0) a.set) 0 h.0.left)) x)
-    c.if1.branch
+    c.if-masks-wide-ne0.branch-raw
 
 returns : tie.Need-returns invariant-loop decreases-loop
 returns c =
-    let l = c.before.loop in
+    let l = c.before.loop-s in
     let a = c.before.before.args in
-    let e : l.s ≡ a.count = omega (arith, c.loop-test.false, l.invariant.0) in
+    let e : l.s ≡ a.count = omega (arith, c.loop-s-test.false, l.invariant.0) in
     λ x. l.invariant.1 x ∙ ap (λ (n : ℕ). ltb x n && meets a.masks.now a.set x) e
 
-pub meeting-spec : {M : Type 1} → statement M
-meeting-spec =
+pub meeting_spec : {M : Type 1} → statement M
+meeting_spec =
     tie.close
     (tie.spec
     invariant-loop

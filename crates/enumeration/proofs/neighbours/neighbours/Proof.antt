@@ -18,25 +18,25 @@ use Rattle.enumeration.proofs.neighbours.neighbours.Tie as tie
 abbrev Of : List ℕ → ℕ → ℕ → ℕ → Type 0
 Of ms count r w = (s : ℕ) → is_set w s ≡ (ltb s count && meets ms (get_or ms r 0) s)
 
-abbrev invariant-loop : tie.invariant-loop
+abbrev invariant-loop : tie.invariant-loop-r
 invariant-loop masks count near₀ r₀ near r =
     (r ≤ count) × ((length near ≡ max_relations) × ((i : ℕ) → i < r → Of masks count i (get_or near i 0)))
 
-abbrev decreases-loop : tie.decreases-loop
+abbrev decreases-loop : tie.decreases-loop-r
 decreases-loop masks count near₀ r₀ near r = count - r
 
-few : (c : tie.In-loop invariant-loop decreases-loop) → c.before.loop.r < max_relations
-few c = omega (arith, c.loop-test.true, c.before.before.requires)
+few : (c : tie.In-loop-r invariant-loop decreases-loop) → c.before.loop-r.r < max_relations
+few c = omega (arith, c.loop-r-test.true, c.before.before.requires)
 
-loop-again : tie.Need-loop-preserved invariant-loop decreases-loop
+loop-again : tie.Need-loop-r-preserved invariant-loop decreases-loop
 loop-again c =
     let met = c.before in
     let turn = met.before.before.before in
-    let l = turn.before.loop in
+    let l = turn.before.loop-r in
     let a = turn.before.before.args in
     let r = l.r in
     let w = met.meeting.result in
-    rw c.wide2.ensures.0 (
+    rw c.wide-in-loop-r.ensures.0 (
       search rules,
       (
         length-set l.near r w ∙ l.invariant.1.0,
@@ -45,8 +45,8 @@ loop-again c =
       ),
     )
 
-pub neighbours-spec : {M : Type 1} → statement M
-neighbours-spec =
+pub neighbours_spec : {M : Type 1} → statement M
+neighbours_spec =
     tie.close
     (tie.spec
     invariant-loop
@@ -58,8 +58,8 @@ neighbours-spec =
     (λ c κs. search rules)
     (λ c κs. search rules)
     (λ c. search rules)
-    (λ c. omega (arith, few c.before.before.before.before, c.wide2.ensures.0))
+    (λ c. omega (arith, few c.before.before.before.before, c.wide-in-loop-r.ensures.0))
     (λ c. search rules)
     (λ c. search rules)
     loop-again
-    (λ c r s h. c.before.loop.invariant.1.1 r (omega (arith, c.loop-test.false, c.before.loop.invariant.0)) s))
+    (λ c r s h. c.before.loop-r.invariant.1.1 r (omega (arith, c.loop-r-test.false, c.before.loop-r.invariant.0)) s))

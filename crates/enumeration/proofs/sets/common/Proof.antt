@@ -16,17 +16,17 @@ use Rattle.enumeration.proofs.Joining.{every}
 use Rattle.enumeration.proofs.sets.common.Statement.{statement}
 use Rattle.enumeration.proofs.sets.common.Tie as tie
 
-abbrev invariant-loop : tie.invariant-loop
+abbrev invariant-loop : tie.invariant-loop-j
 invariant-loop sets k all₀ j₀ all j =
     (r : ℕ) → r < max_relations → (is_set all r && common (drop j (take k sets)) r) ≡ common (take k sets) r
 
-abbrev decreases-loop : tie.decreases-loop
+abbrev decreases-loop : tie.decreases-loop-j
 decreases-loop sets k all₀ j₀ all j = 2 - j
 
-loop-again : tie.Need-loop-preserved invariant-loop decreases-loop
+loop-again : tie.Need-loop-j-preserved invariant-loop decreases-loop
 loop-again c r h =
     let turn = c.before in
-    let l = turn.before.loop in
+    let l = turn.before.loop-j in
     let s = turn.before.before in
     let sets = s.args.sets.now in
     let k = s.args.k in
@@ -36,24 +36,24 @@ loop-again c r h =
     ⊎_elim
     (λ t.
     ap (λ (w : ℕ). is_set w r && common rest r) t.2
-    ∙ ap (λ (b : Bool). b && common rest r) (is_set-and l.all n r)
-    ∙ and_assoc (is_set l.all r) (is_set n r) (common rest r)
-    ∙ sym (ap (λ (ns : List ℕ). is_set l.all r && common ns r) (front-next sets k l.j fits t.0.taken)))
+    ∙ ap (λ (b : Bool). b && common rest r) (is_set-and l.all-1 n r)
+    ∙ and_assoc (is_set l.all-1 r) (is_set n r) (common rest r)
+    ∙ sym (ap (λ (ns : List ℕ). is_set l.all-1 r && common ns r) (front-next sets k l.j fits t.0.taken)))
     (λ e. ap₂ (λ (w : ℕ) (ns : List ℕ). is_set w r && common ns r) e.1 (front-past sets k l.j fits e.0.left))
-    c.if1.branch
+    c.if-j-k.branch-raw
     ∙ l.invariant r h
 
 returns : tie.Need-returns invariant-loop decreases-loop
 returns c =
-    let l = c.before.loop in
+    let l = c.before.loop-j in
     let s = c.before.before in
     λ r h.
-    sym (and-true (is_set l.all r))
-    ∙ sym (ap (λ (ns : List ℕ). is_set l.all r && common ns r) (front-end s.args.sets.now s.args.k l.j (omega (arith, s.requires.0, s.requires.1)) (omega (arith, s.requires.1, c.loop-test.false))))
+    sym (and-true (is_set l.all-1 r))
+    ∙ sym (ap (λ (ns : List ℕ). is_set l.all-1 r && common ns r) (front-end s.args.sets.now s.args.k l.j (omega (arith, s.requires.0, s.requires.1)) (omega (arith, s.requires.1, c.loop-j-test.false))))
     ∙ l.invariant r h
 
-pub common-spec : {M : Type 1} → statement M
-common-spec =
+pub common_spec : {M : Type 1} → statement M
+common_spec =
     tie.close
     (tie.spec
     invariant-loop

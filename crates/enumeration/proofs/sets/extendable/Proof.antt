@@ -13,43 +13,43 @@ use Rattle.enumeration.proofs.Front.{front-next, front-past, front-end}
 use Rattle.enumeration.proofs.sets.extendable.Statement.{statement}
 use Rattle.enumeration.proofs.sets.extendable.Tie as tie
 
-abbrev invariant-loop : tie.invariant-loop
+abbrev invariant-loop : tie.invariant-loop-j
 invariant-loop sets k r j₀ j = extendable (drop j (take k sets)) r ≡ extendable (take k sets) r
 
-abbrev decreases-loop : tie.decreases-loop
+abbrev decreases-loop : tie.decreases-loop-j
 decreases-loop sets k r j₀ j = 2 - j
 
 -- the set at place j, and those behind it
-split : (c : tie.In-loop invariant-loop decreases-loop) → c.before.loop.j < c.before.before.args.k → let l = c.before.loop in let a = c.before.before.args in extendable (drop l.j (take a.k a.sets.now)) a.r ≡ (not (eqb (get_or a.sets.now l.j 0 / 2 ^ a.r) 0) && extendable (drop (l.j + 1) (take a.k a.sets.now)) a.r)
+split : (c : tie.In-loop-j invariant-loop decreases-loop) → c.before.loop-j.j < c.before.before.args.k → let l = c.before.loop-j in let a = c.before.before.args in extendable (drop l.j (take a.k a.sets.now)) a.r ≡ (not (eqb (get_or a.sets.now l.j 0 / 2 ^ a.r) 0) && extendable (drop (l.j + 1) (take a.k a.sets.now)) a.r)
 split c h =
     let s = c.before.before in
-    ap (λ ns. extendable ns s.args.r) (front-next s.args.sets.now s.args.k c.before.loop.j (omega (arith, s.requires.0, s.requires.1.0)) h)
+    ap (λ ns. extendable ns s.args.r) (front-next s.args.sets.now s.args.k c.before.loop-j.j (omega (arith, s.requires.0, s.requires.1.0)) h)
 
-returns : tie.Need-returns invariant-loop decreases-loop
+returns : tie.Need-returns-then-sets-j-eq0 invariant-loop decreases-loop
 returns c =
     let turn = c.before.before.before in
     let s = turn.before.before in
-    sym (split turn c.before.before.if1.true ∙ ap (λ (b : Bool). b && extendable (drop (turn.before.loop.j + 1) (take s.args.k s.args.sets.now)) s.args.r) (ap not (eq-eqb _ 0 c.if2.true)))
-    ∙ turn.before.loop.invariant
+    sym (split turn c.before.before.if-j-k.true ∙ ap (λ (b : Bool). b && extendable (drop (turn.before.loop-j.j + 1) (take s.args.k s.args.sets.now)) s.args.r) (ap not (eq-eqb _ 0 c.if-sets-j-eq0.true)))
+    ∙ turn.before.loop-j.invariant
 
-loop-again : tie.Need-loop-preserved invariant-loop decreases-loop
+loop-again : tie.Need-loop-j-preserved invariant-loop decreases-loop
 loop-again c =
     let turn = c.before in
     let s = turn.before.before in
     let a = s.args in
     ⊎_elim
-    (λ t. sym (split turn t.0.taken ∙ ap (λ (b : Bool). b && extendable (drop (turn.before.loop.j + 1) (take a.k a.sets.now)) a.r) (ap not (ne_eqb _ 0 t.2.left))))
-    (λ e. ap (λ ns. extendable ns a.r) (front-past a.sets.now a.k turn.before.loop.j (omega (arith, s.requires.0, s.requires.1.0)) e.left))
-    c.if1.branch
-    ∙ turn.before.loop.invariant
+    (λ t. sym (split turn t.0.taken ∙ ap (λ (b : Bool). b && extendable (drop (turn.before.loop-j.j + 1) (take a.k a.sets.now)) a.r) (ap not (ne_eqb _ 0 t.2.left))))
+    (λ e. ap (λ ns. extendable ns a.r) (front-past a.sets.now a.k turn.before.loop-j.j (omega (arith, s.requires.0, s.requires.1.0)) e.left))
+    c.if-j-k.branch-raw
+    ∙ turn.before.loop-j.invariant
 
-returns-2 : tie.Need-returns-2 invariant-loop decreases-loop
+returns-2 : tie.Need-returns invariant-loop decreases-loop
 returns-2 c =
     let s = c.before.before in
-    sym (ap (λ ns. extendable ns s.args.r) (front-end s.args.sets.now s.args.k c.before.loop.j (omega (arith, s.requires.0, s.requires.1.0)) (omega (arith, s.requires.1.0, c.loop-test.false)))) ∙ c.before.loop.invariant
+    sym (ap (λ ns. extendable ns s.args.r) (front-end s.args.sets.now s.args.k c.before.loop-j.j (omega (arith, s.requires.0, s.requires.1.0)) (omega (arith, s.requires.1.0, c.loop-j-test.false)))) ∙ c.before.loop-j.invariant
 
-pub extendable-spec : {M : Type 1} → statement M
-extendable-spec =
+pub extendable_spec : {M : Type 1} → statement M
+extendable_spec =
     tie.close
     (tie.spec
     invariant-loop

@@ -16,18 +16,18 @@ use Rattle.enumeration.proofs.Joining.{every, others, others-next, common-joined
 use Rattle.enumeration.proofs.sets.joining.Statement.{statement}
 use Rattle.enumeration.proofs.sets.joining.Tie as tie
 
-abbrev invariant-loop : tie.invariant-loop
+abbrev invariant-loop : tie.invariant-loop-j
 invariant-loop sets k r own all₀ rest₀ j₀ all rest j =
     (reach r all (drop j (take k sets)) ≡ reach r own (take k sets))
     × ((s : ℕ) → s < max_relations → (is_set rest s && others r s (drop j (take k sets))) ≡ others r s (take k sets))
 
-abbrev decreases-loop : tie.decreases-loop
+abbrev decreases-loop : tie.decreases-loop-j
 decreases-loop sets k r own all₀ rest₀ j₀ all rest j = 2 - j
 
-loop-again : tie.Need-loop-preserved invariant-loop decreases-loop
+loop-again : tie.Need-loop-j-preserved invariant-loop decreases-loop
 loop-again c =
     let turn = c.before in
-    let l = turn.before.loop in
+    let l = turn.before.loop-j in
     let st = turn.before.before in
     let a = st.args in
     let n = get_or a.sets.now l.j 0 in
@@ -48,15 +48,15 @@ loop-again c =
       ap₂ (reach a.r) e.1 same ∙ l.invariant.0,
       λ s h. ap₂ (λ (w : ℕ) (xs : List ℕ). is_set w s && others a.r s xs) e.2 same ∙ l.invariant.1 s h,
     ))
-    c.if1.branch
+    c.if-j-k.branch-raw
 
 returns : tie.Need-returns invariant-loop decreases-loop
 returns c =
-    let l = c.before.loop in
+    let l = c.before.loop-j in
     let st = c.before.before in
     let a = st.args in
     let ns = take a.k a.sets.now in
-    let end = front-end a.sets.now a.k l.j (omega (arith, st.requires.0, st.requires.1.0)) (omega (arith, st.requires.1.0, c.loop-test.false)) in
+    let end = front-end a.sets.now a.k l.j (omega (arith, st.requires.0, st.requires.1.0)) (omega (arith, st.requires.1.0, c.loop-j-test.false)) in
     λ s h.
     is_set-and l.all l.rest s
     ∙ ap₂ (λ (x y : Bool). x && y)
@@ -64,8 +64,8 @@ returns c =
     (sym (and-true (is_set l.rest s)) ∙ sym (ap (λ (xs : List ℕ). is_set l.rest s && others a.r s xs) end) ∙ l.invariant.1 s h)
     ∙ common-joined a.r a.own s ns
 
-pub joining-spec : {M : Type 1} → statement M
-joining-spec =
+pub joining_spec : {M : Type 1} → statement M
+joining_spec =
     tie.close
     (tie.spec
     invariant-loop

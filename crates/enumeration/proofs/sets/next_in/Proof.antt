@@ -10,39 +10,39 @@ use Rattle.enumeration.proofs.Last.{next-is, next-none, next-nothing, next-zeros
 use Rattle.enumeration.proofs.sets.next_in.Statement.{statement}
 use Rattle.enumeration.proofs.sets.next_in.Tie as tie
 
-returns : tie.Need-returns
+returns : tie.Need-returns-then-from-count
 returns c =
     let s = c.before in
     let a = s.args in
     next-is a.set a.from a.count a.count s.requires.0
-    (subst (λ (i : ℕ). First (is_set a.set) i a.count a.count) (sym c.if1.true) (next-none a.set a.count))
+    (subst (λ (i : ℕ). First (is_set a.set) i a.count a.count) (sym c.if-from-count.true) (next-none a.set a.count))
 
-returns-2 : tie.Need-returns-2
+returns-2 : tie.Need-returns-then-rest-eq0
 returns-2 c =
     let s = c.before.before in
     let a = s.args in
-    next-is a.set a.from a.count a.count s.requires.0 (next-nothing a.set a.from a.count 0 s.requires.0 c.if2.true)
+    next-is a.set a.from a.count a.count s.requires.0 (next-nothing a.set a.from a.count 0 s.requires.0 c.if-rest-eq0.true)
 
-returns-3 : tie.Need-returns-3
+returns-3 : tie.Need-returns-then-r-count
 returns-3 c =
     let s = c.before.before.before in
     let a = s.args in
     next-is a.set a.from a.count (a.from + count_trailing_zeros 64 (a.set / 2 ^ a.from)) s.requires.0
-    (next-zeros a.set a.from a.count 0 s.requires.0 s.ranges.set.fits c.before.if2.false c.if3.true)
+    (next-zeros a.set a.from a.count 0 s.requires.0 s.ranges.set.fits c.before.if-rest-eq0.false c.if-r-count.true)
 
-returns-4 : tie.Need-returns-4
+returns-4 : tie.Need-returns-else-r-count
 returns-4 c =
     let s = c.before.before.before in
     let a = s.args in
     next-is a.set a.from a.count a.count s.requires.0
-    (next-beyond a.set a.from a.count 0 s.requires.0 s.ranges.set.fits c.before.if2.false c.if3.false)
+    (next-beyond a.set a.from a.count 0 s.requires.0 s.ranges.set.fits c.before.if-rest-eq0.false c.if-r-count.false)
 
-pub next-in-spec : {M : Type 1} → statement M
-next-in-spec =
+pub next_in_spec : {M : Type 1} → statement M
+next_in_spec =
     tie.close
     (tie.spec
     returns
-    (λ c. omega (arith, c.if1.false, c.before.requires.0, c.before.requires.1))
+    (λ c. omega (arith, c.if-from-count.false, c.before.requires.0, c.before.requires.1))
     returns-2
     (λ c. let a = c.before.before.args in omega (arith, trailing_le 64 (a.set / 2 ^ a.from)))
     (λ c. let s = c.before.before in omega (arith, trailing_le 64 (s.args.set / 2 ^ s.args.from), s.requires.0, s.requires.1))

@@ -10,16 +10,16 @@ use Rattle.enumeration.proofs.Front.{front-next, front-past, front-end}
 use Rattle.enumeration.proofs.sets.reach.Statement.{statement}
 use Rattle.enumeration.proofs.sets.reach.Tie as tie
 
-abbrev invariant-loop : tie.invariant-loop
+abbrev invariant-loop : tie.invariant-loop-j
 invariant-loop sets k r own all₀ j₀ all j = reach r all (drop j (take k sets)) ≡ reach r own (take k sets)
 
-abbrev decreases-loop : tie.decreases-loop
+abbrev decreases-loop : tie.decreases-loop-j
 decreases-loop sets k r own all₀ j₀ all j = 2 - j
 
-loop-again : tie.Need-loop-preserved invariant-loop decreases-loop
+loop-again : tie.Need-loop-j-preserved invariant-loop decreases-loop
 loop-again c =
     let turn = c.before in
-    let l = turn.before.loop in
+    let l = turn.before.loop-j in
     let s = turn.before.before in
     let a = s.args in
     let rest = drop (l.j + 1) (take a.k a.sets.now) in
@@ -29,18 +29,18 @@ loop-again c =
     ap (λ (w : ℕ). reach a.r w rest) (t.3 ∙ t.2.ensures)
     ∙ sym (ap (reach a.r l.all) (front-next a.sets.now a.k l.j fits t.0.taken)))
     (λ e. ap₂ (reach a.r) e.1 (front-past a.sets.now a.k l.j fits e.0.left))
-    c.if1.branch
+    c.if-j-k.branch-raw
     ∙ l.invariant
 
 returns : tie.Need-returns invariant-loop decreases-loop
 returns c =
-    let l = c.before.loop in
+    let l = c.before.loop-j in
     let s = c.before.before in
     let a = s.args in
-    sym (ap (reach a.r l.all) (front-end a.sets.now a.k l.j (omega (arith, s.requires.0, s.requires.1.0)) (omega (arith, s.requires.1.0, c.loop-test.false)))) ∙ l.invariant
+    sym (ap (reach a.r l.all) (front-end a.sets.now a.k l.j (omega (arith, s.requires.0, s.requires.1.0)) (omega (arith, s.requires.1.0, c.loop-j-test.false)))) ∙ l.invariant
 
-pub reach-spec : {M : Type 1} → statement M
-reach-spec =
+pub reach_spec : {M : Type 1} → statement M
+reach_spec =
     tie.close
     (tie.spec
     invariant-loop

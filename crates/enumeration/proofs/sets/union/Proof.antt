@@ -19,17 +19,17 @@ use Rattle.enumeration.proofs.sets.union.Tie as tie
 abbrev is_in : List ℕ → ℕ → Bool
 is_in ns r = any (λ (n : ℕ). is_set n r) ns
 
-abbrev invariant-loop : tie.invariant-loop
+abbrev invariant-loop : tie.invariant-loop-j
 invariant-loop sets k some₀ j₀ some j =
     (r : ℕ) → r < max_relations → (is_set some r || is_in (drop j (take k sets)) r) ≡ is_in (take k sets) r
 
-abbrev decreases-loop : tie.decreases-loop
+abbrev decreases-loop : tie.decreases-loop-j
 decreases-loop sets k some₀ j₀ some j = 2 - j
 
-loop-again : tie.Need-loop-preserved invariant-loop decreases-loop
+loop-again : tie.Need-loop-j-preserved invariant-loop decreases-loop
 loop-again c r h =
     let turn = c.before in
-    let l = turn.before.loop in
+    let l = turn.before.loop-j in
     let s = turn.before.before in
     let sets = s.args.sets.now in
     let k = s.args.k in
@@ -39,24 +39,24 @@ loop-again c r h =
     ⊎_elim
     (λ t.
     ap (λ (w : ℕ). is_set w r || is_in rest r) t.2
-    ∙ ap (λ (b : Bool). b || is_in rest r) (is_set-or l.some n r)
-    ∙ or_assoc (is_set l.some r) (is_set n r) (is_in rest r)
-    ∙ sym (ap (λ (ns : List ℕ). is_set l.some r || is_in ns r) (front-next sets k l.j fits t.0.taken)))
+    ∙ ap (λ (b : Bool). b || is_in rest r) (is_set-or l.some-1 n r)
+    ∙ or_assoc (is_set l.some-1 r) (is_set n r) (is_in rest r)
+    ∙ sym (ap (λ (ns : List ℕ). is_set l.some-1 r || is_in ns r) (front-next sets k l.j fits t.0.taken)))
     (λ e. ap₂ (λ (w : ℕ) (ns : List ℕ). is_set w r || is_in ns r) e.1 (front-past sets k l.j fits e.0.left))
-    c.if1.branch
+    c.if-j-k.branch-raw
     ∙ l.invariant r h
 
 returns : tie.Need-returns invariant-loop decreases-loop
 returns c =
-    let l = c.before.loop in
+    let l = c.before.loop-j in
     let s = c.before.before in
     λ r h.
-    sym (or-false (is_set l.some r))
-    ∙ sym (ap (λ (ns : List ℕ). is_set l.some r || is_in ns r) (front-end s.args.sets.now s.args.k l.j (omega (arith, s.requires.0, s.requires.1)) (omega (arith, s.requires.1, c.loop-test.false))))
+    sym (or-false (is_set l.some-1 r))
+    ∙ sym (ap (λ (ns : List ℕ). is_set l.some-1 r || is_in ns r) (front-end s.args.sets.now s.args.k l.j (omega (arith, s.requires.0, s.requires.1)) (omega (arith, s.requires.1, c.loop-j-test.false))))
     ∙ l.invariant r h
 
-pub union-spec : {M : Type 1} → statement M
-union-spec =
+pub union_spec : {M : Type 1} → statement M
+union_spec =
     tie.close
     (tie.spec
     invariant-loop

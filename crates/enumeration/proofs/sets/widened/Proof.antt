@@ -7,20 +7,24 @@ use Rattle.model.specs.LiveWords.{is_set}
 use Rattle.enumeration.proofs.sets.widened.Statement.{statement}
 use Rattle.enumeration.proofs.sets.widened.Tie as tie
 
-returns : tie.Need-returns
+returns : tie.Need-returns-then-j-k
 returns c =
     let a = c.before.args in
-    sym (ap (λ (b : Bool). cond b a.all (cond (is_set a.set a.r) a.all a.set)) (eq-eqb a.j a.k c.if1.true))
+    sym (ap (λ (b : Bool). cond b a.all (cond (is_set a.set a.r) a.all a.set)) (eq-eqb a.j a.k c.if-j-k.true))
 
-returns-2 : tie.Need-returns-2
+returns-2 : tie.Need-returns-then-is_in
 returns-2 c =
     let a = c.before.before.before.args in
-    sym (ap₂ (λ (b d : Bool). cond b a.all (cond d a.all a.set)) (ne_eqb a.j a.k c.before.before.if1.false) (sym c.before.is-in.ensures ∙ c.if2.true))
+    sym (ap₂ (λ (b d : Bool). cond b a.all (cond d a.all a.set)) (ne_eqb a.j a.k c.before.before.if-j-k.false) (sym c.before.is_in.ensures ∙ c.if-is_in.true))
 
-returns-3 : tie.Need-returns-3
+returns-3 : tie.Need-returns-else-is_in
 returns-3 c =
     let a = c.before.before.before.args in
-    sym (ap₂ (λ (b d : Bool). cond b a.all (cond d a.all a.set)) (ne_eqb a.j a.k c.before.before.if1.false) (sym c.before.is-in.ensures ∙ c.if2.false))
+    sym (ap₂ (λ (b d : Bool). cond b a.all (cond d a.all a.set)) (ne_eqb a.j a.k c.before.before.if-j-k.false) (sym c.before.is_in.ensures ∙ c.if-is_in.false))
 
-pub widened-spec : {M : Type 1} → statement M
-widened-spec = tie.close (tie.spec returns (λ c κs. search rules) returns-2 returns-3)
+pub widened_spec : {M : Type 1} → statement M
+widened_spec = tie.close (tie.spec
+    returns
+    (λ c κs. search rules)
+    returns-2
+    returns-3)

@@ -9,24 +9,24 @@ use Rattle.layout.proofs.Columns.{column-found}
 use Rattle.narrowing.proofs.columns.column_rows.Statement.{statement}
 use Rattle.narrowing.proofs.columns.column_rows.Tie as tie
 
-returns : tie.Need-returns
+returns : tie.Need-returns-then-scope-c
 returns c d = absurd (d (omega arith))
 
-returns-2 : tie.Need-returns-2
+returns-2 : tie.Need-returns
 returns-2 c d =
     let else = c.before in
     let found = else.before in
     let a = found.before.before.args in
-    let e = found.column-of.ensures in
+    let e = found.column_of-c.ensures in
     record {
-      column = found.column-of.result;
-      inside = else.if1.false;
-      same = ap (λ (k : ℕ). get_or a.scope.now k 0) e ∙ column-found a.v a.scope.now (subst (λ (k : ℕ). k < length a.scope.now) e else.if1.false);
-      begins = c.column-start.ensures;
+      column = found.column_of-c.result;
+      inside = else.if-scope-c.false;
+      same = ap (λ (k : ℕ). get_or a.scope.now k 0) e ∙ column-found a.v a.scope.now (subst (λ (k : ℕ). k < length a.scope.now) e else.if-scope-c.false);
+      begins = c.column_start.ensures;
     }
 
-pub column-rows-spec : {M : Type 1} → statement M
-column-rows-spec =
+pub column_rows_spec : {M : Type 1} → statement M
+column_rows_spec =
     tie.close
     (tie.spec
     (λ c κs. search rules)

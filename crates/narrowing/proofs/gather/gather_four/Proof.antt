@@ -11,45 +11,45 @@ use Rattle.narrowing.proofs.Gathered.{joins-none, joins-on, joins_part, joins-wi
 use Rattle.narrowing.proofs.gather.gather_four.Statement.{statement}
 use Rattle.narrowing.proofs.gather.gather_four.Tie as tie
 
-abbrev invariant-loop : tie.invariant-loop
+abbrev invariant-loop : tie.invariant-loop-i
 invariant-loop index a b c d from to₀ first last i₀ to i = Joins (in_rows index (four a b c d) 4) (64 * first) (64 * i) from to₀ to
 
-abbrev decreases-loop : tie.decreases-loop
+abbrev decreases-loop : tie.decreases-loop-i
 decreases-loop index a b c d from to₀ first last i₀ to i = last - i
 
-module _ (c : tie.In-loop invariant-loop decreases-loop) where
+module _ (c : tie.In-loop-i invariant-loop decreases-loop) where
   abbrev start : tie.Start invariant-loop decreases-loop
   start = c.before.before
 
-  few : c.before.loop.i < 64
-  few = omega (arith, c.loop-test.true, start.pre.1.1.0)
+  few : c.before.loop-i.i < 64
+  few = omega (arith, c.loop-i-test.true, start.requires.1.1.0)
 
-  within : (k : ℕ) → k < 4 → get_or (four start.args.a start.args.b start.args.c start.args.d) k 0 + c.before.loop.i < index_words
-  within k h = omega (arith, c.loop-test.true, start.pre.1.1.1, start.pre.1.0.inside k h)
+  within : (k : ℕ) → k < 4 → get_or (four start.args.a start.args.b start.args.c start.args.d) k 0 + c.before.loop-i.i < index_words
+  within k h = omega (arith, c.loop-i-test.true, start.requires.1.1.1, start.requires.1.0.inside k h)
 
-loop-holds : tie.Need-loop-init invariant-loop decreases-loop
+loop-holds : tie.Need-loop-i-init invariant-loop decreases-loop
 loop-holds c =
     let a = c.args in
     joins-none (in_rows a.index.now (four a.a a.b a.c a.d) 4) a.from.now (64 * a.first) (64 * a.first) a.to.now (omega arith) c.requires.0.1
 
-loop-again : tie.Need-loop-preserved invariant-loop decreases-loop
+loop-again : tie.Need-loop-i-preserved invariant-loop decreases-loop
 loop-again c =
     let turn = c.before.before.before.before.before.before in
-    let l = turn.before.loop in
+    let l = turn.before.loop-i in
     let a = (start turn).args in
     let test = in_rows a.index.now (four a.a a.b a.c a.d) 4 in
-    joins-on test a.from.now (64 * a.first) (64 * l.i) (64 * (l.i + 1)) a.to.now l.to _ l.invariant
-    (joins_part test a.from.now l.i (64 * l.i) (64 * (l.i + 1)) _ l.to l.invariant.long (few turn) (omega arith) (omega arith)
+    joins-on test a.from.now (64 * a.first) (64 * l.i) (64 * (l.i + 1)) a.to.now l.to-1 _ l.invariant
+    (joins_part test a.from.now l.i (64 * l.i) (64 * (l.i + 1)) _ l.to-1 l.invariant.long (few turn) (omega arith) (omega arith)
     (λ j h _ _. bits-four a.index.now a.a a.b a.c a.d l.i (get_or a.from.now l.i 0) j h))
 
 returns : tie.Need-returns invariant-loop decreases-loop
 returns c =
-    let l = c.before.loop in
+    let l = c.before.loop-i in
     let a = c.before.before.args in
-    joins-within (in_rows a.index.now (four a.a a.b a.c a.d) 4) a.from.now (omega arith) (omega (arith, c.loop-test.false)) l.invariant
+    joins-within (in_rows a.index.now (four a.a a.b a.c a.d) 4) a.from.now (omega arith) (omega (arith, c.loop-i-test.false)) l.invariant
 
-pub gather-four-spec : {M : Type 1} → statement M
-gather-four-spec =
+pub gather_four_spec : {M : Type 1} → statement M
+gather_four_spec =
     tie.close
     (tie.spec
     invariant-loop
@@ -74,6 +74,6 @@ gather-four-spec =
     (λ c. omega (arith, few c.before.before.before.before.before.before))
     (λ c. few c.before.before.before.before.before.before)
     (λ c. omega (arith, few c.before.before.before.before.before.before))
-    (λ c. omega (arith, c.before.before.before.before.before.before.loop-test.true))
+    (λ c. omega (arith, c.before.before.before.before.before.before.loop-i-test.true))
     loop-again
     returns)

@@ -8,17 +8,18 @@ use borrow.Author.Rules.{rules}
 use Rattle.narrowing.proofs.gather.gather_rows.Statement.{statement}
 use Rattle.narrowing.proofs.gather.gather_rows.Tie as tie
 
-pub gather-rows-spec : {M : Type 1} → statement M
-gather-rows-spec =
+pub gather_rows_spec : {M : Type 1} → statement M
+gather_rows_spec =
     tie.close
     (tie.spec
-    (λ c κs. search rules) (λ c κs. search rules)
+    (λ c κs. search rules)
+    (λ c κs. search rules)
     (λ c κs.
     let s = c.before.before.before in
-    let words = c.words-for.ensures in
+    let words = c.words_for.ensures in
     (s.requires.0, (s.requires.1.0, (omega (arith, words, s.requires.1.1.1), omega (arith, words, s.requires.1.1.0)))))
     (λ c.
     let words = c.before in
     let first = words.before in
     let a = first.before.before.args in
-    joins-within (in_rows a.index.now a.rows.now a.n) a.from.now (omega (arith, first.wide.ensures.0)) (omega (arith, words.words-for.ensures)) c.gather-words.ensures))
+    joins-within (in_rows a.index.now a.rows.now a.n) a.from.now (omega (arith, first.wide.ensures.0)) (omega (arith, words.words_for.ensures)) c.gather_words.ensures))

@@ -14,19 +14,19 @@ few s = omega (arith, s.requires.1.1.0)
 returns : tie.Need-returns
 returns c =
     let found = c.before in
-    let mask = found.before.before.between in
+    let mask = found.before.before.between-mask in
     let s = found.before.before.before in
     let a = s.args in
     let ws = a.words.now in
     let x = get_or ws a.i 0 in
-    let w = found.in_rows.result in
+    let w = found.in_rows-w.result in
     let test = in_rows a.index.now a.rows.now a.n in
     keeps-edge test a.i ws s.requires.0 (few s) a.start a.end _ w
-    (mask-stays test a.i a.start a.end x mask.result w mask.ensures found.in_rows.ensures)
-    (mask-passing test a.i a.start a.end x mask.result w mask.ensures found.in_rows.ensures)
+    (mask-stays test a.i a.start a.end x mask.result w mask.ensures found.in_rows-w.ensures)
+    (mask-passing test a.i a.start a.end x mask.result w mask.ensures found.in_rows-w.ensures)
 
-pub keep-edge-spec : {M : Type 1} → statement M
-keep-edge-spec =
+pub keep_edge_spec : {M : Type 1} → statement M
+keep_edge_spec =
     tie.close
     (tie.spec
     (λ c κs. few c)

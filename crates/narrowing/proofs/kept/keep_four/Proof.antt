@@ -12,32 +12,32 @@ use Rattle.narrowing.proofs.TupleRows.{bits-four}
 use Rattle.narrowing.proofs.kept.keep_four.Statement.{statement}
 use Rattle.narrowing.proofs.kept.keep_four.Tie as tie
 
-abbrev invariant-loop : tie.invariant-loop
+abbrev invariant-loop : tie.invariant-loop-i
 invariant-loop index a b c d words₀ from to any₀ i₀ words any i =
     (from ≤ i) × ((i ≤ to) × Keeps (in_rows index (four a b c d) 4) (64 * from) (64 * i) words₀ words any)
 
-abbrev decreases-loop : tie.decreases-loop
+abbrev decreases-loop : tie.decreases-loop-i
 decreases-loop index a b c d words₀ from to any₀ i₀ words any i = to - i
 
-module _ (c : tie.In-loop invariant-loop decreases-loop) where
+module _ (c : tie.In-loop-i invariant-loop decreases-loop) where
   abbrev start : tie.Start invariant-loop decreases-loop
   start = c.before.before
 
-  few : c.before.loop.i < 64
-  few = omega (arith, c.loop-test.true, start.pre.1.1.0.0)
+  few : c.before.loop-i.i < 64
+  few = omega (arith, c.loop-i-test.true, start.requires.1.1.0.0)
 
-  within : (k : ℕ) → k < 4 → get_or (four start.args.a start.args.b start.args.c start.args.d) k 0 + c.before.loop.i < index_words
-  within k h = omega (arith, c.loop-test.true, start.pre.1.1.0.1, start.pre.1.0.inside k h)
+  within : (k : ℕ) → k < 4 → get_or (four start.args.a start.args.b start.args.c start.args.d) k 0 + c.before.loop-i.i < index_words
+  within k h = omega (arith, c.loop-i-test.true, start.requires.1.1.0.1, start.requires.1.0.inside k h)
 
-loop-holds : tie.Need-loop-init invariant-loop decreases-loop
+loop-holds : tie.Need-loop-i-init invariant-loop decreases-loop
 loop-holds c =
     let a = c.args in
     (omega arith, (c.requires.1.1.1, keeps-none (in_rows a.index.now (four a.a a.b a.c a.d) 4) (64 * a.from) (64 * a.from) 0 a.words.now (omega arith) c.requires.0))
 
-loop-again : tie.Need-loop-preserved invariant-loop decreases-loop
+loop-again : tie.Need-loop-i-preserved invariant-loop decreases-loop
 loop-again c =
     let turn = c.before.before.before.before.before in
-    let l = turn.before.loop in
+    let l = turn.before.loop-i in
     let a = (start turn).args in
     let now = l.invariant.1.1 in
     let on : 64 * a.from ≤ 64 * l.i = omega (arith, l.invariant.0) in
@@ -45,7 +45,7 @@ loop-again c =
     let test = in_rows a.index.now (four a.a a.b a.c a.d) 4 in (
       omega (arith, l.invariant.0),
       (
-        omega (arith, turn.loop-test.true),
+        omega (arith, turn.loop-i-test.true),
         keeps_on test (64 * a.from) (64 * l.i) (64 * (l.i + 1)) l.any _ a.words.now l.words _ on further now
             (keeps-word test l.i l.words now.long (few turn) _ (bits-four a.index.now a.a a.b a.c a.d l.i (get_or l.words l.i 0))),
       ),
@@ -53,13 +53,13 @@ loop-again c =
 
 returns : tie.Need-returns invariant-loop decreases-loop
 returns c =
-    let l = c.before.loop in
+    let l = c.before.loop-i in
     let a = c.before.before.args in
-    let e : l.i ≡ a.to = omega (arith, c.loop-test.false, l.invariant.1.0) in
+    let e : l.i ≡ a.to = omega (arith, c.loop-i-test.false, l.invariant.1.0) in
     subst (λ (n : ℕ). Keeps (in_rows a.index.now (four a.a a.b a.c a.d) 4) (64 * a.from) (64 * n) a.words.now l.words l.any) e l.invariant.1.1
 
-pub keep-four-spec : {M : Type 1} → statement M
-keep-four-spec =
+pub keep_four_spec : {M : Type 1} → statement M
+keep_four_spec =
     tie.close
     (tie.spec
     invariant-loop
@@ -82,6 +82,6 @@ keep-four-spec =
     (λ c. omega (arith, few c.before.before.before.before.before))
     (λ c. few c.before.before.before.before.before)
     (λ c. omega (arith, few c.before.before.before.before.before))
-    (λ c. omega (arith, c.before.before.before.before.before.loop-test.true))
+    (λ c. omega (arith, c.before.before.before.before.before.loop-i-test.true))
     loop-again
     returns)

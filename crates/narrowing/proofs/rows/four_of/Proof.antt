@@ -7,11 +7,14 @@ returns c =
     let third = c.before in
     let second = third.before in
     let first = second.before in
-    record { a = first.row-or-last.ensures; b = second.row-or-last2.ensures; c = third.row-or-last3.ensures; d = c.row-or-last4.ensures }
+    record { a = first.row_or_last-a.ensures; b = second.row_or_last-b.ensures; c = third.row_or_last-c.ensures; d = c.row_or_last-d.ensures }
 
-pub four-of-spec : {M : Type 1} → statement M
-four-of-spec =
+pub four_of_spec : {M : Type 1} → statement M
+four_of_spec =
     tie.close
     (tie.spec
-    (λ c κs. c.requires) (λ c κs. c.before.requires) (λ c κs. c.before.before.requires) (λ c κs. c.before.before.before.requires)
+    (λ c κs. c.requires)
+    (λ c κs. c.before.requires)
+    (λ c κs. c.before.before.requires)
+    (λ c κs. c.before.before.before.requires)
     returns)

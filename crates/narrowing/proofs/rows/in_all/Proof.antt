@@ -11,31 +11,31 @@ use Rattle.narrowing.proofs.TupleRows.{bits-then, bits-nought}
 use Rattle.narrowing.proofs.rows.in_all.Statement.{statement}
 use Rattle.narrowing.proofs.rows.in_all.Tie as tie
 
-returns : tie.Need-returns
+returns : tie.Need-returns-then-w-eq0
 returns c e =
     let first = c.before in
     let s = first.before in
     let a = s.args in
-    let bits = subst (BitsInRows a.index.now 2 a.rows.now a.i a.word) c.if1.true first.in_rows.ensures in
+    let bits = subst (BitsInRows a.index.now 2 a.rows.now a.i a.word) c.if-w-eq0.true first.in_rows-w.ensures in
     bits-then a.index.now a.rows.now a.i 2 a.n a.word 0 0 s.requires.1.0 bits (bits-nought a.index.now a.rows.now a.i a.n)
 
-returns-2 : tie.Need-returns-2
+returns-2 : tie.Need-returns
 returns-2 c e =
     let first = c.before.before in
     let s = first.before in
     let a = s.args in
-    let w = first.in_rows.result in
-    let none : c.in-rows2.result ≡ 0 = eqb-true c.in-rows2.result 0 (not-false (eqb c.in-rows2.result 0) e) in
-    let rest = subst (BitsInRows a.index.now a.n a.rows.now a.i w) none c.in-rows2.ensures in
-    bits-then a.index.now a.rows.now a.i 2 a.n a.word w 0 s.requires.1.0 first.in_rows.ensures rest
+    let w = first.in_rows-w.result in
+    let none : c.in_rows.result ≡ 0 = eqb-true c.in_rows.result 0 (not-false (eqb c.in_rows.result 0) e) in
+    let rest = subst (BitsInRows a.index.now a.n a.rows.now a.i w) none c.in_rows.ensures in
+    bits-then a.index.now a.rows.now a.i 2 a.n a.word w 0 s.requires.1.0 first.in_rows-w.ensures rest
 
-in-rows-requires : tie.Need-in-rows-requires
+in-rows-requires : tie.Need-in_rows-w-requires
 in-rows-requires c κs =
     let p = c.requires in
     (record { few = omega arith; inside = λ k h. p.0.inside k (omega (arith, p.1.0)) }, p.1.1)
 
-pub in-all-spec : {M : Type 1} → statement M
-in-all-spec =
+pub in_all_spec : {M : Type 1} → statement M
+in_all_spec =
     tie.close
     (tie.spec
     in-rows-requires

@@ -12,47 +12,47 @@ use Rattle.narrowing.proofs.TupleRows.{bits_none, bits-more}
 use Rattle.narrowing.proofs.rows.in_rows.Statement.{statement}
 use Rattle.narrowing.proofs.rows.in_rows.Tie as tie
 
-abbrev invariant-loop : tie.invariant-loop
+abbrev invariant-loop : tie.invariant-loop-k
 invariant-loop index rows n word i w₀ k₀ w k = (k ≤ n) × BitsInRows index k rows i word w
 
-abbrev decreases-loop : tie.decreases-loop
+abbrev decreases-loop : tie.decreases-loop-k
 decreases-loop index rows n word i w₀ k₀ w k = n - k
 
-module _ (c : tie.In-loop invariant-loop decreases-loop) where
+module _ (c : tie.In-loop-k invariant-loop decreases-loop) where
   abbrev start : tie.Start invariant-loop decreases-loop
   start = c.before.before
 
-  few : c.before.loop.k < 32
-  few = omega (arith, c.loop-test.true, start.pre.0.few)
+  few : c.before.loop-k.k < 32
+  few = omega (arith, c.loop-k-test.true, start.requires.0.few)
 
 -- the row reached
 within : (c : tie.After-wide invariant-loop decreases-loop) → c.wide.result + (start c.before.before).args.i < index_words
 within c =
     let turn = c.before.before in
-    omega (arith, c.wide.ensures.0, (start turn).requires.0.inside turn.before.loop.k turn.loop-test.true, (start turn).requires.1)
+    omega (arith, c.wide.ensures.0, (start turn).requires.0.inside turn.before.loop-k.k turn.loop-k-test.true, (start turn).requires.1)
 
-loop-holds : tie.Need-loop-init invariant-loop decreases-loop
+loop-holds : tie.Need-loop-k-init invariant-loop decreases-loop
 loop-holds c = let a = c.args in (omega arith, bits_none a.index.now a.rows.now a.i a.word)
 
-loop-again : tie.Need-loop-preserved invariant-loop decreases-loop
+loop-again : tie.Need-loop-k-preserved invariant-loop decreases-loop
 loop-again c =
     let turn = c.before.before.before in
-    let l = turn.before.loop in
+    let l = turn.before.loop-k in
     let a = (start turn).args in (
-      omega (arith, turn.loop-test.true),
-      subst (λ (first : ℕ). BitsInRows a.index.now (l.k + 1) a.rows.now a.i a.word (bit_and l.w (get_or a.index.now (first + a.i) 0))) (sym c.before.wide.ensures.0)
-          (bits-more a.index.now a.rows.now a.i l.k a.word l.w l.invariant.1),
+      omega (arith, turn.loop-k-test.true),
+      subst (λ (first : ℕ). BitsInRows a.index.now (l.k + 1) a.rows.now a.i a.word (bit_and l.w-1 (get_or a.index.now (first + a.i) 0))) (sym c.before.wide.ensures.0)
+          (bits-more a.index.now a.rows.now a.i l.k a.word l.w-1 l.invariant.1),
     )
 
 returns : tie.Need-returns invariant-loop decreases-loop
 returns c =
-    let l = c.before.loop in
+    let l = c.before.loop-k in
     let a = c.before.before.args in
-    let e : l.k ≡ a.n = omega (arith, c.loop-test.false, l.invariant.0) in
-    subst (λ (k : ℕ). BitsInRows a.index.now k a.rows.now a.i a.word l.w) e l.invariant.1
+    let e : l.k ≡ a.n = omega (arith, c.loop-k-test.false, l.invariant.0) in
+    subst (λ (k : ℕ). BitsInRows a.index.now k a.rows.now a.i a.word l.w-1) e l.invariant.1
 
-pub in-rows-spec : {M : Type 1} → statement M
-in-rows-spec =
+pub in_rows_spec : {M : Type 1} → statement M
+in_rows_spec =
     tie.close
     (tie.spec
     invariant-loop

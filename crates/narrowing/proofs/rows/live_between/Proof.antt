@@ -9,48 +9,49 @@ use Rattle.narrowing.proofs.TupleRows.{Filled, filled_none, filled_more, filled-
 use Rattle.narrowing.proofs.rows.live_between.Statement.{statement}
 use Rattle.narrowing.proofs.rows.live_between.Tie as tie
 
-abbrev invariant-loop : tie.invariant-loop
+abbrev invariant-loop : tie.invariant-loop-i
 invariant-loop words start end last alive₀ i₀ alive i = (start / 64 ≤ i) × Filled (start / 64) i start end words alive
 
-abbrev decreases-loop : tie.decreases-loop
+abbrev decreases-loop : tie.decreases-loop-i
 decreases-loop words start end last alive₀ i₀ alive i = last - i
 
-module _ (c : tie.In-loop invariant-loop decreases-loop) where
+module _ (c : tie.In-loop-i invariant-loop decreases-loop) where
   abbrev start : tie.Start invariant-loop decreases-loop
   start = c.before.before.before.before
 
-  few : c.before.loop.i < 64
-  few = omega (arith, c.loop-test.true, c.before.before.before.words-for.ensures, start.pre.1)
+  few : c.before.loop-i.i < 64
+  few = omega (arith, c.loop-i-test.true, c.before.before.before.words_for-last.ensures, start.requires.1)
 
-loop-holds : tie.Need-loop-init invariant-loop decreases-loop
+loop-holds : tie.Need-loop-i-init invariant-loop decreases-loop
 loop-holds c =
     let a = c.before.before.args in
-    let e : c.wide.result ≡ a.start / 64 = omega (arith, c.wide.ensures.0) in (
+    let e : c.wide-i.result ≡ a.start / 64 = omega (arith, c.wide-i.ensures.0) in (
       omega (arith, e),
       subst (λ (i : ℕ). Filled (a.start / 64) i a.start a.end a.words.now (replicate 64 0)) (sym e) (filled_none (a.start / 64) a.start a.end a.words.now),
     )
 
-loop-again : tie.Need-loop-preserved invariant-loop decreases-loop
+loop-again : tie.Need-loop-i-preserved invariant-loop decreases-loop
 loop-again c =
     let turn = c.before.before in
-    let l = turn.before.loop in
+    let l = turn.before.loop-i in
     let a = (start turn).args in
-    (omega (arith, l.invariant.0), filled_more (a.start / 64) a.start a.end a.words.now l.i c.between.result l.alive l.invariant.0 (few turn) c.between.ensures l.invariant.1)
+    (omega (arith, l.invariant.0), filled_more (a.start / 64) a.start a.end a.words.now l.i c.between.result l.alive-1 l.invariant.0 (few turn) c.between.ensures l.invariant.1)
 
 returns : tie.Need-returns invariant-loop decreases-loop
 returns c =
-    let l = c.before.loop in
+    let l = c.before.loop-i in
     let counted = c.before.before.before in
     let a = counted.before.args in
-    filled-all (a.start / 64) a.start a.end a.words.now l.i l.alive (omega arith) (omega (arith, c.loop-test.false, counted.words-for.ensures)) l.invariant.1
+    filled-all (a.start / 64) a.start a.end a.words.now l.i l.alive-1 (omega arith) (omega (arith, c.loop-i-test.false, counted.words_for-last.ensures)) l.invariant.1
 
-pub live-between-spec : {M : Type 1} → statement M
-live-between-spec =
+pub live_between_spec : {M : Type 1} → statement M
+live_between_spec =
     tie.close
     (tie.spec
     invariant-loop
     decreases-loop
-    (λ c κs. search rules) (λ c κs. search rules)
+    (λ c κs. search rules)
+    (λ c κs. search rules)
     loop-holds
     (λ c. omega (arith, few c))
     (λ c. few c)
@@ -58,6 +59,6 @@ live-between-spec =
     (λ c. omega (arith, few c.before.before))
     (λ c. few c.before.before)
     (λ c. omega (arith, few c.before.before))
-    (λ c. omega (arith, c.before.before.loop-test.true))
+    (λ c. omega (arith, c.before.before.loop-i-test.true))
     loop-again
     returns)

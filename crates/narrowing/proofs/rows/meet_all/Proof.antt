@@ -10,29 +10,29 @@ use Rattle.narrowing.proofs.TupleRows.{apart_more}
 use Rattle.narrowing.proofs.rows.meet_all.Statement.{statement}
 use Rattle.narrowing.proofs.rows.meet_all.Tie as tie
 
-abbrev invariant-loop : tie.invariant-loop
+abbrev invariant-loop : tie.invariant-loop-i
 invariant-loop index rows n words from to i₀ i = Apart index n rows from i words
 
-abbrev decreases-loop : tie.decreases-loop
+abbrev decreases-loop : tie.decreases-loop-i
 decreases-loop index rows n words from to i₀ i = to - i
 
-module _ (c : tie.In-loop invariant-loop decreases-loop) where
+module _ (c : tie.In-loop-i invariant-loop decreases-loop) where
   abbrev start : tie.Start invariant-loop decreases-loop
   start = c.before.before
 
-  few : c.before.loop.i < 64
-  few = omega (arith, c.loop-test.true, start.pre.1.1.0)
+  few : c.before.loop-i.i < 64
+  few = omega (arith, c.loop-i-test.true, start.requires.1.1.0)
 
-loop-again : tie.Need-loop-preserved invariant-loop decreases-loop
+loop-again : tie.Need-loop-i-preserved invariant-loop decreases-loop
 loop-again c =
     let found = c.before in
     let turn = found.before.before in
     let a = (start turn).args in
-    let l = turn.before.loop in
-    apart_more a.index.now a.rows.now l.i a.n a.from a.words.now (found.in_all.ensures c.if1.false) l.invariant
+    let l = turn.before.loop-i in
+    apart_more a.index.now a.rows.now l.i a.n a.from a.words.now (found.in_all.ensures c.if-in_all.false) l.invariant
 
-pub meet-all-spec : {M : Type 1} → statement M
-meet-all-spec =
+pub meet_all_spec : {M : Type 1} → statement M
+meet_all_spec =
     tie.close
     (tie.spec
     invariant-loop
@@ -40,9 +40,9 @@ meet-all-spec =
     (λ c g l h e f. omega arith)
     (λ c. omega (arith, few c))
     (λ c. few c)
-    (λ c κs. let s = start c.before in (s.pre.0, (s.pre.1.0, omega (arith, c.before.loop-test.true, s.pre.1.1.1))))
+    (λ c κs. let s = start c.before in (s.requires.0, (s.requires.1.0, omega (arith, c.before.loop-i-test.true, s.requires.1.1.1))))
     (λ c e. absurd (false≢true (sym e)))
     (λ c. omega (arith, few c.before.before.before))
-    (λ c. omega (arith, c.before.before.before.loop-test.true))
+    (λ c. omega (arith, c.before.before.before.loop-i-test.true))
     loop-again
-    (λ c e g l h. c.before.loop.invariant g l (omega (arith, c.loop-test.false))))
+    (λ c e g l h. c.before.loop-i.invariant g l (omega (arith, c.loop-i-test.false))))

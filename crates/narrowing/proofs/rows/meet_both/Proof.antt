@@ -13,42 +13,42 @@ use Rattle.narrowing.proofs.TupleRows.{bits-both, apart_more}
 use Rattle.narrowing.proofs.rows.meet_both.Statement.{statement}
 use Rattle.narrowing.proofs.rows.meet_both.Tie as tie
 
-abbrev invariant-loop : tie.invariant-loop
+abbrev invariant-loop : tie.invariant-loop-i
 invariant-loop index a b words from to any₀ i₀ any i = any ≡ 0 → Apart index 2 (both a b) from i words
 
-abbrev decreases-loop : tie.decreases-loop
+abbrev decreases-loop : tie.decreases-loop-i
 decreases-loop index a b words from to any₀ i₀ any i = to - i
 
-module _ (c : tie.In-loop invariant-loop decreases-loop) where
+module _ (c : tie.In-loop-i invariant-loop decreases-loop) where
   abbrev start : tie.Start invariant-loop decreases-loop
   start = c.before.before
 
-  few : c.before.loop.i < 64
-  few = omega (arith, c.loop-test.true, start.pre.1.0)
+  few : c.before.loop-i.i < 64
+  few = omega (arith, c.loop-i-test.true, start.requires.1.0)
 
-  within_a : start.args.a + c.before.loop.i < index_words
-  within_a = omega (arith, c.loop-test.true, start.pre.1.1, start.pre.0.inside 0 (omega arith))
+  within_a : start.args.a + c.before.loop-i.i < index_words
+  within_a = omega (arith, c.loop-i-test.true, start.requires.1.1, start.requires.0.inside 0 (omega arith))
 
-  within_b : start.args.b + c.before.loop.i < index_words
-  within_b = omega (arith, c.loop-test.true, start.pre.1.1, start.pre.0.inside 1 (omega arith))
+  within_b : start.args.b + c.before.loop-i.i < index_words
+  within_b = omega (arith, c.loop-i-test.true, start.requires.1.1, start.requires.0.inside 1 (omega arith))
 
-loop-again : tie.Need-loop-preserved invariant-loop decreases-loop
+loop-again : tie.Need-loop-i-preserved invariant-loop decreases-loop
 loop-again c e =
     let turn = c.before.before.before in
     let a = (start turn).args in
-    let l = turn.before.loop in
-    let none = or-none l.any _ e in
+    let l = turn.before.loop-i in
+    let none = or-none l.any-1 _ e in
     apart_more a.index.now (both a.a a.b) l.i 2 a.from a.words.now
     (subst (BitsInRows a.index.now 2 (both a.a a.b) l.i (get_or a.words.now l.i 0)) none.1 (bits-both a.index.now a.a a.b l.i (get_or a.words.now l.i 0)))
     (l.invariant none.0)
 
 returns : tie.Need-returns invariant-loop decreases-loop
 returns c e g l h =
-    let w = c.before.loop in
-    w.invariant (eqb-true w.any 0 (not-false (eqb w.any 0) e)) g l (omega (arith, c.loop-test.false))
+    let w = c.before.loop-i in
+    w.invariant (eqb-true w.any-1 0 (not-false (eqb w.any-1 0) e)) g l (omega (arith, c.loop-i-test.false))
 
-pub meet-both-spec : {M : Type 1} → statement M
-meet-both-spec =
+pub meet_both_spec : {M : Type 1} → statement M
+meet_both_spec =
     tie.close
     (tie.spec
     invariant-loop
@@ -63,6 +63,6 @@ meet-both-spec =
     (λ c. omega (arith, within_b c.before.before))
     (λ c. within_b c.before.before)
     (λ c. omega (arith, few c.before.before.before))
-    (λ c. omega (arith, c.before.before.before.loop-test.true))
+    (λ c. omega (arith, c.before.before.before.loop-i-test.true))
     loop-again
     returns)

@@ -23,10 +23,10 @@ use Rattle.narrowing.proofs.rows.next_in_rows.Tie as tie
 abbrev NoneTo : List ℕ → List ℕ → ℕ → List ℕ → ℕ → ℕ → Type 0
 NoneTo index rows n words start at = (h : ℕ) → start ≤ h → h < at → is_live words h ≡ true → in_rows index rows n h ≡ true → ⊥
 
-abbrev invariant-loop : tie.invariant-loop
+abbrev invariant-loop : tie.invariant-loop-at
 invariant-loop index rows n words start end at₀ at = (start ≤ at) × NoneTo index rows n words start at
 
-abbrev decreases-loop : tie.decreases-loop
+abbrev decreases-loop : tie.decreases-loop-at
 decreases-loop index rows n words start end at₀ at = end - at
 
 -- ---- The word of id `at`, w of which is left of the rows
@@ -84,8 +84,8 @@ none_then index rows n words start at to f s h l b = go (dec_lt h at)
 
 -- ---- In the loop
 
-module _ (c : tie.After-in-rows invariant-loop decreases-loop) where
-  abbrev loop : tie.At-loop invariant-loop decreases-loop
+module _ (c : tie.After-in_rows invariant-loop decreases-loop) where
+  abbrev loop : tie.At-loop-at invariant-loop decreases-loop
   loop = c.before.before.before.before
 
   abbrev start : tie.Start invariant-loop decreases-loop
@@ -93,79 +93,82 @@ module _ (c : tie.After-in-rows invariant-loop decreases-loop) where
 
   left : BitsInRows start.args.index.now start.args.n start.args.rows.now (loop.loop.at / 64) (get_or start.args.words.now (loop.loop.at / 64) 0) c.in_rows.result
   left =
-      rw (sym c.before.before.wide.ensures.0)
+      rw (sym c.before.before.wide-i.ensures.0)
       c.in_rows.ensures
 
   fits : c.in_rows.result < 2 ^ 64
   fits = c.in_rows.type-inv
 
   inside : loop.loop.at < start.args.end
-  inside = c.before.before.before.loop-test.true
+  inside = c.before.before.before.loop-at-test.true
 
 few : (s : tie.Start invariant-loop decreases-loop) → s.args.end ≤ 4096
 few s = s.requires.1.0.1
 
-in-rows-requires : tie.Need-in-rows-requires invariant-loop decreases-loop
+in-rows-requires : tie.Need-in_rows-requires invariant-loop decreases-loop
 in-rows-requires c κs =
     let l = c.before.before in
     let s = l.before.before in
-    (s.requires.0.1, omega (arith, c.before.wide.ensures.0, s.requires.1.0.0, l.loop-test.true))
+    (s.requires.0.1, omega (arith, c.before.wide-i.ensures.0, s.requires.1.0.0, l.loop-at-test.true))
 
-returns : tie.Need-returns invariant-loop decreases-loop
+returns : tie.Need-returns-then-g-end invariant-loop decreases-loop
 returns c =
     let r = c.before.before in
-    let l = (loop r).loop in
+    let l = (loop r).loop-at in
     let a = (start r).args in
     let z = zeros a.index.now a.rows.now a.n a.words.now l.at r.in_rows.result (left r) in
     record {
       from_on = omega (arith, l.inv.0);
-      to_end = omega (arith, c.if2.true);
-      lives = λ h. found-lives a.index.now a.rows.now a.n a.words.now l.at r.in_rows.result (left r) (fits r) c.before.if1.true;
-      none_before = none_then a.index.now a.rows.now a.n a.words.now a.start l.at _ l.inv.1 (none-to-found a.index.now a.rows.now a.n a.words.now l.at r.in_rows.result (left r) (fits r) c.before.if1.true);
+      to_end = omega (arith, c.if-g-end.true);
+      lives = λ h. found-lives a.index.now a.rows.now a.n a.words.now l.at r.in_rows.result (left r) (fits r) c.before.if-w-ne0.true;
+      none_before = none_then a.index.now a.rows.now a.n a.words.now a.start l.at _ l.inv.1 (none-to-found a.index.now a.rows.now a.n a.words.now l.at r.in_rows.result (left r) (fits r) c.before.if-w-ne0.true);
     }
 
-returns-2 : tie.Need-returns-2 invariant-loop decreases-loop
+returns-2 : tie.Need-returns-else-g-end invariant-loop decreases-loop
 returns-2 c =
     let r = c.before.before in
-    let l = (loop r).loop in
+    let l = (loop r).loop-at in
     let a = (start r).args in
-    let before = none_then a.index.now a.rows.now a.n a.words.now a.start l.at _ l.inv.1 (none-to-found a.index.now a.rows.now a.n a.words.now l.at r.in_rows.result (left r) (fits r) c.before.if1.true) in
+    let before = none_then a.index.now a.rows.now a.n a.words.now a.start l.at _ l.inv.1 (none-to-found a.index.now a.rows.now a.n a.words.now l.at r.in_rows.result (left r) (fits r) c.before.if-w-ne0.true) in
     record {
       from_on = omega (arith, (start r).requires.1.1);
       to_end = omega arith;
       lives = λ h. absurd (omega arith);
-      none_before = λ h s b. before h s (omega (arith, c.if2.false));
+      none_before = λ h s b. before h s (omega (arith, c.if-g-end.false));
     }
 
-loop-again : tie.Need-loop-preserved invariant-loop decreases-loop
+loop-again : tie.Need-loop-at-preserved invariant-loop decreases-loop
 loop-again c =
     let r = c.before in
-    let l = (loop r).loop in
+    let l = (loop r).loop-at in
     let a = (start r).args in
-    (omega (arith, l.inv.0), none_then a.index.now a.rows.now a.n a.words.now a.start l.at _ l.inv.1 (none-of-empty a.index.now a.rows.now a.n a.words.now l.at r.in_rows.result (left r) c.if1.false))
+    (omega (arith, l.inv.0), none_then a.index.now a.rows.now a.n a.words.now a.start l.at _ l.inv.1 (none-of-empty a.index.now a.rows.now a.n a.words.now l.at r.in_rows.result (left r) c.if-w-ne0.false))
 
-returns-3 : tie.Need-returns-3 invariant-loop decreases-loop
+returns-3 : tie.Need-returns invariant-loop decreases-loop
 returns-3 c =
     let s = c.before.before in
     record {
       from_on = s.requires.1.1;
       to_end = omega arith;
       lives = λ h. absurd (omega arith);
-      none_before = λ h a b. c.before.loop.invariant.1 h a (omega (arith, c.loop-test.false));
+      none_before = λ h a b. c.before.loop-at.invariant.1 h a (omega (arith, c.loop-at-test.false));
     }
 
-pub next-in-rows-spec : {M : Type 1} → statement M
-next-in-rows-spec =
+pub next_in_rows_spec : {M : Type 1} → statement M
+next_in_rows_spec =
     tie.close
-    (tie.spec invariant-loop decreases-loop
+    (tie.spec
+    invariant-loop
+    decreases-loop
     (λ c. (omega arith, λ h a b. absurd (omega arith)))
     (λ c κs. search rules)
-    (λ c. omega (arith, c.wide.ensures.1))
-    (λ c. let s = c.before.before.before in omega (arith, c.wide.ensures.0, few s, c.before.loop-test.true))
+    (λ c. omega (arith, c.wide-i.ensures.1))
+    (λ c. let s = c.before.before.before in omega (arith, c.wide-i.ensures.0, few s, c.before.loop-at-test.true))
     in-rows-requires
-    (λ c. search rules) (λ c. search rules)
-    (λ c. let r = c.before in omega (arith, trailing_le 64 (rest (start r).args.index.now (start r).args.rows.now (start r).args.n (start r).args.words.now (loop r).loop.at r.in_rows.result (left r))))
-    (λ c. let r = c.before in omega (arith, few (start r), inside r, trailing_le 64 (rest (start r).args.index.now (start r).args.rows.now (start r).args.n (start r).args.words.now (loop r).loop.at r.in_rows.result (left r))))
+    (λ c. search rules)
+    (λ c. search rules)
+    (λ c. let r = c.before in omega (arith, trailing_le 64 (rest (start r).args.index.now (start r).args.rows.now (start r).args.n (start r).args.words.now (loop r).loop-at.at r.in_rows.result (left r))))
+    (λ c. let r = c.before in omega (arith, few (start r), inside r, trailing_le 64 (rest (start r).args.index.now (start r).args.rows.now (start r).args.n (start r).args.words.now (loop r).loop-at.at r.in_rows.result (left r))))
     returns
     returns-2
     (λ c. let r = c.before in omega (arith, few (start r), inside r))

@@ -7,25 +7,30 @@ use lib.ListN.{get_or}
 use Rattle.narrowing.proofs.rows.row_or_last.Statement.{statement}
 use Rattle.narrowing.proofs.rows.row_or_last.Tie as tie
 
-returns : tie.Need-returns
+returns : tie.Need-returns-then-k-n
 returns c =
     let t = c.before.before in
     let a = t.before.args in
-    let own : a.k ≡ min a.k (a.n - 1) = omega (arith, t.if1.true) in
+    let own : a.k ≡ min a.k (a.n - 1) = omega (arith, t.if-k-n.true) in
     c.wide.ensures.0 ∙ ap (λ (j : ℕ). get_or a.rows.now j 0) own
 
-returns-2 : tie.Need-returns-2
+returns-2 : tie.Need-returns
 returns-2 c =
     let t = c.before.before in
     let a = t.before.args in
-    let last : a.n - 1 ≡ min a.k (a.n - 1) = omega (arith, t.if1.false) in
-    c.wide2.ensures.0 ∙ ap (λ (j : ℕ). get_or a.rows.now j 0) last
+    let last : a.n - 1 ≡ min a.k (a.n - 1) = omega (arith, t.if-k-n.false) in
+    c.wide-2.ensures.0 ∙ ap (λ (j : ℕ). get_or a.rows.now j 0) last
 
-pub row-or-last-spec : {M : Type 1} → statement M
-row-or-last-spec =
+pub row_or_last_spec : {M : Type 1} → statement M
+row_or_last_spec =
     tie.close
     (tie.spec
-    (λ c. search rules) (λ c. search rules) (λ c κs. search rules)
+    (λ c. search rules)
+    (λ c. search rules)
+    (λ c κs. search rules)
     returns
-    (λ c. search rules) (λ c. search rules) (λ c. search rules) (λ c κs. search rules)
+    (λ c. search rules)
+    (λ c. search rules)
+    (λ c. search rules)
+    (λ c κs. search rules)
     returns-2)

@@ -10,59 +10,61 @@ use Rattle.narrowing.proofs.TupleRows.{rows_then}
 use Rattle.narrowing.proofs.rows.rows_between.Statement.{statement}
 use Rattle.narrowing.proofs.rows.rows_between.Tie as tie
 
-abbrev invariant-loop : tie.invariant-loop
+abbrev invariant-loop : tie.invariant-loop-rows
 invariant-loop bits scope-a a scope-b index s rows₀ n₀ j₀ rows n j = (n ≤ 4 * j) × FirstRows (SharedRow scope-a a scope-b index s) n rows
 
-abbrev decreases-loop : tie.decreases-loop
+abbrev decreases-loop : tie.decreases-loop-rows
 decreases-loop bits scope-a a scope-b index s rows₀ n₀ j₀ rows n j = length scope-b - j
 
 -- the column reached is one
-module _ (c : tie.Then1 invariant-loop decreases-loop) where
+module _ (c : tie.In-loop-rows invariant-loop decreases-loop) where
   abbrev start : tie.Start invariant-loop decreases-loop
   start = c.before.before.before.before.before.before
 
-  below : c.before.before.loop.j < length start.args.scope-b.now
-  below = omega (arith, c.before.wide.ensures.0, c.if1.true)
+  below : c.before.before.loop-rows.j < length start.args.scope-b.now
+  below = omega (arith, c.before.wide.ensures.0, c.loop-rows-test.true)
 
-  few : c.before.before.loop.j < 8
-  few = omega (arith, below, start.pre.0.1.1)
+  few : c.before.before.loop-rows.j < 8
+  few = omega (arith, below, start.requires.0.1.1)
 
-loop-holds : tie.Need-loop-init invariant-loop decreases-loop
+loop-holds : tie.Need-loop-rows-init invariant-loop decreases-loop
 loop-holds c = let s = c.before.before.before in (omega arith, record { long = s.requires.0.0; few = omega arith; at = λ k h. absurd (omega arith) })
 
-add-column-requires : tie.Need-add-column-requires invariant-loop decreases-loop
+add-column-requires : tie.Need-add_column-n-requires invariant-loop decreases-loop
 add-column-requires c κs =
     let turn = c.before.before.before in
-    let l = turn.before.before.loop in
+    let l = turn.before.before.loop-rows in
     let p = (start turn).requires in
     ((l.invariant.1.long, (omega (arith, few turn, l.invariant.0), p.0.1.0)), (p.1.0, (p.1.1, few turn)))
 
-loop-again : tie.Need-loop-preserved invariant-loop decreases-loop
+loop-again : tie.Need-loop-rows-preserved invariant-loop decreases-loop
 loop-again c =
     let read = c.before.before.before in
     let turn = read.before in
-    let l = turn.before.before.loop in
+    let l = turn.before.before.loop-rows in
     let a = (start turn).args in
-    let added = c.add-column.ensures in
-    let h : c.add-column.result ≤ 32 = omega (arith, few turn, l.invariant.0, added.few) in
-    let v = ap (λ (k : ℕ). get_or a.scope-b.now k 0) read.wide2.ensures.0 in (
+    let added = c.add_column-n.ensures in
+    let h : c.add_column-n.result ≤ 32 = omega (arith, few turn, l.invariant.0, added.few) in
+    let v = ap (λ (k : ℕ). get_or a.scope-b.now k 0) read.wide-in-loop-rows.ensures.0 in (
       omega (arith, l.invariant.0, added.few),
       rows_then
           (λ first row. record { column = l.j; inside = below turn; row = subst (λ (n : ℕ). ColumnRow a.scope-a.now a.a.now a.index.now a.s l.j n first) v row })
           added h l.invariant.1,
     )
 
-pub rows-between-spec : {M : Type 1} → statement M
-rows-between-spec =
+pub rows_between_spec : {M : Type 1} → statement M
+rows_between_spec =
     tie.close
     (tie.spec
     invariant-loop
     decreases-loop
     loop-holds
-    (λ c κs. search rules) (λ c κs. search rules) (λ c. search rules)
-    (λ c. omega (arith, below c.before.before, c.before.wide2.ensures.0))
+    (λ c κs. search rules)
+    (λ c κs. search rules)
+    (λ c. search rules)
+    (λ c. omega (arith, below c.before.before, c.before.wide-in-loop-rows.ensures.0))
     add-column-requires
     (λ c. omega (arith, few c.before.before.before.before))
     (λ c. omega (arith, below c.before.before.before.before))
     loop-again
-    (λ c. c.before.before.loop.invariant.1))
+    (λ c. c.before.before.loop-rows.invariant.1))

@@ -15,7 +15,7 @@ use Rattle.narrowing.proofs.TupleRows.{part-tuple}
 use Rattle.narrowing.proofs.rows.rows_for.Statement.{statement}
 use Rattle.narrowing.proofs.rows.rows_for.Tie as tie
 
-module _ (c : tie.After-place-of2) where
+module _ (c : tie.After-place_of-q) where
   abbrev start : tie.Start
   start = c.before.before.before.before
 
@@ -23,27 +23,27 @@ module _ (c : tie.After-place-of2) where
   L = record { variables = start.args.variables.now; values = start.args.values.now; starts = start.args.starts.now }
 
   abbrev laid : SoundLists L
-  laid = start.pre.1.0.laid
+  laid = start.requires.1.0.laid
 
-  own : Within laid start.args.r start.args.x start.pre.1.0.own c.before.place_of.result
-  own = place-within laid start.args.r start.args.x start.pre.1.0.own c.before.place_of.result c.before.place_of.ensures
+  own : Within laid start.args.r start.args.x start.requires.1.0.own c.before.place_of-p.result
+  own = place-within laid start.args.r start.args.x start.requires.1.0.own c.before.place_of-p.result c.before.place_of-p.ensures
 
-  other : (c.place-of2.result.scope ≤ c.place-of2.result.scope_end) × (c.place-of2.result.scope_end ≤ length start.args.variables.now)
+  other : (c.place_of-q.result.scope ≤ c.place_of-q.result.scope_end) × (c.place_of-q.result.scope_end ≤ length start.args.variables.now)
   other = (
-    place-rises laid start.args.s start.pre.1.1 c.place-of2.result 0 c.place-of2.ensures,
-    place_inside laid start.args.s start.pre.1.1 c.place-of2.result 0 c.place-of2.ensures,
+    place-rises laid start.args.s start.requires.1.1 c.place_of-q.result 0 c.place_of-q.ensures,
+    place_inside laid start.args.s start.requires.1.1 c.place_of-q.result 0 c.place_of-q.ensures,
   )
 
-abbrev places : tie.After-scope-bits → tie.After-place-of2
+abbrev places : tie.After-scope_bits → tie.After-place_of-q
 places c = c.before
 
-rows-between-requires : tie.Need-rows-between-requires
+rows-between-requires : tie.Need-rows_between-requires
 rows-between-requires c κs =
     let w = places c.before.before.before.before in
     let s = start w in
     let a = s.args in (
-      (s.pre.0, (place-lengths (laid w) a.r a.x s.pre.1.0.own w.before.place_of.result w.before.place_of.ensures, place-few (laid w) a.s s.pre.1.1 w.place-of2.result 0 w.place-of2.ensures)),
-      (s.pre.1.0.indexed.plan, s.pre.1.1),
+      (s.requires.0, (place-lengths (laid w) a.r a.x s.requires.1.0.own w.before.place_of-p.result w.before.place_of-p.ensures, place-few (laid w) a.s s.requires.1.1 w.place_of-q.result 0 w.place_of-q.ensures)),
+      (s.requires.1.0.indexed.plan, s.requires.1.1),
     )
 
 -- rows by other names of the two scopes and the values
@@ -58,26 +58,35 @@ returns c =
     let w = places c.before.before.before.before.before in
     let s = start w in
     let a = s.args in
-    let p = w.before.place_of.result in
-    let e = w.before.place_of.ensures in
-    let h = below-limit (laid w) a.r a.x s.pre.1.0.own in
+    let p = w.before.place_of-p.result in
+    let e = w.before.place_of-p.ensures in
+    let h = below-limit (laid w) a.r a.x s.requires.1.0.own in
     let columns = width_in a.starts.now a.r in
     shared-as
     (place-scope (laid w) a.r h p a.x e)
-    (part-tuple (laid w) a.r a.x columns p.tuple p.tuple_end s.pre.1.0.own (width-in (laid w).framed a.r h) (ap (λ (q : Place). q.tuple) e)
+    (part-tuple (laid w) a.r a.x columns p.tuple p.tuple_end s.requires.1.0.own (width-in (laid w).framed a.r h) (ap (λ (q : Place). q.tuple) e)
     (ap (λ (q : Place). q.tuple_end) e ∙ ap (λ (n : ℕ). n + columns) (sym (ap (λ (q : Place). q.tuple) e))))
-    (place-scope (laid w) a.s s.pre.1.1 w.place-of2.result 0 w.place-of2.ensures)
-    c.rows-between.ensures
+    (place-scope (laid w) a.s s.requires.1.1 w.place_of-q.result 0 w.place_of-q.ensures)
+    c.rows_between.ensures
 
-pub rows-for-spec : {M : Type 1} → statement M
-rows-for-spec =
+pub rows_for_spec : {M : Type 1} → statement M
+rows_for_spec =
     tie.close
     (tie.spec
     (λ c κs. let s = c.before.before in (s.requires.1.0.laid.framed, below-limit s.requires.1.0.laid s.args.r s.args.x s.requires.1.0.own))
     (λ c κs. let s = c.before.before.before in (s.requires.1.0.laid.framed, s.requires.1.1))
-    (λ c κs. let s = start c in below-limit (laid c) s.args.r s.args.x s.pre.1.0.own)
-    (λ c. omega (arith, own (places c))) (λ c. omega (arith, own (places c))) (λ c. omega (arith, own (places c))) (λ c. omega (arith, own (places c)))
-    (λ c. omega (arith, own (places c.before))) (λ c. omega (arith, own (places c.before))) (λ c. omega (arith, own (places c.before))) (λ c. omega (arith, own (places c.before)))
-    (λ c. omega (arith, other (places c.before.before))) (λ c. omega (arith, other (places c.before.before))) (λ c. omega (arith, other (places c.before.before))) (λ c. omega (arith, other (places c.before.before)))
+    (λ c κs. let s = start c in below-limit (laid c) s.args.r s.args.x s.requires.1.0.own)
+    (λ c. omega (arith, own (places c)))
+    (λ c. omega (arith, own (places c)))
+    (λ c. omega (arith, own (places c)))
+    (λ c. omega (arith, own (places c)))
+    (λ c. omega (arith, own (places c.before)))
+    (λ c. omega (arith, own (places c.before)))
+    (λ c. omega (arith, own (places c.before)))
+    (λ c. omega (arith, own (places c.before)))
+    (λ c. omega (arith, other (places c.before.before)))
+    (λ c. omega (arith, other (places c.before.before)))
+    (λ c. omega (arith, other (places c.before.before)))
+    (λ c. omega (arith, other (places c.before.before)))
     rows-between-requires
     returns)

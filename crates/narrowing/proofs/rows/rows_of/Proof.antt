@@ -9,39 +9,39 @@ use Rattle.narrowing.proofs.TupleRows.{rows_then}
 use Rattle.narrowing.proofs.rows.rows_of.Statement.{statement}
 use Rattle.narrowing.proofs.rows.rows_of.Tie as tie
 
-abbrev invariant-loop : tie.invariant-loop
+abbrev invariant-loop : tie.invariant-loop-c
 invariant-loop index columns tuple rows₀ n₀ c₀ rows n c = (n ≤ 4 * c) × FirstRows (RowOf index columns tuple) n rows
 
-abbrev decreases-loop : tie.decreases-loop
+abbrev decreases-loop : tie.decreases-loop-c
 decreases-loop index columns tuple rows₀ n₀ c₀ rows n c = length tuple - c
 
-module _ (c : tie.In-loop invariant-loop decreases-loop) where
+module _ (c : tie.In-loop-c invariant-loop decreases-loop) where
   abbrev start : tie.Start invariant-loop decreases-loop
   start = c.before.before.before
 
-  few : c.before.loop.c < 8
-  few = omega (arith, c.loop-test.true, start.pre.1.1.0)
+  few : c.before.loop-c.c < 8
+  few = omega (arith, c.loop-c-test.true, start.requires.1.1.0)
 
-loop-holds : tie.Need-loop-init invariant-loop decreases-loop
+loop-holds : tie.Need-loop-c-init invariant-loop decreases-loop
 loop-holds c = (omega arith, record { long = c.before.requires.0; few = omega arith; at = λ k h. absurd (omega arith) })
 
-add-value-requires : tie.Need-add-value-requires invariant-loop decreases-loop
+add-value-requires : tie.Need-add_value-n-requires invariant-loop decreases-loop
 add-value-requires c κs =
     let turn = c.before.before.before in
     let p = (start turn).requires in
-    let l = turn.before.loop in
-    (l.invariant.1.long, (p.1.0, (omega (arith, few turn, l.invariant.0), p.1.1.1 l.c turn.loop-test.true)))
+    let l = turn.before.loop-c in
+    (l.invariant.1.long, (p.1.0, (omega (arith, few turn, l.invariant.0), p.1.1.1 l.c turn.loop-c-test.true)))
 
-loop-again : tie.Need-loop-preserved invariant-loop decreases-loop
+loop-again : tie.Need-loop-c-preserved invariant-loop decreases-loop
 loop-again c =
     let turn = c.before.before.before.before in
-    let l = turn.before.loop in
-    let added = c.add-value.ensures in
-    let h : c.add-value.result ≤ 32 = omega (arith, few turn, l.invariant.0, added.few) in
-    (omega (arith, l.invariant.0, added.few), rows_then (λ first row. record { column = l.c; inside = turn.loop-test.true; row = row }) added h l.invariant.1)
+    let l = turn.before.loop-c in
+    let added = c.add_value-n.ensures in
+    let h : c.add_value-n.result ≤ 32 = omega (arith, few turn, l.invariant.0, added.few) in
+    (omega (arith, l.invariant.0, added.few), rows_then (λ first row. record { column = l.c; inside = turn.loop-c-test.true; row = row }) added h l.invariant.1)
 
-pub rows-of-spec : {M : Type 1} → statement M
-rows-of-spec =
+pub rows_of_spec : {M : Type 1} → statement M
+rows_of_spec =
     tie.close
     (tie.spec
     invariant-loop
@@ -55,4 +55,4 @@ rows-of-spec =
     (λ c. search rules)
     (λ c. search rules)
     loop-again
-    (λ c. c.before.loop.invariant.1))
+    (λ c. c.before.loop-c.invariant.1))

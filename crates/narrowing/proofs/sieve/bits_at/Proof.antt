@@ -6,10 +6,10 @@ use Rattle.narrowing.specs.Sieve.{bits_of}
 use Rattle.narrowing.proofs.sieve.bits_at.Statement.{statement}
 use Rattle.narrowing.proofs.sieve.bits_at.Tie as tie
 
-pub bits-at-spec : {M : Type 1} → statement M
-bits-at-spec =
+pub bits_at_spec : {M : Type 1} → statement M
+bits_at_spec =
     tie.close
     (tie.spec
     (λ c κs. c.before.before.requires)
     (λ c κs. search rules)
-    (λ c. c.bits_of.ensures ∙ ap bits_of c.before.value-at.ensures))
+    (λ c. c.bits_of.ensures ∙ ap bits_of c.before.value_at.ensures))

@@ -14,22 +14,22 @@ use Rattle.narrowing.proofs.sieve.bits_of.Tie as tie
 small : (v : ℕ) → bit_of v < 64
 small v = omega (arith, mixed-below v)
 
-returns : tie.Need-returns
+returns : tie.Need-returns-then-is_any
 unfolding bits_of
 returns c =
     let v = c.before.before.args.value in
-    ap (λ (b : Bool). all_or b (bit_of v)) (sym (sym c.before.is_any.ensures ∙ c.if1.true))
+    ap (λ (b : Bool). all_or b (bit_of v)) (sym (sym c.before.is_any.ensures ∙ c.if-is_any.true))
 
-returns-2 : tie.Need-returns-2
+returns-2 : tie.Need-returns
 unfolding bits_of
 returns-2 c =
     let v = c.before.before.before.args.value in
     ap (λ (h : ℕ). 1 * 2 ^ (h / 67108864) % 2 ^ 64) c.mix.ensures
     ∙ one_shl (bit_of v) (small v)
-    ∙ ap (λ (b : Bool). all_or b (bit_of v)) (sym (sym c.before.before.is_any.ensures ∙ c.before.if1.false))
+    ∙ ap (λ (b : Bool). all_or b (bit_of v)) (sym (sym c.before.before.is_any.ensures ∙ c.before.if-is_any.false))
 
-pub bits-of-spec : {M : Type 1} → statement M
-bits-of-spec =
+pub bits_of_spec : {M : Type 1} → statement M
+bits_of_spec =
     tie.close
     (tie.spec
     (λ c κs. search rules)

@@ -16,40 +16,40 @@ use Rattle.narrowing.proofs.sieve.passes.Tie as tie
 few : (s : tie.Start) → s.args.r < max_relations
 few s = below-limit s.requires.laid s.args.r s.args.x s.requires.own
 
-module _ (c : tie.After-variable-start2) where
+module _ (c : tie.After-variable_start-a_end) where
   abbrev start : tie.Start
   start = c.before.before.before.before
 
   abbrev network : Network
   network = network_in (record { variables = start.args.variables.now; values = start.args.values.now; starts = start.args.starts.now })
 
-  rises : c.before.variable-start.result ≤ c.variable-start2.result
+  rises : c.before.variable_start-a.result ≤ c.variable_start-a_end.result
   rises =
-      omega (arith, c.before.variable-start.ensures.0, c.variable-start2.ensures.0, scope-rises start.pre.laid.framed start.args.r (few start))
+      omega (arith, c.before.variable_start-a.ensures.0, c.variable_start-a_end.ensures.0, scope-rises start.requires.laid.framed start.args.r (few start))
 
-  width_is : c.variable-start2.result - c.before.variable-start.result ≡ width network start.args.r
+  width_is : c.variable_start-a_end.result - c.before.variable_start-a.result ≡ width network start.args.r
   width_is =
-      omega (arith, c.before.variable-start.ensures.0, c.variable-start2.ensures.0, width-in start.pre.laid.framed start.args.r (few start))
+      omega (arith, c.before.variable_start-a.ensures.0, c.variable_start-a_end.ensures.0, width-in start.requires.laid.framed start.args.r (few start))
 
-returns : tie.Need-returns
+returns : tie.Need-returns-then-a_end-a
 returns c =
     let read = c.before.before in
     let a = (start read).args in
-    sym (passes_none (network read) a.r a.x a.sieve (omega (arith, c.if1.true, width_is read, c.before.wide.ensures.0)))
+    sym (passes_none (network read) a.r a.x a.sieve (omega (arith, c.if-a_end-a.true, width_is read, c.before.wide.ensures.0)))
 
 -- the column is one of the relation's
-inside : (c : tie.Else1) → let read = c.before.before in (start read).args.sieve.column < width (network read) (start read).args.r
-inside c = omega (arith, c.if1.false, width_is c.before.before, c.before.wide.ensures.0)
+inside : (c : tie.Else-a_end-a) → let read = c.before.before in (start read).args.sieve.column < width (network read) (start read).args.r
+inside c = omega (arith, c.if-a_end-a.false, width_is c.before.before, c.before.wide.ensures.0)
 
-returns-2 : tie.Need-returns-2
+returns-2 : tie.Need-returns
 returns-2 c =
     let e = c.before.before in
     let read = e.before.before in
     let a = (start read).args in
     sym (passes-bits (network read) a.r a.x a.sieve c.before.bits_at.result c.before.bits_at.ensures (inside e))
 
-pub passes-spec : {M : Type 1} → statement M
-passes-spec =
+pub passes_spec : {M : Type 1} → statement M
+passes_spec =
     tie.close
     (tie.spec
     (λ c κs. omega (arith, few c.before.before))
@@ -58,5 +58,5 @@ passes-spec =
     (λ c. rises c)
     (λ c κs. search rules)
     returns
-    (λ c κs. ((start c.before.before).pre, inside c))
+    (λ c κs. ((start c.before.before).requires, inside c))
     returns-2)

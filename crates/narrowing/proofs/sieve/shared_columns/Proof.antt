@@ -9,52 +9,53 @@ use Rattle.layout.proofs.Columns.{column-found}
 use Rattle.narrowing.proofs.sieve.shared_columns.Statement.{statement}
 use Rattle.narrowing.proofs.sieve.shared_columns.Tie as tie
 
-abbrev invariant-loop : tie.invariant-loop
+abbrev invariant-loop : tie.invariant-loop-x
 invariant-loop scope-a scope-b without i₀ i = i ≤ length scope-a
 
-abbrev decreases-loop : tie.decreases-loop
+abbrev decreases-loop : tie.decreases-loop-x
 decreases-loop scope-a scope-b without i₀ i = length scope-a - i
 
 -- the column reached is one
-below : (c : tie.Then1 invariant-loop decreases-loop) → c.before.before.loop.i < length c.before.before.before.before.before.args.scope-a.now
-below c = omega (arith, c.before.wide.ensures.0, c.if1.true)
+below : (c : tie.In-loop-x invariant-loop decreases-loop) → c.before.before.loop-x.i < length c.before.before.before.before.before.args.scope-a.now
+below c = omega (arith, c.before.wide.ensures.0, c.loop-x-test.true)
 
 -- scope b has its variable
-returns : tie.Need-returns invariant-loop decreases-loop
+returns : tie.Need-returns-then-j-scope_b invariant-loop decreases-loop
 returns c =
     let found = c.before in
     let k = found.before.before.before.before in
     let here = k.before in
     let a = here.before.before.before.before.before.args in
-    let v = get_or a.scope-a.now k.wide2.result 0 in
-    let e = found.column-of.ensures in
-    let l = c.if3.true in
+    let v = get_or a.scope-a.now k.wide-in-loop-x.result 0 in
+    let e = found.column_of-j.ensures in
+    let l = c.if-j-scope_b.true in
     record {
       same = λ h. (
         below here,
         l,
-        ap (λ (k : ℕ). get_or a.scope-a.now k 0) (sym k.wide2.ensures.0)
+        ap (λ (k : ℕ). get_or a.scope-a.now k 0) (sym k.wide-in-loop-x.ensures.0)
             ∙ sym (subst (λ (k : ℕ). get_or a.scope-b.now k 0 ≡ v) (sym e) (column-found v a.scope-b.now (subst (λ (k : ℕ). k < length a.scope-b.now) e l))),
       );
       none = λ h. absurd (omega (arith, h, below here, here.before.before.before.before.before.requires.0));
     }
 
-abbrev at : tie.Joined2 invariant-loop decreases-loop → tie.Then1 invariant-loop decreases-loop
+abbrev at : tie.Joined-not-is_in invariant-loop decreases-loop → tie.In-loop-x invariant-loop decreases-loop
 at c = c.before.before.before.before
 
-pub shared-columns-spec : {M : Type 1} → statement M
-shared-columns-spec =
+pub shared_columns_spec : {M : Type 1} → statement M
+shared_columns_spec =
     tie.close
     (tie.spec
     invariant-loop
     decreases-loop
     (λ c. omega arith)
-    (λ c κs. search rules) (λ c κs. search rules)
+    (λ c κs. search rules)
+    (λ c κs. search rules)
     (λ c. search rules)
-    (λ c. omega (arith, below c.before.before, c.before.wide2.ensures.0))
+    (λ c. omega (arith, below c.before.before, c.before.wide-in-loop-x.ensures.0))
     (λ c κs. search rules)
     (λ c κs. search rules)
-    (λ c. omega (arith, c.if3.true, c.before.before.before.before.before.before.before.before.before.before.before.requires.1))
+    (λ c. omega (arith, c.if-j-scope_b.true, c.before.before.before.before.before.before.before.before.before.before.before.requires.1))
     returns
     (λ c. omega (arith, below (at c), (at c).before.before.before.before.before.requires.0))
     (λ c. omega (arith, below (at c)))

@@ -17,7 +17,7 @@ use Rattle.narrowing.proofs.sieve.shared_of.Tie as tie
 abbrev given : tie.Start → Lists
 given s = record { variables = s.args.variables.now; values = s.args.values.now; starts = s.args.starts.now }
 
-module _ (c : tie.After-variable-start4) where
+module _ (c : tie.After-variable_start-b_end) where
   abbrev start : tie.Start
   start = c.before.before.before.before.before.before
 
@@ -25,54 +25,59 @@ module _ (c : tie.After-variable-start4) where
   N = network_in (given start)
 
   abbrev a : ℕ
-  a = c.before.before.before.variable-start.result
+  a = c.before.before.before.variable_start-a.result
 
   abbrev a-end : ℕ
-  a-end = c.before.before.variable-start2.result
+  a-end = c.before.before.variable_start-a_end.result
 
   abbrev b : ℕ
-  b = c.before.variable-start3.result
+  b = c.before.variable_start-b.result
 
   abbrev b_end : ℕ
-  b_end = c.variable-start4.result
+  b_end = c.variable_start-b_end.result
 
   rises-a : a ≤ a-end
-  rises-a = omega (arith, c.before.before.before.variable-start.ensures.0, c.before.before.variable-start2.ensures.0, scope-rises start.pre.0.framed start.args.r start.pre.1.0)
+  rises-a = omega (arith, c.before.before.before.variable_start-a.ensures.0, c.before.before.variable_start-a_end.ensures.0, scope-rises start.requires.0.framed start.args.r start.requires.1.0)
 
   within_a : a-end ≤ length (given start).variables
-  within_a = omega (arith, c.before.before.variable-start2.ensures.0, scope-within start.pre.0 start.args.r start.pre.1.0)
+  within_a = omega (arith, c.before.before.variable_start-a_end.ensures.0, scope-within start.requires.0 start.args.r start.requires.1.0)
 
   rises-b : b ≤ b_end
-  rises-b = omega (arith, c.before.variable-start3.ensures.0, c.variable-start4.ensures.0, scope-rises start.pre.0.framed start.args.s start.pre.1.1)
+  rises-b = omega (arith, c.before.variable_start-b.ensures.0, c.variable_start-b_end.ensures.0, scope-rises start.requires.0.framed start.args.s start.requires.1.1)
 
   within_b : b_end ≤ length (given start).variables
-  within_b = omega (arith, c.variable-start4.ensures.0, scope-within start.pre.0 start.args.s start.pre.1.1)
+  within_b = omega (arith, c.variable_start-b_end.ensures.0, scope-within start.requires.0 start.args.s start.requires.1.1)
 
   scope-a : take (a-end - a) (drop a (given start).variables) ≡ scope_of N start.args.r
-  scope-a = ap₂ (λ (n m : ℕ). take (n - m) (drop m (given start).variables)) c.before.before.variable-start2.ensures.0 c.before.before.before.variable-start.ensures.0 ∙ scope-is start.pre.0 start.args.r start.pre.1.0
+  scope-a = ap₂ (λ (n m : ℕ). take (n - m) (drop m (given start).variables)) c.before.before.variable_start-a_end.ensures.0 c.before.before.before.variable_start-a.ensures.0 ∙ scope-is start.requires.0 start.args.r start.requires.1.0
 
   scope-b : take (b_end - b) (drop b (given start).variables) ≡ scope_of N start.args.s
-  scope-b = ap₂ (λ (n m : ℕ). take (n - m) (drop m (given start).variables)) c.variable-start4.ensures.0 c.before.variable-start3.ensures.0 ∙ scope-is start.pre.0 start.args.s start.pre.1.1
+  scope-b = ap₂ (λ (n m : ℕ). take (n - m) (drop m (given start).variables)) c.variable_start-b_end.ensures.0 c.before.variable_start-b.ensures.0 ∙ scope-is start.requires.0 start.args.s start.requires.1.1
 
 -- both scopes are short
-shared-columns-requires : tie.Need-shared-columns-requires
+shared-columns-requires : tie.Need-shared_columns-requires
 shared-columns-requires c κs =
     let k = c.before.before in
     let s = start k in
-    (omega (arith, ap length (scope-a k), scope-few s.pre.0 s.args.r s.pre.1.0), omega (arith, ap length (scope-b k), scope-few s.pre.0 s.args.s s.pre.1.1))
+    (omega (arith, ap length (scope-a k), scope-few s.requires.0 s.args.r s.requires.1.0), omega (arith, ap length (scope-b k), scope-few s.requires.0 s.args.s s.requires.1.1))
 
 -- the columns that are found, of the relations' scopes
 returns : tie.Need-returns
 returns c =
     let k = c.before.before.before in
-    subst (λ (xs : List ℕ). Shares xs (scope_of (N k) (start k).args.s) c.shared-columns.result) (scope-a k)
-    (subst (λ (ys : List ℕ). Shares (take (a-end k - a k) (drop (a k) (given (start k)).variables)) ys c.shared-columns.result) (scope-b k) c.shared-columns.ensures)
+    subst (λ (xs : List ℕ). Shares xs (scope_of (N k) (start k).args.s) c.shared_columns.result) (scope-a k)
+    (subst (λ (ys : List ℕ). Shares (take (a-end k - a k) (drop (a k) (given (start k)).variables)) ys c.shared_columns.result) (scope-b k) c.shared_columns.ensures)
 
-pub shared-of-spec : {M : Type 1} → statement M
-shared-of-spec =
+pub shared_of_spec : {M : Type 1} → statement M
+shared_of_spec =
     tie.close
     (tie.spec
-    (λ c κs. search rules) (λ c. search rules) (λ c κs. search rules) (λ c κs. search rules) (λ c. search rules) (λ c κs. search rules)
+    (λ c κs. search rules)
+    (λ c. search rules)
+    (λ c κs. search rules)
+    (λ c κs. search rules)
+    (λ c. search rules)
+    (λ c κs. search rules)
     (λ c. search rules)
     (λ c. rises-a c)
     (λ c. rises-a c)

@@ -8,20 +8,20 @@ use Rattle.narrowing.proofs.Sieves.{sieves-mask}
 use Rattle.narrowing.proofs.sieve.sieve_for.Statement.{statement}
 use Rattle.narrowing.proofs.sieve.sieve_for.Tie as tie
 
-pub sieve-for-spec : {M : Type 1} → statement M
-sieve-for-spec =
+pub sieve_for_spec : {M : Type 1} → statement M
+sieve_for_spec =
     tie.close
     (tie.spec
     (λ c κs. c.before.before.requires.1)
     (λ c. search rules)
     (λ c.
     let s = c.before.before.before.before in
-    sieves-mask s.requires.1.0 s.args.r s.args.s s.args.words.now c.before.shared_of.result _ refl c.before.shared_of.ensures (λ h. absurd (h c.if1.true)))
+    sieves-mask s.requires.1.0 s.args.r s.args.s s.args.words.now c.before.shared_of-shared.result _ refl c.before.shared_of-shared.ensures (λ h. absurd (h c.if-column.true)))
     (λ c κs.
     let s = c.before.before.before.before in
-    let f = c.before.shared_of.ensures.same c.if1.false in
+    let f = c.before.shared_of-shared.ensures.same c.if-column.false in
     (s.requires.0, record { laid = s.requires.1.0; relation = s.requires.1.1.1; inside = omega (arith, f.1, scope-length s.requires.1.0 s.args.s s.requires.1.1.1) }))
     (λ c.
     let e = c.before in
     let s = e.before.before.before.before in
-    sieves-mask s.requires.1.0 s.args.r s.args.s s.args.words.now e.before.shared_of.result _ refl e.before.shared_of.ensures (λ h. c.mask-of.ensures)))
+    sieves-mask s.requires.1.0 s.args.r s.args.s s.args.words.now e.before.shared_of-shared.result _ refl e.before.shared_of-shared.ensures (λ h. c.mask_of-bits.ensures)))

@@ -20,26 +20,26 @@ invariant-shared scope_a a scope_b b lowest₀ i j₀ lowest j =
 abbrev decreases-shared : tie.decreases-shared
 decreases-shared scope_a a scope_b b lowest₀ i j₀ lowest j = length scope_b - j
 
-abbrev invariant-loop : tie.invariant-loop
+abbrev invariant-loop : tie.invariant-loop-i
 invariant-loop scope_a a scope_b b lowest₀ i₀ lowest i = (i ≤ length scope_a) × Lowest scope_a a scope_b b i lowest
 
-abbrev decreases-loop : tie.decreases-loop
+abbrev decreases-loop : tie.decreases-loop-i
 decreases-loop scope_a a scope_b b lowest₀ i₀ lowest i = length scope_a - i
 
 shared-again : tie.Need-shared-preserved invariant-shared decreases-shared invariant-loop decreases-loop
 shared-again c =
     let inv = c.before.before.before.before.shared.invariant in
-    (omega arith, inv.1, below_more _ _ inv.2 c.if1.false)
+    (omega arith, inv.1, below_more _ _ inv.2 c.if-scope_a-i.false)
 
 -- the column's variable is not shared, or it is found and its values are compared
-loop-again : tie.Need-loop-preserved invariant-shared decreases-shared invariant-loop decreases-loop
+loop-again : tie.Need-loop-i-preserved invariant-shared decreases-shared invariant-loop decreases-loop
 loop-again c =
     let start = c.before.before.before.before.before.before.before.before in
     let xs = start.args.scope-a.now in
     let vs = start.args.a.now in
     let ys = start.args.scope-b.now in
     let ws = start.args.b.now in
-    let i = c.before.before.before.loop.i in
+    let i = c.before.before.before.loop-i.i in
     let j = c.before.shared.j in
     let inv = c.before.shared.invariant in (
       omega arith,
@@ -50,18 +50,18 @@ loop-again c =
           (lowest-clash xs vs ys ws inv.1 j (clash-unfitting xs vs ys ws start.requires.1 i j (omega (arith, w.0)) w.3.taken (sym w.6.ensures ∙ not-true _ w.7.taken))))
           (λ w. subst (Lowest xs vs ys ws (i + 1)) (sym w.8)
           (lowest-passes xs vs ys ws inv.1 (clash-fitting xs vs ys ws start.requires.1 i j (omega (arith, w.0)) w.3.taken (sym w.6.ensures ∙ not-false _ w.7.left)))))
-          c.shared-test.branch,
+          c.shared-test.branch-raw,
     )
 
 returns : tie.Need-returns invariant-shared decreases-shared invariant-loop decreases-loop
 returns c =
     let start = c.before.before.before.before.before.before in
-    let end : c.before.loop.i ≡ length start.args.scope-a.now = omega (arith, c.before.loop.invariant.0, c.loop-test) in
+    let end : c.before.loop-i.i ≡ length start.args.scope-a.now = omega (arith, c.before.loop-i.invariant.0, c.loop-i-test) in
     lowest-end start.args.scope-a.now start.args.a.now start.args.scope-b.now start.args.b.now start.requires.0 start.requires.1
-    (subst (λ (i : ℕ). Lowest start.args.scope-a.now start.args.a.now start.args.scope-b.now start.args.b.now i c.before.loop.lowest) end c.before.loop.invariant.1)
+    (subst (λ (i : ℕ). Lowest start.args.scope-a.now start.args.a.now start.args.scope-b.now start.args.b.now i c.before.loop-i.lowest) end c.before.loop-i.invariant.1)
 
-pub first-clash-spec : {M : Type 1} → statement M
-first-clash-spec =
+pub first_clash_spec : {M : Type 1} → statement M
+first_clash_spec =
     tie.close
     (tie.spec
     invariant-shared
@@ -69,11 +69,23 @@ first-clash-spec =
     invariant-loop
     decreases-loop
     (λ c. (omega arith, lowest_start _ _ _ _))
-    (λ c. (omega arith, c.before.loop.invariant.1, λ l h. absurd (omega arith)))
-    (λ c. search rules) (λ c. search rules) (λ c. search rules) (λ c. search rules) (λ c. search rules)
-    (λ c. search rules) (λ c. search rules) (λ c. search rules) (λ c κs. search rules) (λ c. search rules)
-    (λ c. search rules) (λ c κs. search rules) (λ c. search rules) (λ c. search rules)
+    (λ c. (omega arith, c.before.loop-i.invariant.1, λ l h. absurd (omega arith)))
+    (λ c. search rules)
+    (λ c. search rules)
+    (λ c. search rules)
+    (λ c. search rules)
+    (λ c. search rules)
+    (λ c. search rules)
+    (λ c. search rules)
+    (λ c. search rules)
+    (λ c κs. search rules)
+    (λ c. search rules)
+    (λ c. search rules)
+    (λ c κs. search rules)
+    (λ c. search rules)
+    (λ c. search rules)
     shared-again
-    (λ c. search rules) (λ c. search rules)
+    (λ c. search rules)
+    (λ c. search rules)
     loop-again
     returns)

@@ -11,7 +11,9 @@ given c = record { variables = c.args.variables.now; values = c.args.values.now;
 returns : tie.Need-returns
 returns c =
     let s = c.before.before.before in
-    number-agrees (given s) s.args.r s.args.x s.args.s s.args.y c.tuples-clash.result s.requires c.tuples-clash.ensures
+    number-agrees (given s) s.args.r s.args.x s.args.s s.args.y c.tuples_clash.result s.requires c.tuples_clash.ensures
 
-pub tuples-agree-spec : {M : Type 1} → statement M
-tuples-agree-spec = tie.close (tie.spec (λ c κs. c.before.before.requires) returns)
+pub tuples_agree_spec : {M : Type 1} → statement M
+tuples_agree_spec = tie.close (tie.spec
+    (λ c κs. c.before.before.requires)
+    returns)

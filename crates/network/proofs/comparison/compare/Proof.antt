@@ -49,65 +49,65 @@ module _ (N : Network) (g h : ℕ) where
 
 -- ---- What is known on the way
 
-abbrev start : tie.Else1 → tie.Start
+abbrev start : tie.Else-f-ne0 → tie.Start
 start c = c.before.before.before.before
 
 abbrev network : tie.Start → Network
 network c = network_of c.args.shape c.args.variables.now c.args.values.now
 
-sound : (c : tie.Else1) → first_fault (network_faults (network (start c))) ≡ none
-sound c = refusal-none (network_faults (network (start c))) refl (sym c.before.fault.ensures ∙ c.if1.false)
+sound : (c : tie.Else-f-ne0) → first_fault (network_faults (network (start c))) ≡ none
+sound c = refusal-none (network_faults (network (start c))) refl (sym c.before.fault-f.ensures ∙ c.if-f-ne0.false)
 
-abbrev given : tie.After-starts-of → Lists
+abbrev given : tie.After-starts_of-starts → Lists
 given c =
     let s = start c.before in
-    record { variables = s.args.variables.now; values = s.args.values.now; starts = c.starts-of.result }
+    record { variables = s.args.variables.now; values = s.args.values.now; starts = c.starts_of-starts.result }
 
-laid : (c : tie.After-starts-of) → SoundLists (given c)
+laid : (c : tie.After-starts_of-starts) → SoundLists (given c)
 laid c =
     let s = start c.before in
-    subst (λ (xs : List ℕ). SoundLists (record { variables = s.args.variables.now; values = s.args.values.now; starts = xs })) (sym c.starts-of.ensures) (laid_of s.args.shape s.args.variables.now s.args.values.now (sound c.before))
+    subst (λ (xs : List ℕ). SoundLists (record { variables = s.args.variables.now; values = s.args.values.now; starts = xs })) (sym c.starts_of-starts.ensures) (laid_of s.args.shape s.args.variables.now s.args.values.now (sound c.before))
 
-described : (c : tie.After-starts-of) → network_in (given c) ≡ network (start c.before)
+described : (c : tie.After-starts_of-starts) → network_in (given c) ≡ network (start c.before)
 described c =
     let s = start c.before in
-    ap (λ (xs : List ℕ). network_in (record { variables = s.args.variables.now; values = s.args.values.now; starts = xs })) c.starts-of.ensures
+    ap (λ (xs : List ℕ). network_in (record { variables = s.args.variables.now; values = s.args.values.now; starts = xs })) c.starts_of-starts.ensures
     ∙ network-is s.args.shape s.args.variables.now s.args.values.now (sound c.before)
 
-count : (c : tie.After-tuple-count) → c.tuple-count.result ≡ total (network (start c.before.before.before))
-count c = c.tuple-count.ensures ∙ tuple-count (laid c.before.before).framed ∙ ap total (described c.before.before)
+count : (c : tie.After-tuple_count-total) → c.tuple_count-total.result ≡ total (network (start c.before.before.before))
+count c = c.tuple_count-total.ensures ∙ tuple-count (laid c.before.before).framed ∙ ap total (described c.before.before)
 
-low : (c : tie.Else3) → ((start c.before.before.before.before.before).args.g < total (network (start c.before.before.before.before.before))) × ((start c.before.before.before.before.before).args.h < total (network (start c.before.before.before.before.before)))
+low : (c : tie.Else-total-h) → ((start c.before.before.before.before.before).args.g < total (network (start c.before.before.before.before.before))) × ((start c.before.before.before.before.before).args.h < total (network (start c.before.before.before.before.before)))
 low c = let t = count c.before.before in omega arith
 
-asked : (c : tie.Else3) → TwoIds (given c.before.before.before.before) (start c.before.before.before.before.before).args.g (start c.before.before.before.before.before).args.h
+asked : (c : tie.Else-total-h) → TwoIds (given c.before.before.before.before) (start c.before.before.before.before.before).args.g (start c.before.before.before.before.before).args.h
 asked c =
     let e = ap total (described c.before.before.before.before) in
     record { laid = laid c.before.before.before.before; first = omega (arith, low c); second = omega (arith, low c) }
 
 -- the number found is that of the first clash
-abbrev asker : tie.After-ids-clash → tie.Start
+abbrev asker : tie.After-ids_clash-clash → tie.Start
 asker c = start c.before.before.before.before.before.before.before
 
-abbrev found : tie.After-ids-clash → Option ℕ
+abbrev found : tie.After-ids_clash-clash → Option ℕ
 found c = first_clash (network (asker c)) (asker c).args.g (asker c).args.h
 
-number : (c : tie.After-ids-clash) → clash_number (found c) ≡ c.ids-clash.result
+number : (c : tie.After-ids_clash-clash) → clash_number (found c) ≡ c.ids_clash-clash.result
 number c =
     let s = asker c in
-    sym (c.ids-clash.ensures ∙ ap (λ (N : Network). clash_number (first_clash N s.args.g s.args.h)) (described c.before.before.before.before.before.before))
+    sym (c.ids_clash-clash.ensures ∙ ap (λ (N : Network). clash_number (first_clash N s.args.g s.args.h)) (described c.before.before.before.before.before.before))
 
-low-number : (c : tie.After-ids-clash) (v : ℕ) → found c ≡ some v → v < variable_count
+low-number : (c : tie.After-ids_clash-clash) (v : ℕ) → found c ≡ some v → v < variable_count
 low-number c =
     let s = asker c in
     first_clash-low (network s) (faultless (network s) (sound c.before.before.before.before.before.before.before)) s.args.g s.args.h (low c.before.before).0
 
-returns : tie.Need-returns
+returns : tie.Need-returns-then-f-ne0
 returns c =
     let s = c.before.before.before.before in
-    refused (network s) s.args.g s.args.h c.before.fault.result (refusal-some (first_fault (network_faults (network s))) c.before.fault.result (sym c.before.fault.ensures) c.if1.true)
+    refused (network s) s.args.g s.args.h c.before.fault-f.result (refusal-some (first_fault (network_faults (network s))) c.before.fault-f.result (sym c.before.fault-f.ensures) c.if-f-ne0.true)
 
-returns-2 : tie.Need-returns-2
+returns-2 : tie.Need-returns-then-total-g
 returns-2 c =
     let s = start c.before.before.before.before in
     let N = network s in
@@ -115,7 +115,7 @@ returns-2 c =
     let low = le-ltb s.args.g (total N) (omega arith) in
     refused-id N s.args.g s.args.h (sound c.before.before.before.before) (ap (λ (b : Bool). b && (ltb s.args.h (total N) && true)) low)
 
-returns-3 : tie.Need-returns-3
+returns-3 : tie.Need-returns-then-total-h
 returns-3 c =
     let s = start c.before.before.before.before.before in
     let N = network s in
@@ -124,21 +124,21 @@ returns-3 c =
     refused-id N s.args.g s.args.h (sound c.before.before.before.before.before)
     (ap (λ (b : Bool). ltb s.args.g (total N) && (b && true)) low ∙ and-false (ltb s.args.g (total N)))
 
-returns-4 : tie.Need-returns-4
+returns-4 : tie.Need-returns-then-clash-eq-NO_VARIABLE
 returns-4 c =
     let s = asker c.before in
     answered (network s) s.args.g s.args.h (sound c.before.before.before.before.before.before.before.before) none (low c.before.before.before).0 (low c.before.before.before).1
-    (clash_number-none (found c.before) (low-number c.before) (number c.before ∙ c.if4.true))
+    (clash_number-none (found c.before) (low-number c.before) (number c.before ∙ c.if-clash-eq-NO_VARIABLE.true))
 
-returns-5 : tie.Need-returns-5
+returns-5 : tie.Need-returns
 returns-5 c =
     let s = asker c.before in
-    let n = c.before.ids-clash.result in
+    let n = c.before.ids_clash-clash.result in
     answered (network s) s.args.g s.args.h (sound c.before.before.before.before.before.before.before.before) (some n) (low c.before.before.before).0 (low c.before.before.before).1
-    (clash_number-some (found c.before) n (number c.before) c.if4.false)
+    (clash_number-some (found c.before) n (number c.before) c.if-clash-eq-NO_VARIABLE.false)
 
-pub compare-spec : {M : Type 1} → statement M
-compare-spec =
+pub compare_spec : {M : Type 1} → statement M
+compare_spec =
     tie.close
     (tie.spec
     (λ c κs. search rules)

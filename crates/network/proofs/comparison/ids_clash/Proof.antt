@@ -30,14 +30,14 @@ found {xs} framed g r at h e =
       back = λ q. subst (λ (a : ℕ). first_id (outline xs) (relation_of (outline xs) g) + (g - a) ≡ g) (sym q) (id-back framed g h);
     })
 
-abbrev start : tie.After-relation-of2 → tie.Start
+abbrev start : tie.After-relation_of-s → tie.Start
 start c = c.before.before.before.before
 
-first : (c : tie.After-relation-of2) (at : ℕ) → Found (start c).args.starts.now (start c).args.g c.before.relation-of.result at
-first c at = found (start c).requires.laid.framed (start c).args.g c.before.relation-of.result at (start c).requires.first c.before.relation-of.ensures
+first : (c : tie.After-relation_of-s) (at : ℕ) → Found (start c).args.starts.now (start c).args.g c.before.relation_of-r.result at
+first c at = found (start c).requires.laid.framed (start c).args.g c.before.relation_of-r.result at (start c).requires.first c.before.relation_of-r.ensures
 
-second : (c : tie.After-relation-of2) (at : ℕ) → Found (start c).args.starts.now (start c).args.h c.relation-of2.result at
-second c at = found (start c).requires.laid.framed (start c).args.h c.relation-of2.result at (start c).requires.second c.relation-of2.ensures
+second : (c : tie.After-relation_of-s) (at : ℕ) → Found (start c).args.starts.now (start c).args.h c.relation_of-s.result at
+second c at = found (start c).requires.laid.framed (start c).args.h c.relation_of-s.result at (start c).requires.second c.relation_of-s.ensures
 
 returns : tie.Need-returns
 returns c =
@@ -45,23 +45,24 @@ returns c =
     let r = c.before.before.before in
     let s = start r in
     let N = network_in (record { variables = s.args.variables.now; values = s.args.values.now; starts = s.args.starts.now }) in
-    c.tuples-clash.ensures
+    c.tuples_clash.ensures
     ∙ ap₂ (λ (g h : ℕ). clash_number (first_clash N g h))
-    ((first r t.before.tuple-start.result).back t.before.tuple-start.ensures)
-    ((second r t.tuple-start2.result).back t.tuple-start2.ensures)
+    ((first r t.before.tuple_start.result).back t.before.tuple_start.ensures)
+    ((second r t.tuple_start-2.result).back t.tuple_start-2.ensures)
 
-pub ids-clash-spec : {M : Type 1} → statement M
-ids-clash-spec =
+pub ids_clash_spec : {M : Type 1} → statement M
+ids_clash_spec =
     tie.close
     (tie.spec
-    (λ c κs. search rules) (λ c κs. search rules)
+    (λ c κs. search rules)
+    (λ c κs. search rules)
     (λ c κs. omega (arith, (first c 0).below))
-    (λ c. omega (arith, (first c.before 0).begun, c.tuple-start.ensures))
+    (λ c. omega (arith, (first c.before 0).begun, c.tuple_start.ensures))
     (λ c κs. omega (arith, (second c.before 0).below))
-    (λ c. omega (arith, (second c.before.before 0).begun, c.tuple-start2.ensures))
+    (λ c. omega (arith, (second c.before.before 0).begun, c.tuple_start-2.ensures))
     (λ c κs. record {
       laid = (start c.before.before).requires.laid;
-      first = (first c.before.before c.before.tuple-start.result).index c.before.tuple-start.ensures;
-      second = (second c.before.before c.tuple-start2.result).index c.tuple-start2.ensures;
+      first = (first c.before.before c.before.tuple_start.result).index c.before.tuple_start.ensures;
+      second = (second c.before.before c.tuple_start-2.result).index c.tuple_start-2.ensures;
     })
     returns)

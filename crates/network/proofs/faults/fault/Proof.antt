@@ -16,8 +16,10 @@ returns c =
     let a = c.before.before.before.args in
     let vs = a.values.now in
     let zs : List ℕ = replicate (length vs) 0 in
-    c.fault-on.ensures
+    c.fault_on.ensures
     ∙ ap (λ (fs : List Fault). refusal (first_fault fs)) (network_faults-values (network_of a.shape a.variables.now vs) zs vs (length-replicate (length vs) 0))
 
-pub fault-spec : {M : Type 1} → statement M
-fault-spec = tie.close (tie.spec (λ c κs. search rules) returns)
+pub fault_spec : {M : Type 1} → statement M
+fault_spec = tie.close (tie.spec
+    (λ c κs. search rules)
+    returns)

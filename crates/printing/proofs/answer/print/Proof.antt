@@ -28,15 +28,15 @@ use Rattle.printing.proofs.answer.print.Tie as tie
 answer-short : (a : Answer) → length (line_text (answer_line (answer_numbers a))) ≤ answer_room
 answer-short a = let n = answer_numbers a in line_text-length n.kind (n.subject ∷ n.left ∷ n.deleted ∷ [])
 
-line-requires : tie.Need-line-requires
+line-requires : tie.Need-line-n-requires
 line-requires c κs =
-    let fields = c.before.before.answer-fields in
+    let fields = c.before.before.answer_fields-fields in
     let start = c.before.before.before.before.before.before in
     let answer = start.args.answer in
     let long : length start.args.out.now ≡ output = search rules in
     (search rules, omega (arith, long, ap (λ (xs : List ℕ). length (line_text xs)) fields.ensures, answer-short answer))
 
-module _ (c : tie.After-line) where
+module _ (c : tie.After-line-n) where
   abbrev start : tie.Start
   start = c.before.before.before.before.before.before.before
 
@@ -47,67 +47,68 @@ module _ (c : tie.After-line) where
   made supports counts = replied start.args.answer start.args.words.now supports counts
 
   -- the kind that was read
-  kind : get_or c.before.before.before.answer-fields.result 0 0 ≡ (answer_numbers start.args.answer).kind
-  kind = ap (λ (xs : List ℕ). get_or xs 0 0) c.before.before.before.answer-fields.ensures
+  kind : get_or c.before.before.before.answer_fields-fields.result 0 0 ≡ (answer_numbers start.args.answer).kind
+  kind = ap (λ (xs : List ℕ). get_or xs 0 0) c.before.before.before.answer_fields-fields.ensures
 
-  first : Appended (line_text (answer_line (answer_numbers start.args.answer))) start.args.out.now 0 c.line.new.0 c.line.result
-  first = appended-same (ap line_text c.before.before.before.answer-fields.ensures) c.line.ensures
+  first : Appended (line_text (answer_line (answer_numbers start.args.answer))) start.args.out.now 0 c.line-n.new.0 c.line-n.result
+  first = appended-same (ap line_text c.before.before.before.answer_fields-fields.ensures) c.line-n.ensures
 
   -- it leaves room for the tuples
-  short : c.line.result ≤ answer_room
+  short : c.line-n.result ≤ answer_room
   short =
       omega (arith, appended-end {at = 0} (omega arith) first, answer-short start.args.answer)
 
   long : length start.args.out.now ≡ output
   long = search rules
 
-returns : tie.Need-returns
+returns : tie.Need-returns-then-fields-eq-REFUSED
 returns c =
     let l = first c.before in
-    λ supports counts. appended-same (sym (reply_text-refused (network c.before) (made c.before supports counts) (eq-eqb _ _ (sym (kind c.before) ∙ c.if1.true)))) l
+    λ supports counts. appended-same (sym (reply_text-refused (network c.before) (made c.before supports counts) (eq-eqb _ _ (sym (kind c.before) ∙ c.if-fields-eq-REFUSED.true)))) l
 
 -- ---- The tuples' lines
 
-module _ (c : tie.Else1) where
+module _ (c : tie.Else-fields-eq-REFUSED) where
   no-refusal : is_refusal (start c.before).args.answer ≡ false
-  no-refusal = ne_eqb _ _ (λ e. c.if1.false (kind c.before ∙ e))
+  no-refusal = ne_eqb _ _ (λ e. c.if-fields-eq-REFUSED.false (kind c.before ∙ e))
 
   accepted : Accepted (network c.before) (start c.before).args.words.now
-  accepted = (start c.before).pre no-refusal
+  accepted = (start c.before).requires no-refusal
 
-starts-of-requires : tie.Need-starts-of-requires
+starts-of-requires : tie.Need-starts_of-starts-requires
 starts-of-requires c κs =
     let a = (start c.before).args in
     shape-bounded a.shape a.variables.now a.values.now (accepted c).faultless
 
 -- the lines by the starts are those of the network
-lines : (c : tie.After-starts-of) → (let a = (start c.before.before).args in tuple_lines (rows c.starts-of.result a.values.now) a.words.now ≡ tuple_lines (network c.before.before) a.words.now)
+lines : (c : tie.After-starts_of-starts) → (let a = (start c.before.before).args in tuple_lines (rows c.starts_of-starts.result a.values.now) a.words.now ≡ tuple_lines (network c.before.before) a.words.now)
 lines c =
     let a = (start c.before.before).args in
-    ap (λ (xs : List ℕ). tuple_lines (rows xs a.values.now) a.words.now) c.starts-of.ensures ∙ accepted-lines a.shape a.variables.now a.values.now a.words.now (accepted c.before)
+    ap (λ (xs : List ℕ). tuple_lines (rows xs a.values.now) a.words.now) c.starts_of-starts.ensures ∙ accepted-lines a.shape a.variables.now a.values.now a.words.now (accepted c.before)
 
-tuple-lines-requires : tie.Need-tuple-lines-requires
+tuple-lines-requires : tie.Need-tuple_lines-requires
 tuple-lines-requires c κs =
     let made = c.before.before in
     let l = made.before.before in
     let a = (start l).args in (
-      subst (λ (xs : List ℕ). Printable xs a.values.now a.words.now) (sym made.starts-of.ensures)
+      subst (λ (xs : List ℕ). Printable xs a.values.now a.words.now) (sym made.starts_of-starts.ensures)
           (accepted-printable a.shape a.variables.now a.values.now a.words.now (accepted made.before)),
-      omega (arith, short l, long l, l.line.ensures.long, (accepted made.before).short, ap (λ (ls : List (List ℕ)). length (text_of ls)) (lines made)),
+      omega (arith, short l, long l, l.line-n.ensures.long, (accepted made.before).short, ap (λ (ls : List (List ℕ)). length (text_of ls)) (lines made)),
     )
 
-returns-2 : tie.Need-returns-2
+returns-2 : tie.Need-returns
 returns-2 c =
     let begun = c.before.before.before in
     let l = begun.before.before in
-    let t = c.tuple-lines.ensures in
+    let t = c.tuple_lines.ensures in
     λ supports counts. appended-same (sym (reply_text-accepted (network l) (made l supports counts) (no-refusal begun.before))) (appended_then (first l) (appended-same (ap text_of (lines begun)) t))
 
-pub print-spec : {M : Type 1} → statement M
-print-spec =
+pub print_spec : {M : Type 1} → statement M
+print_spec =
     tie.close
     (tie.spec
-    (λ c κs. search rules) (λ c. search rules)
+    (λ c κs. search rules)
+    (λ c. search rules)
     line-requires
     (λ c. search rules)
     returns

@@ -15,14 +15,14 @@ use borrow.Author.Rules.{rules}
 use Rattle.printing.proofs.combinations.combination_lines.Statement.{statement}
 use Rattle.printing.proofs.combinations.combination_lines.Tie as tie
 
-abbrev invariant-loop : tie.invariant-loop
+abbrev invariant-loop : tie.invariant-loop-k
 invariant-loop members m out₀ at count n₀ k₀ out n k =
     (k ≤ count) × Remains (lines_from m members k) out n (lines_from m members 0) out₀ at
 
-abbrev decreases-loop : tie.decreases-loop
+abbrev decreases-loop : tie.decreases-loop-k
 decreases-loop members m out₀ at count n₀ k₀ out n k = count - k
 
-module _ (c : tie.In-loop invariant-loop decreases-loop) where
+module _ (c : tie.In-loop-k invariant-loop decreases-loop) where
   abbrev start : tie.Start invariant-loop decreases-loop
   start = c.before.before.before.before
 
@@ -33,11 +33,11 @@ module _ (c : tie.In-loop invariant-loop decreases-loop) where
   m = start.args.m
 
   abbrev k : ℕ
-  k = c.before.loop.k
+  k = c.before.loop-k.k
 
   -- combination k lies in the list
   inside : k * m + m ≤ length members
-  inside = combination-within m members k c.loop-test.true
+  inside = combination-within m members k c.loop-k-test.true
 
   abbrev part : List ℕ
   part = take (k * m + m - k * m) (drop (k * m) members)
@@ -52,37 +52,37 @@ module _ (c : tie.In-loop invariant-loop decreases-loop) where
       let e : k * m + m - k * m ≡ m = omega arith in
       ap (λ (n : ℕ). take n (drop (k * m) members)) e
 
-loop-holds : tie.Need-loop-init invariant-loop decreases-loop
+loop-holds : tie.Need-loop-k-init invariant-loop decreases-loop
 loop-holds c = let p = c.before.before.requires in (omega arith, remains-all (omega (arith, p.1)))
 
-line-requires : tie.Need-line-requires invariant-loop decreases-loop
+line-requires : tie.Need-line-n-requires invariant-loop decreases-loop
 line-requires c κs =
     let turn = c.before.before in
     let p = (start turn).requires in
-    let l = turn.before.loop in
-    let next = lines_from-next (m turn) (members turn) (k turn) turn.loop-test.true in (
+    let l = turn.before.loop-k in
+    let next = lines_from-next (m turn) (members turn) (k turn) turn.loop-k-test.true in (
       omega (arith, part_length turn, p.0),
       omega (arith, p.1, l.invariant.1.long, remains-length (omega (arith, p.1)) l.invariant.1, ap length next, length-append (line_text (combination (m turn) (members turn) (k turn))) (lines_from (m turn) (members turn) (k turn + 1)), ap length (lines_from-all (m turn) (members turn)), ap (λ (xs : List ℕ). length (line_text xs)) (part-is turn)),
     )
 
-loop-again : tie.Need-loop-preserved invariant-loop decreases-loop
+loop-again : tie.Need-loop-k-preserved invariant-loop decreases-loop
 loop-again c =
     let line = c.before.before in
     let turn = line.before.before.before in (
-      omega (arith, turn.loop-test.true),
-      remains-then (remains-same (lines_from-next (m turn) (members turn) (k turn) turn.loop-test.true) turn.before.loop.invariant.1)
-          (appended-same (ap line_text (part-is turn)) line.line.ensures),
+      omega (arith, turn.loop-k-test.true),
+      remains-then (remains-same (lines_from-next (m turn) (members turn) (k turn) turn.loop-k-test.true) turn.before.loop-k.invariant.1)
+          (appended-same (ap line_text (part-is turn)) line.line-n.ensures),
     )
 
 returns : tie.Need-returns invariant-loop decreases-loop
 returns c =
-    let l = c.before.loop in
+    let l = c.before.loop-k in
     let a = c.before.before.before.before.args in
     appended-same (lines_from-all a.m a.members.now)
-    (remains-none (remains-same (lines_from-none a.m a.members.now l.k (omega (arith, c.loop-test.false))) l.invariant.1))
+    (remains-none (remains-same (lines_from-none a.m a.members.now l.k (omega (arith, c.loop-k-test.false))) l.invariant.1))
 
-pub combination-lines-spec : {M : Type 1} → statement M
-combination-lines-spec =
+pub combination_lines_spec : {M : Type 1} → statement M
+combination_lines_spec =
     tie.close
     (tie.spec
     invariant-loop
@@ -96,8 +96,8 @@ combination-lines-spec =
     (λ c. omega (arith, inside c.before))
     (λ c. inside c.before)
     line-requires
-    (λ c. let turn = c.before.before.before.before.before in omega (arith, turn.loop-test.true, div-le_self (length (members turn)) (m turn)))
+    (λ c. let turn = c.before.before.before.before.before in omega (arith, turn.loop-k-test.true, div-le_self (length (members turn)) (m turn)))
     (λ c. search rules)
     loop-again
-    (λ c. c.before.loop.invariant.1.long)
+    (λ c. c.before.loop-k.invariant.1.long)
     returns)

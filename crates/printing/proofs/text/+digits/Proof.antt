@@ -35,38 +35,38 @@ callees t = (digits-below t, digits.Post)
 
 -- ---- One digit
 
-returns : (t : ℕ) → digits-lts.Need-returns (callees t) (digits-at t) digits.Post
+returns : (t : ℕ) → digits-lts.Need-returns-then-v-lt10 (callees t) (digits-at t) digits.Post
 returns t c =
     let a = c.before.before.args in
-    let s = one-digit a.v c.if1.true in
-    appended-same (sym (decimal_digit a.v c.if1.true)) (appended-byte a.out.now a.at (48 + a.v) (omega (arith, c.before.before.requires.1)))
+    let s = one-digit a.v c.if-v-lt10.true in
+    appended-same (sym (decimal_digit a.v c.if-v-lt10.true)) (appended-byte a.out.now a.at (48 + a.v) (omega (arith, c.before.before.requires.1)))
 
 -- ---- More than one
 
-digits-requires : (t : ℕ) → digits-lts.Need-digits-requires (callees t) (digits-at t) digits.Post
+digits-requires : (t : ℕ) → digits-lts.Need-digits-n-requires (callees t) (digits-at t) digits.Post
 digits-requires t c κs =
     let entry = c.before.before.before in
     (omega (arith, entry.requires.0), omega (arith, entry.requires.1, one_more entry.args.v (omega arith) (omega arith)))
 
-module _ (t : ℕ) (c : digits-lts.After-slice-known2 (callees t) (digits-at t) digits.Post) where
+module _ (t : ℕ) (c : digits-lts.After-slice_known-2-1 (callees t) (digits-at t) digits.Post) where
   abbrev entry : digits-lts.Start (callees t) (digits-at t) digits.Post
   entry = c.before.before.before.before.before.before
 
   -- the last digit's place
-  last : (c.before.before.digits.result + 1 ≡ entry.args.at + length (decimal entry.args.v)) × (c.before.before.digits.result < length entry.args.out.now)
+  last : (c.before.before.digits-n.result + 1 ≡ entry.args.at + length (decimal entry.args.v)) × (c.before.before.digits-n.result < length entry.args.out.now)
   last =
       let l = one_more entry.args.v (omega arith) (omega arith) in
-      let e = appended-end (omega (arith, entry.pre.1)) c.before.before.digits.ensures in
-      (omega arith, omega (arith, entry.pre.1))
+      let e = appended-end (omega (arith, entry.requires.1)) c.before.before.digits-n.ensures in
+      (omega arith, omega (arith, entry.requires.1))
 
-returns-2 : (t : ℕ) → digits-lts.Need-returns-2 (callees t) (digits-at t) digits.Post
+returns-2 : (t : ℕ) → digits-lts.Need-returns (callees t) (digits-at t) digits.Post
 returns-2 t c =
-    let d = c.before.before.digits in
+    let d = c.before.before.digits-n in
     appended-same (sym (decimal-large (entry t c).args.v (omega arith) (omega arith)))
     (appended_then d.ensures (appended-byte d.new.0 d.result _ (omega (arith, (last t c).1, d.ensures.long))))
 
-pub +digits-spec : {M : Type 1} → statement M
-+digits-spec =
+pub +digits_spec : {M : Type 1} → statement M
++digits_spec =
     close
     μ-digits
     λ t. digits-lts.spec
@@ -75,14 +75,14 @@ pub +digits-spec : {M : Type 1} → statement M
     digits.Post
     (λ c. omega arith)
     (λ c. omega arith)
-    (λ c. omega (arith, one-digit c.before.before.args.v c.if1.true))
-    (λ c. omega (arith, one-digit c.before.before.args.v c.if1.true))
+    (λ c. omega (arith, one-digit c.before.before.args.v c.if-v-lt10.true))
+    (λ c. omega (arith, one-digit c.before.before.args.v c.if-v-lt10.true))
     (λ c. simp length-set)
     (returns t)
     (digits-requires t)
     (λ c. omega arith)
     (λ c. omega arith)
-    (λ c. omega (arith, (last t c).1, c.before.before.digits.ensures.long))
+    (λ c. omega (arith, (last t c).1, c.before.before.digits-n.ensures.long))
     (λ c. omega (arith, (last t c).0, (entry t c).requires.1))
-    (λ c. simp length-set c.before.before.digits.auto.0)
+    (λ c. simp length-set c.before.before.digits-n.auto.0)
     (returns-2 t)

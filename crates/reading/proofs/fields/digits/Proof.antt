@@ -12,77 +12,81 @@ use Rattle.reading.proofs.Bytes.{digit_low, digit-high, digit-is, digits-past, d
 use Rattle.reading.proofs.fields.digits.Statement.{statement}
 use Rattle.reading.proofs.fields.digits.Tie as tie
 
-abbrev invariant-loop : tie.invariant-loop
+abbrev invariant-loop : tie.invariant-loop-i
 invariant-loop text from top first end v₀ i₀ v i = (v < 4294967296) × (read_digits top end v (drop i text) ≡ read_digits top end first (drop from text))
 
-abbrev decreases-loop : tie.decreases-loop
+abbrev decreases-loop : tie.decreases-loop-i
 decreases-loop text from top first end v₀ i₀ v i = length text - i
 
-loop-holds : tie.Need-loop-init invariant-loop decreases-loop
+loop-holds : tie.Need-loop-i-init invariant-loop decreases-loop
 loop-holds c = (search rules, refl)
 
-returns : tie.Need-returns invariant-loop decreases-loop
+returns : tie.Need-returns-then-b-end invariant-loop decreases-loop
 returns c =
     let a = c.before.before.before.before.args in
-    let l = c.before.before.before.loop in
-    (found-past a.text.now l.i l.v ∙ sym (digits-end a.top a.text.now a.end l.i l.v c.before.before.loop-test.true c.if1.true) ∙ l.invariant.1, omega (arith, c.before.before.loop-test.true))
+    let l = c.before.before.before.loop-i in
+    (found-past a.text.now l.i l.v ∙ sym (digits-end a.top a.text.now a.end l.i l.v c.before.before.loop-i-test.true c.if-b-end.true) ∙ l.invariant.1, omega (arith, c.before.before.loop-i-test.true))
 
-loop-again : tie.Need-loop-preserved invariant-loop decreases-loop
+loop-again : tie.Need-loop-i-preserved invariant-loop decreases-loop
 loop-again c =
     let turn = c.before.before.before.before.before.before in
     let a = turn.before.before.args in
-    let l = turn.before.loop in (
+    let l = turn.before.loop-i in (
       search rules,
-      sym (digits_more a.top a.text.now a.end l.i l.v turn.loop-test.true c.before.before.before.before.if1.false (digit-is _ c.before.before.before.if2.false c.before.before.if3.false) (positive l.v c.before.if4.false) (omega (arith, c.if5.false))) ∙ l.invariant.1,
+      sym (digits_more a.top a.text.now a.end l.i l.v turn.loop-i-test.true c.before.before.before.before.if-b-end.false (digit-is _ c.before.before.before.if-b-lt-NOUGHT.false c.before.before.if-b-gt-NINE.false) (positive l.v c.before.if-v-eq0.false) (omega (arith, c.if-top-w.false))) ∙ l.invariant.1,
     )
 
-returns-2 : tie.Need-returns-2 invariant-loop decreases-loop
+returns-2 : tie.Need-returns-after-loop-i invariant-loop decreases-loop
 returns-2 c =
     let a = c.before.before.args in
-    let l = c.before.loop in
-    (sym (digits-past a.top a.text.now a.end l.i l.v c.loop-test.false) ∙ l.invariant.1, omega arith)
+    let l = c.before.loop-i in
+    (sym (digits-past a.top a.text.now a.end l.i l.v c.loop-i-test.false) ∙ l.invariant.1, omega arith)
 
-returns-3 : tie.Need-returns-3 invariant-loop decreases-loop
+returns-3 : tie.Need-returns-then-b-lt-NOUGHT invariant-loop decreases-loop
 returns-3 c =
     let turn = c.before.before.before in
     let a = turn.before.before.args in
-    let l = turn.before.loop in
-    (sym (digits-stop a.top a.text.now a.end l.i l.v turn.loop-test.true c.before.if1.false (digit_low _ c.if2.true)) ∙ l.invariant.1, omega arith)
+    let l = turn.before.loop-i in
+    (sym (digits-stop a.top a.text.now a.end l.i l.v turn.loop-i-test.true c.before.if-b-end.false (digit_low _ c.if-b-lt-NOUGHT.true)) ∙ l.invariant.1, omega arith)
 
-returns-4 : tie.Need-returns-4 invariant-loop decreases-loop
+returns-4 : tie.Need-returns-then-b-gt-NINE invariant-loop decreases-loop
 returns-4 c =
     let turn = c.before.before.before.before in
     let a = turn.before.before.args in
-    let l = turn.before.loop in
-    (sym (digits-stop a.top a.text.now a.end l.i l.v turn.loop-test.true c.before.before.if1.false (digit-high _ c.if3.true)) ∙ l.invariant.1, omega arith)
+    let l = turn.before.loop-i in
+    (sym (digits-stop a.top a.text.now a.end l.i l.v turn.loop-i-test.true c.before.before.if-b-end.false (digit-high _ c.if-b-gt-NINE.true)) ∙ l.invariant.1, omega arith)
 
-returns-5 : tie.Need-returns-5 invariant-loop decreases-loop
+returns-5 : tie.Need-returns-then-v-eq0 invariant-loop decreases-loop
 returns-5 c =
     let turn = c.before.before.before.before.before in
     let a = turn.before.before.args in
-    let l = turn.before.loop in
-    (sym (digits-nought a.top a.text.now a.end l.i l.v turn.loop-test.true c.before.before.before.if1.false (digit-is _ c.before.before.if2.false c.before.if3.false) c.if4.true) ∙ l.invariant.1, omega arith)
+    let l = turn.before.loop-i in
+    (sym (digits-nought a.top a.text.now a.end l.i l.v turn.loop-i-test.true c.before.before.before.if-b-end.false (digit-is _ c.before.before.if-b-lt-NOUGHT.false c.before.if-b-gt-NINE.false) c.if-v-eq0.true) ∙ l.invariant.1, omega arith)
 
-returns-6 : tie.Need-returns-6 invariant-loop decreases-loop
+returns-6 : tie.Need-returns-then-top-w invariant-loop decreases-loop
 returns-6 c =
     let turn = c.before.before.before.before.before.before in
     let a = turn.before.before.args in
-    let l = turn.before.loop in
-    (sym (digits-large a.top a.text.now a.end l.i l.v turn.loop-test.true c.before.before.before.before.if1.false (digit-is _ c.before.before.before.if2.false c.before.before.if3.false) (positive l.v c.before.if4.false) (omega (arith, c.if5.true))) ∙ l.invariant.1, omega arith)
+    let l = turn.before.loop-i in
+    (sym (digits-large a.top a.text.now a.end l.i l.v turn.loop-i-test.true c.before.before.before.before.if-b-end.false (digit-is _ c.before.before.before.if-b-lt-NOUGHT.false c.before.before.if-b-gt-NINE.false) (positive l.v c.before.if-v-eq0.false) (omega (arith, c.if-top-w.true))) ∙ l.invariant.1, omega arith)
 
-pub digits-spec : {M : Type 1} → statement M
-digits-spec =
+pub digits_spec : {M : Type 1} → statement M
+digits_spec =
     tie.close
     (tie.spec
     invariant-loop
     decreases-loop
     loop-holds
-    (λ c. search rules) (λ c. search rules)
+    (λ c. search rules)
+    (λ c. search rules)
     returns
-    (λ c. search rules) (λ c. search rules)
+    (λ c. search rules)
+    (λ c. search rules)
     (λ c. omega arith)
     (λ c. omega arith)
-    (λ c. search rules) (λ c. search rules) (λ c. search rules)
+    (λ c. search rules)
+    (λ c. search rules)
+    (λ c. search rules)
     loop-again
     returns-2
     returns-3

@@ -4,11 +4,13 @@ use borrow.Author.Tests.{lt-leb, le-leb}
 use Rattle.reading.proofs.fields.within.Statement.{statement}
 use Rattle.reading.proofs.fields.within.Tie as tie
 
-returns : tie.Need-returns
-returns c = simp (lt-leb _ _ c.if1.true)
+returns : tie.Need-returns-then-n-low
+returns c = simp (lt-leb _ _ c.if-n-low.true)
 
-returns-2 : tie.Need-returns-2
-returns-2 c = simp (le-leb _ _ c.if1.false)
+returns-2 : tie.Need-returns
+returns-2 c = simp (le-leb _ _ c.if-n-low.false)
 
-pub within-spec : {M : Type 1} → statement M
-within-spec = tie.close (tie.spec returns returns-2)
+pub within_spec : {M : Type 1} → statement M
+within_spec = tie.close (tie.spec
+    returns
+    returns-2)

@@ -8,11 +8,13 @@ use Rattle.records.proofs.packed.combinations.Tie as tie
 returns : tie.Need-returns
 returns c =
     let made = c.before.before.before in
-    enumerated-in _ _ _ made.combinations.result _ _ made.combinations.ensures c.pack-enumeration.ensures
+    enumerated-in _ _ _ made.combinations.result _ _ made.combinations.ensures c.pack_enumeration.ensures
 
-pub combinations-spec : {M : Type 1} → statement M
-combinations-spec =
+pub combinations_spec : {M : Type 1} → statement M
+combinations_spec =
     tie.close
     (tie.spec
-    (λ c κs. search rules) (λ c κs. search rules) (λ c. search rules)
+    (λ c κs. search rules)
+    (λ c κs. search rules)
+    (λ c. search rules)
     returns)

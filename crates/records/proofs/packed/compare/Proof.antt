@@ -8,11 +8,12 @@ use Rattle.records.proofs.packed.compare.Statement.{statement}
 use Rattle.records.proofs.packed.compare.Tie as tie
 
 returns : tie.Need-returns
-returns c = ap pair_in c.pack-comparison.ensures ∙ comparison-back c.before.compare.result ∙ c.before.compare.ensures
+returns c = ap pair_in c.pack_comparison.ensures ∙ comparison-back c.before.compare.result ∙ c.before.compare.ensures
 
-pub compare-spec : {M : Type 1} → statement M
-compare-spec =
+pub compare_spec : {M : Type 1} → statement M
+compare_spec =
     tie.close
     (tie.spec
-    (λ c κs. search rules) (λ c κs. search rules)
+    (λ c κs. search rules)
+    (λ c κs. search rules)
     returns)

@@ -5,11 +5,12 @@ use Rattle.records.proofs.packed.done.Tie as tie
 
 returns : tie.Need-returns
 returns c =
-    λ i. record { answer = c.before.pack.ensures i; written = c.written-for.ensures i; live = c.before.before.args.live }
+    λ i. record { answer = c.before.pack-answer.ensures i; written = c.written_for-written.ensures i; live = c.before.before.args.live }
 
-pub done-spec : {M : Type 1} → statement M
-done-spec =
+pub done_spec : {M : Type 1} → statement M
+done_spec =
     tie.close
     (tie.spec
-    (λ c κs. search rules) (λ c κs. search rules)
+    (λ c κs. search rules)
+    (λ c κs. search rules)
     returns)

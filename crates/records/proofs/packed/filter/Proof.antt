@@ -11,36 +11,36 @@ use borrow.Author.Rules.{rules}
 use Rattle.records.proofs.packed.filter.Statement.{statement}
 use Rattle.records.proofs.packed.filter.Tie as tie
 
-abbrev start : tie.After-at-most-64 → tie.Start
+abbrev start : tie.After-at_most_64-n → tie.Start
 start c = c.before.before.before.before.before.before.before
 
-room : (c : tie.After-at-most-64) → length (start c).args.parts.live ≡ max_relations
+room : (c : tie.After-at_most_64-n) → length (start c).args.parts.live-1 ≡ max_relations
 room c = live-length (start c).args.parts _ (start c).well-formed.0
 
-array-borrow : tie.Need-array-borrow-prefix-live
+array-borrow : tie.Need-slice_bounds-live-end
 array-borrow c =
     let n = c.before.before.before in
-    lent-within (start n).args.parts n.at-most-64.result n.at-most-64.ensures (room n)
+    lent-within (start n).args.parts n.at_most_64-n.result n.at_most_64-n.ensures (room n)
 
-slice-aggregate : tie.Need-slice-aggregate-filter
+slice-aggregate : tie.Need-slice_bounds-filter-end
 slice-aggregate c =
     let n = c.before.before.before.before in
-    lent-count (start n).args.parts n.at-most-64.result n.at-most-64.ensures (room n)
+    lent-count (start n).args.parts n.at_most_64-n.result n.at_most_64-n.ensures (room n)
 
 done-requires : tie.Need-done-requires
-done-requires c κs = replied-subject _ _ c.before.before.before.before.before.filter.ensures
+done-requires c κs = replied-subject _ _ c.before.before.before.before.before.filter-a.ensures
 
 returns : tie.Need-returns
 returns c =
     let made = c.before.before.before.before.before.before in
     let n = made.before.before.before.before.before in
     let a = (start n).args in
-    let last = made.filter.new.1.1.1.1.1 in
-    done-reply a.parts n.at-most-64.result n.at-most-64.ensures (room n) (instance_of a.parts.shape a.variables.now a.values.now a.m a.members.now) a.words.now a.supports.now last.0 last.1.0 last.1.1.0 filter
-    made.filter.result c.done.result made.filter.ensures c.before.live3.given c.done.ensures
+    let last = made.filter-a.new.1.1.1.1.1 in
+    done-reply a.parts n.at_most_64-n.result n.at_most_64-n.ensures (room n) (instance_of a.parts.shape-1 a.variables.now a.values.now a.m a.members.now) a.words.now a.supports.now last.0 last.1.0 last.1.1.0 filter
+    made.filter-a.result c.done.result made.filter-a.ensures c.before.live-3-1.given c.done.ensures
 
-pub filter-spec : {M : Type 1} → statement M
-filter-spec =
+pub filter_spec : {M : Type 1} → statement M
+filter_spec =
     tie.close
     (tie.spec
     (λ c κs. search rules)
@@ -48,5 +48,6 @@ filter-spec =
     slice-aggregate
     (λ c κs. search rules)
     done-requires
-    (λ c. search rules) (λ c. search rules)
+    (λ c. search rules)
+    (λ c. search rules)
     returns)

@@ -8,11 +8,12 @@ use Rattle.records.proofs.packed.test.Statement.{statement}
 use Rattle.records.proofs.packed.test.Tie as tie
 
 returns : tie.Need-returns
-returns c = ap pair_in c.pack-verdict.ensures ∙ verdict-back c.before.test.result ∙ c.before.test.ensures
+returns c = ap pair_in c.pack_verdict.ensures ∙ verdict-back c.before.test.result ∙ c.before.test.ensures
 
-pub test-spec : {M : Type 1} → statement M
-test-spec =
+pub test_spec : {M : Type 1} → statement M
+test_spec =
     tie.close
     (tie.spec
-    (λ c κs. search rules) (λ c κs. search rules)
+    (λ c κs. search rules)
+    (λ c κs. search rules)
     returns)

@@ -11,20 +11,22 @@ use Rattle.records.proofs.packed.written_for.Tie as tie
 abbrev number : ℕ → Answer → ℕ
 number n a = written_for (answer_numbers a) n
 
-returns : tie.Need-returns
-returns c = sym (ap (number c.before.before.before.args.n) c.before.a.given.1)
+returns : tie.Need-returns-in-Settled
+returns c = sym (ap (number c.before.before.before.args.n) c.before.a-1.given.1)
 
-returns-2 : tie.Need-returns-2
-returns-2 c = sym (ap (number c.before.before.before.args.n) c.before.a2.given.1)
+returns-2 : tie.Need-returns-in-Emptied
+returns-2 c = sym (ap (number c.before.before.before.args.n) c.before.a-in-Emptied-1.given.1)
 
-returns-3 : tie.Need-returns-3
-returns-3 c = sym (ap (number c.before.before.before.args.n) c.before.a3.given.1)
+returns-3 : tie.Need-returns-in-Refused
+returns-3 c = sym (ap (number c.before.before.before.args.n) c.before.a-in-Refused-1.given.1)
 
-pub written-for-spec : {M : Type 1} → statement M
-written-for-spec =
+pub written_for_spec : {M : Type 1} → statement M
+written_for_spec =
     tie.close
     (tie.spec
-    (λ c. search rules) (λ c. search rules) (λ c. search rules)
+    (λ c. search rules)
+    (λ c. search rules)
+    (λ c. search rules)
     returns
     returns-2
     returns-3)

@@ -24,11 +24,11 @@ use borrow.Author.Rules.{rules}
 use Rattle.request.proofs.answer.lowest_empty.Statement.{statement}
 use Rattle.request.proofs.answer.lowest_empty.Tie as tie
 
-abbrev invariant-loop : tie.invariant-loop
+abbrev invariant-loop : tie.invariant-loop-r
 invariant-loop starts words relations r₀ r =
     ((s : ℕ) → s < r → is_emptied (outline starts) (living_in starts words) s ≡ false) × (r ≤ relations)
 
-abbrev decreases-loop : tie.decreases-loop
+abbrev decreases-loop : tie.decreases-loop-r
 decreases-loop starts words relations r₀ r = relations - r
 
 -- relation r is empty exactly if no live id lies in it
@@ -44,25 +44,25 @@ lowest N L r h none empty =
     (record { from-i = omega arith; to_end = h; none_before = λ s _ l. none s l; passes = empty })
     (lowest_empty-first N L)
 
-abbrev start : tie.After-relation-count invariant-loop decreases-loop → tie.Start invariant-loop decreases-loop
+abbrev start : tie.After-relation_count-relations invariant-loop decreases-loop → tie.Start invariant-loop decreases-loop
 start c = c.before.before
 
 -- as many relations as were counted
-counted : (c : tie.After-relation-count invariant-loop decreases-loop) → c.relation-count.result ≡ length (records_in (start c).args.starts.now)
-counted c = c.relation-count.ensures ∙ relation-count (start c).requires.framed
+counted : (c : tie.After-relation_count-relations invariant-loop decreases-loop) → c.relation_count-relations.result ≡ length (records_in (start c).args.starts.now)
+counted c = c.relation_count-relations.ensures ∙ relation-count (start c).requires.framed
 
-few : (c : tie.In-loop invariant-loop decreases-loop) → c.before.loop.r < max_relations
-few c = omega (arith, c.loop-test.true, counted c.before.before, relations-few (start c.before.before).pre.framed)
+few : (c : tie.In-loop-r invariant-loop decreases-loop) → c.before.loop-r.r < max_relations
+few c = omega (arith, c.loop-r-test.true, counted c.before.before, relations-few (start c.before.before).requires.framed)
 
 module _ (c : tie.After-next invariant-loop decreases-loop) where
-  abbrev turn : tie.In-loop invariant-loop decreases-loop
+  abbrev turn : tie.In-loop-r invariant-loop decreases-loop
   turn = c.before.before.before
 
   abbrev entry : tie.Start invariant-loop decreases-loop
   entry = start turn.before.before
 
   abbrev r : ℕ
-  r = turn.before.loop.r
+  r = turn.before.loop-r.r
 
   abbrev end : ℕ
   end = tuple_start entry.args.starts.now (r + 1)
@@ -71,48 +71,48 @@ module _ (c : tie.After-next invariant-loop decreases-loop) where
   next = next_live entry.args.words.now (tuple_start entry.args.starts.now r) end
 
   found : c.next.result ≡ next
-  found = simp (c.before.before.tuple-start.ensures, c.before.tuple-start2.ensures) at c.next.ensures
+  found = simp (c.before.before.tuple_start-end.ensures, c.before.tuple_start.ensures) at c.next.ensures
 
   passed : is_emptied (outline entry.args.starts.now) (living_in entry.args.starts.now entry.args.words.now) r ≡ not (ltb next end)
-  passed = emptied entry.args.starts.now entry.args.words.now entry.pre.framed r (few turn)
+  passed = emptied entry.args.starts.now entry.args.words.now entry.requires.framed r (few turn)
 
   next-within : next ≤ end
-  next-within = (next_live-first entry.args.words.now (tuple_start entry.args.starts.now r) end (ids-rise entry.pre.framed r (few turn))).to_end
+  next-within = (next_live-first entry.args.words.now (tuple_start entry.args.starts.now r) end (ids-rise entry.requires.framed r (few turn))).to_end
 
 next-requires : tie.Need-next-requires invariant-loop decreases-loop
 next-requires c κs =
     let turn = c.before.before in
     let entry = start turn.before.before in
-    let f = entry.pre.framed in
-    let e = c.before.tuple-start.ensures in
-    let s = c.tuple-start2.ensures in
-    let asks = ids-asks f turn.before.loop.r (few turn) (tuple_start entry.args.starts.now turn.before.loop.r) entry.args.words.now (ids-rise f turn.before.loop.r (few turn)) entry.pre.enough in
+    let f = entry.requires.framed in
+    let e = c.before.tuple_start-end.ensures in
+    let s = c.tuple_start.ensures in
+    let asks = ids-asks f turn.before.loop-r.r (few turn) (tuple_start entry.args.starts.now turn.before.loop-r.r) entry.args.words.now (ids-rise f turn.before.loop-r.r (few turn)) entry.requires.enough in
     (omega (arith, e, s, asks), omega (arith, e, asks), omega (arith, e, asks))
 
-returns : tie.Need-returns invariant-loop decreases-loop
+returns : tie.Need-returns-then-next-end invariant-loop decreases-loop
 returns c =
     let n = c.before in
-    let l = (turn n).before.loop in
+    let l = (turn n).before.loop-r in
     let at = (entry n).args in
     lowest (outline at.starts.now) (living_in at.starts.now at.words.now) (r n) (omega (arith, counted (turn n).before.before, l.inv.1)) l.inv.0
-    (λ _. passed n ∙ ap not (le-ltb (next n) (end n) (omega (arith, found n, c.if1.true, n.before.before.tuple-start.ensures))))
+    (λ _. passed n ∙ ap not (le-ltb (next n) (end n) (omega (arith, found n, c.if-next-end.true, n.before.before.tuple_start-end.ensures))))
 
-loop-again : tie.Need-loop-preserved invariant-loop decreases-loop
+loop-again : tie.Need-loop-r-preserved invariant-loop decreases-loop
 loop-again c =
     let n = c.before in
-    let h : next n < end n = omega (arith, next-within n, found n, c.if1.false, n.before.before.tuple-start.ensures) in
-    (below_more _ _ (turn n).before.loop.invariant.0 (passed n ∙ ap not (lt-ltb (next n) (end n) h)), search rules)
+    let h : next n < end n = omega (arith, next-within n, found n, c.if-next-end.false, n.before.before.tuple_start-end.ensures) in
+    (below_more _ _ (turn n).before.loop-r.invariant.0 (passed n ∙ ap not (lt-ltb (next n) (end n) h)), search rules)
 
-returns-2 : tie.Need-returns-2 invariant-loop decreases-loop
+returns-2 : tie.Need-returns invariant-loop decreases-loop
 returns-2 c =
-    let l = c.before.loop in
+    let l = c.before.loop-r in
     let read = c.before.before in
     let at = (start read).args in
     lowest (outline at.starts.now) (living_in at.starts.now at.words.now) l.r (omega (arith, counted read, l.invariant.1)) l.invariant.0
-    (λ h. absurd (omega (arith, counted read, c.loop-test.false)))
+    (λ h. absurd (omega (arith, counted read, c.loop-r-test.false)))
 
-pub lowest-empty-spec : {M : Type 1} → statement M
-lowest-empty-spec =
+pub lowest_empty_spec : {M : Type 1} → statement M
+lowest_empty_spec =
     tie.close
     (tie.spec
     invariant-loop
@@ -124,6 +124,7 @@ lowest-empty-spec =
     (λ c κs. omega (arith, few c.before))
     next-requires
     returns
-    (λ c. search rules) (λ c. search rules)
+    (λ c. search rules)
+    (λ c. search rules)
     loop-again
     returns-2)

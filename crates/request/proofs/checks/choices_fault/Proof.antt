@@ -17,20 +17,23 @@ use Rattle.request.proofs.checks.choices_fault.Tie as tie
 abbrev verdict : Bool → Bool → ℕ
 verdict same high = refusal (first_fault ((19, not same) ∷ (14, high) ∷ []))
 
-returns : tie.Need-returns
-returns c = let a = c.before.args in sym (ap (λ (b : Bool). verdict b (ltb variable_count a.bound)) (ne_eqb a.variables a.values c.if1.true))
+returns : tie.Need-returns-then-variables-values
+returns c = let a = c.before.args in sym (ap (λ (b : Bool). verdict b (ltb variable_count a.bound)) (ne_eqb a.variables a.values c.if-variables-values.true))
 
-returns-2 : tie.Need-returns-2
+returns-2 : tie.Need-returns-then-bound-gt-VARIABLES
 returns-2 c =
     let e = c.before in
     let a = e.before.args in
-    sym (ap₂ verdict (eq-eqb a.variables a.values e.if1.false) (lt-ltb variable_count a.bound c.if2.true))
+    sym (ap₂ verdict (eq-eqb a.variables a.values e.if-variables-values.false) (lt-ltb variable_count a.bound c.if-bound-gt-VARIABLES.true))
 
-returns-3 : tie.Need-returns-3
+returns-3 : tie.Need-returns
 returns-3 c =
     let e = c.before in
     let a = e.before.args in
-    sym (ap₂ verdict (eq-eqb a.variables a.values e.if1.false) (le-ltb variable_count a.bound c.if2.false))
+    sym (ap₂ verdict (eq-eqb a.variables a.values e.if-variables-values.false) (le-ltb variable_count a.bound c.if-bound-gt-VARIABLES.false))
 
-pub choices-fault-spec : {M : Type 1} → statement M
-choices-fault-spec = tie.close (tie.spec returns returns-2 returns-3)
+pub choices_fault_spec : {M : Type 1} → statement M
+choices_fault_spec = tie.close (tie.spec
+    returns
+    returns-2
+    returns-3)

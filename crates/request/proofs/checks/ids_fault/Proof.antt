@@ -13,10 +13,10 @@ use Rattle.request.proofs.checks.ids_fault.Tie as tie
 abbrev verdict : Bool → ℕ
 verdict b = refusal (cond b (some 13) none)
 
-pub ids-fault-spec : {M : Type 1} → statement M
-ids-fault-spec =
+pub ids_fault_spec : {M : Type 1} → statement M
+ids_fault_spec =
     tie.close
     (tie.spec
     (λ c κs. search rules)
-    (λ c. let s = c.before.before in sym (ap verdict (lt-ltb s.args.tuples s.args.bound (omega (arith, c.before.wide.ensures.0, c.if1.true)))))
-    (λ c. let s = c.before.before in sym (ap verdict (le-ltb s.args.tuples s.args.bound (omega (arith, c.before.wide.ensures.0, c.if1.false))))))
+    (λ c. let s = c.before.before in sym (ap verdict (lt-ltb s.args.tuples s.args.bound (omega (arith, c.before.wide.ensures.0, c.if-wide-bound.true)))))
+    (λ c. let s = c.before.before in sym (ap verdict (le-ltb s.args.tuples s.args.bound (omega (arith, c.before.wide.ensures.0, c.if-wide-bound.false))))))

@@ -11,25 +11,25 @@ use borrow.Author.Rules.{rules}
 use Rattle.request.proofs.checks.network_checked.Statement.{statement}
 use Rattle.request.proofs.checks.network_checked.Tie as tie
 
-abbrev start : tie.After-fault → tie.Start
+abbrev start : tie.After-fault-fault → tie.Start
 start c = c.before.before.before
 
 abbrev network : tie.Start → Network
 network c = network_of c.args.shape c.args.variables.now c.args.values.now
 
-sound : (c : tie.Else1) → first_fault (network_faults (network (start c.before))) ≡ none
-sound c = refusal-none (network_faults (network (start c.before))) refl (sym c.before.fault.ensures ∙ c.if1.false)
+sound : (c : tie.Else-fault-ne0) → first_fault (network_faults (network (start c.before))) ≡ none
+sound c = refusal-none (network_faults (network (start c.before))) refl (sym c.before.fault-fault.ensures ∙ c.if-fault-ne0.false)
 
-starts-of-requires : tie.Need-starts-of-requires
+starts-of-requires : tie.Need-starts_of-requires
 starts-of-requires c κs =
     let entry = (start c.before).args in
     shape-bounded entry.shape entry.variables.now entry.values.now (sound c)
 
-pub network-checked-spec : {M : Type 1} → statement M
-network-checked-spec =
+pub network_checked_spec : {M : Type 1} → statement M
+network_checked_spec =
     tie.close
     (tie.spec
     (λ c κs. search rules)
-    (λ c. record { fault = c.before.fault.ensures; starts = λ z. absurd (c.if1.true z) })
+    (λ c. record { fault = c.before.fault-fault.ensures; starts = λ z. absurd (c.if-fault-ne0.true z) })
     starts-of-requires
-    (λ c. record { fault = c.before.before.fault.ensures; starts = λ _. c.starts-of.ensures }))
+    (λ c. record { fault = c.before.before.fault-fault.ensures; starts = λ _. c.starts_of.ensures }))

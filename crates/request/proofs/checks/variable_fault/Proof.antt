@@ -15,12 +15,15 @@ use Rattle.request.proofs.checks.variable_fault.Tie as tie
 abbrev verdict : Bool → ℕ
 verdict b = refusal (cond (not b) (some 14) none)
 
-returns : tie.Need-returns
+returns : tie.Need-returns-then-wide-ge-VARIABLES
 returns c = let e = le-ltb c.before.before.args.x variable_count (omega arith) in sym (ap verdict e)
 
-returns-2 : tie.Need-returns-2
+returns-2 : tie.Need-returns
 returns-2 c = let e = lt-ltb c.before.before.args.x variable_count (omega arith) in sym (ap verdict e)
 
-pub variable-fault-spec : {M : Type 1} → statement M
-variable-fault-spec =
-    tie.close (tie.spec (λ c κs. search rules) returns returns-2)
+pub variable_fault_spec : {M : Type 1} → statement M
+variable_fault_spec =
+    tie.close (tie.spec
+    (λ c κs. search rules)
+    returns
+    returns-2)

@@ -11,39 +11,48 @@ use borrow.Author.Rules.{rules}
 use Rattle.request.proofs.choices.add_choice.Statement.{statement}
 use Rattle.request.proofs.choices.add_choice.Tie as tie
 
-module _ (c : tie.Joined1) where
-  abbrev read : tie.After-wide
+module _ (c : tie.Joined-at-lt-VARIABLES) where
+  abbrev read : tie.After-wide-at
   read = c.before
 
   abbrev entry : tie.Start
   entry = read.before.before.before
 
-  added : ChoiceAdded entry.args.firsts.now entry.args.seconds.now entry.args.x entry.args.v c.if1.firsts c.if1.seconds
+  added : ChoiceAdded entry.args.firsts.now entry.args.seconds.now entry.args.x entry.args.v c.if-at-lt-VARIABLES.firsts c.if-at-lt-VARIABLES.seconds
   added =
       let a = entry.args in
-      let k = read.wide.result in
-      let e = read.wide.ensures.0 in
+      let k = read.wide-at.result in
+      let e = read.wide-at.ensures.0 in
       ⊎_elim
-      {C = ChoiceAdded a.firsts.now a.seconds.now a.x a.v c.if1.firsts c.if1.seconds}
-      (λ w. choice-kept a.firsts.now a.seconds.now a.x a.v k w.3.result c.if1.firsts c.if1.seconds e (omega (arith, w.0.taken, entry.pre.0)) (omega (arith, w.0.taken, entry.pre.1)) w.3.ensures w.4 w.5)
-      (λ w. choice-outside a.firsts.now a.seconds.now a.x a.v c.if1.firsts c.if1.seconds (omega (arith, w.0.left, e)) w.1 w.2)
-      c.if1.branch
+      {C = ChoiceAdded a.firsts.now a.seconds.now a.x a.v c.if-at-lt-VARIABLES.firsts c.if-at-lt-VARIABLES.seconds}
+      (λ w. choice-kept a.firsts.now a.seconds.now a.x a.v k w.3.result c.if-at-lt-VARIABLES.firsts c.if-at-lt-VARIABLES.seconds e (omega (arith, w.0.taken, entry.requires.0)) (omega (arith, w.0.taken, entry.requires.1)) w.3.ensures w.4 w.5)
+      (λ w. choice-outside a.firsts.now a.seconds.now a.x a.v c.if-at-lt-VARIABLES.firsts c.if-at-lt-VARIABLES.seconds (omega (arith, w.0.left, e)) w.1 w.2)
+      c.if-at-lt-VARIABLES.branch-raw
 
-  next-is : read.wide.result + 1 ≡ entry.args.x + 1
-  next-is = ap (λ (n : ℕ). n + 1) read.wide.ensures.0
+  next-is : read.wide-at.result + 1 ≡ entry.args.x + 1
+  next-is = ap (λ (n : ℕ). n + 1) read.wide-at.ensures.0
 
-returns : tie.Need-returns
-returns c = let j = c.before in (added j, next-is j ∙ sym (above_lower (entry j).args.bound (entry j).args.x (omega (arith, next-is j, c.if2.true))))
+returns : tie.Need-returns-then-bound-next
+returns c = let j = c.before in (added j, next-is j ∙ sym (above_lower (entry j).args.bound (entry j).args.x (omega (arith, next-is j, c.if-bound-next.true))))
 
-returns-2 : tie.Need-returns-2
-returns-2 c = let j = c.before in (added j, sym (above-higher (entry j).args.bound (entry j).args.x (omega (arith, next-is j, c.if2.false))))
+returns-2 : tie.Need-returns-else-bound-next
+returns-2 c = let j = c.before in (added j, sym (above-higher (entry j).args.bound (entry j).args.x (omega (arith, next-is j, c.if-bound-next.false))))
 
-pub add-choice-spec : {M : Type 1} → statement M
-add-choice-spec =
+pub add_choice_spec : {M : Type 1} → statement M
+add_choice_spec =
     tie.close
     (tie.spec
-    (λ c κs. search rules) (λ c. search rules) (λ c. search rules) (λ c. search rules) (λ c. search rules) (λ c κs. search rules)
-    (λ c. search rules) (λ c. search rules) (λ c. search rules) (λ c. search rules) (λ c. search rules)
+    (λ c κs. search rules)
+    (λ c. search rules)
+    (λ c. search rules)
+    (λ c. search rules)
+    (λ c. search rules)
+    (λ c κs. search rules)
+    (λ c. search rules)
+    (λ c. search rules)
+    (λ c. search rules)
+    (λ c. search rules)
+    (λ c. search rules)
     (λ c. (added c.before).first-long)
     (λ c. (added c.before).second-long)
     returns

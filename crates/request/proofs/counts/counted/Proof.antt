@@ -21,22 +21,26 @@ number-some : (b wrong : Bool) → b ≡ not wrong → b ≡ false → 18 ≡ nu
 number-some b true e f = refl
 number-some b false e f = absurd (true≢false (sym e ∙ f))
 
-returns : tie.Need-returns
-returns c = record { starts = refl; faulty = λ d. refl; none = λ z. absurd (c.if1.true z) }
+returns : tie.Need-returns-then-fault-ne0
+returns c = record { starts = refl; faulty = λ d. refl; none = λ z. absurd (c.if-fault-ne0.true z) }
 
-wrong : tie.After-counts-true → Bool
-wrong c = let a = c.before.before.before.before.before.before.args in untrue (outline a.opening.starts) a.words.now a.counts.now
+wrong : tie.After-counts_true → Bool
+wrong c = let a = c.before.before.before.before.before.before.args in untrue (outline a.opening.starts-1) a.words.now a.counts.now
 
-returns-2 : tie.Need-returns-2
+returns-2 : tie.Need-returns-then-counts_true
 unfolding wrong
 returns-2 c =
-    record { starts = refl; faulty = λ d. refl; none = λ z. z ∙ number-none c.before.counts-true.result (wrong c.before) c.before.counts-true.ensures c.if2.true }
+    record { starts = refl; faulty = λ d. refl; none = λ z. z ∙ number-none c.before.counts_true.result (wrong c.before) c.before.counts_true.ensures c.if-counts_true.true }
 
-returns-3 : tie.Need-returns-3
+returns-3 : tie.Need-returns
 unfolding wrong
 returns-3 c =
     let e = c.before.before.before.before in
-    record { starts = refl; faulty = λ d. absurd (d e.if1.false); none = λ z. number-some c.before.counts-true.result (wrong c.before) c.before.counts-true.ensures c.if2.false }
+    record { starts = refl; faulty = λ d. absurd (d e.if-fault-ne0.false); none = λ z. number-some c.before.counts_true.result (wrong c.before) c.before.counts_true.ensures c.if-counts_true.false }
 
 pub counted_spec : {M : Type 1} → statement M
-counted_spec = tie.close (tie.spec returns (λ c κs. let e = c.before.before in e.before.before.before.requires e.if1.false) returns-2 returns-3)
+counted_spec = tie.close (tie.spec
+    returns
+    (λ c κs. let e = c.before.before in e.before.before.before.requires e.if-fault-ne0.false)
+    returns-2
+    returns-3)

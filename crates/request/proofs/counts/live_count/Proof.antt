@@ -14,7 +14,7 @@ use Rattle.request.proofs.counts.live_count.Statement.{statement}
 use Rattle.request.proofs.counts.live_count.Tie as tie
 
 -- the relation's ids
-module _ (c : tie.After-tuple-start2) where
+module _ (c : tie.After-tuple_start-2) where
   abbrev start : tie.Start
   start = c.before.before.before
 
@@ -22,29 +22,29 @@ module _ (c : tie.After-tuple-start2) where
   r = start.args.r
 
   few : r < 64
-  few = omega (arith, start.pre.1, relations-few start.pre.0.framed)
+  few = omega (arith, start.requires.1, relations-few start.requires.0.framed)
 
-  first-is : c.before.tuple-start.result ≡ first_id (outline start.args.starts.now) r
-  first-is = c.before.tuple-start.ensures ∙ tuple-start start.pre.0.framed r (omega (arith, few))
+  first-is : c.before.tuple_start.result ≡ first_id (outline start.args.starts.now) r
+  first-is = c.before.tuple_start.ensures ∙ tuple-start start.requires.0.framed r (omega (arith, few))
 
-  end_is : c.tuple-start2.result ≡ first_id (outline start.args.starts.now) r + size (outline start.args.starts.now) r
-  end_is = c.tuple-start2.ensures ∙ tuple-end start.pre.0.framed r few
+  end_is : c.tuple_start-2.result ≡ first_id (outline start.args.starts.now) r + size (outline start.args.starts.now) r
+  end_is = c.tuple_start-2.ensures ∙ tuple-end start.requires.0.framed r few
 
-  within : c.tuple-start2.result ≤ total (outline start.args.starts.now)
-  within = omega (arith, c.tuple-start2.ensures, ids-within start.pre.0.framed r few)
+  within : c.tuple_start-2.result ≤ total (outline start.args.starts.now)
+  within = omega (arith, c.tuple_start-2.ensures, ids-within start.requires.0.framed r few)
 
 returns : tie.Need-returns
 returns c =
     let k = c.before in
     let s = start k in
     let N = outline s.args.starts.now in
-    let n : k.tuple-start2.result - k.before.tuple-start.result ≡ size N (r k) = omega (arith, first-is k, end_is k) in
+    let n : k.tuple_start-2.result - k.before.tuple_start.result ≡ size N (r k) = omega (arith, first-is k, end_is k) in
     c.count.ensures
     ∙ ap₂ (λ (a n : ℕ). count (living_from a n s.args.words.now)) (first-is k) n
-    ∙ sym (count-living N s.args.words.now (r k) s.pre.1)
+    ∙ sym (count-living N s.args.words.now (r k) s.requires.1)
 
-pub live-count-spec : {M : Type 1} → statement M
-live-count-spec =
+pub live_count_spec : {M : Type 1} → statement M
+live_count_spec =
     tie.close
     (tie.spec
     (λ c κs. let s = c.before in omega (arith, s.requires.1, relations-few s.requires.0.framed))

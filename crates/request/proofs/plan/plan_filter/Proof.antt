@@ -21,13 +21,14 @@ nothing-held : (N : Network) → Holds (replicate 64 0) (removed_by N filter)
 unfolding removes
 nothing-held N g h = none-is_live 64 g ∙ sym (and-false (ltb g (total N)))
 
-plans : (o : Opening) → Dec (o.fault ≡ 0) → PlansFrom (record { fault = o.fault; starts = o.starts; removed = replicate 64 0 }) o filter
+plans : (o : Opening) → Dec (o.fault ≡ 0) → PlansFrom (record { fault = o.fault; starts = o.starts-1; removed = replicate 64 0 }) o filter
 plans o (yes z) S variables values m members words numbers wrong opened =
     planned-own S variables values m members words numbers wrong filter o opened z o.fault z (replicate 64 0)
     (λ _. (blank-full, nothing-held (network (G S variables values m members words numbers wrong filter o opened))))
 plans o (no d) S variables values m members words numbers wrong opened =
     planned-shared S variables values m members words numbers wrong filter o opened (replicate 64 0) d
 
-pub plan-filter-spec : {M : Type 1} → statement M
-plan-filter-spec =
-    tie.close (tie.spec (λ c. let o = c.before.args.opening in plans o (ℕ_discrete o.fault 0)))
+pub plan_filter_spec : {M : Type 1} → statement M
+plan_filter_spec =
+    tie.close (tie.spec
+    (λ c. let o = c.before.args.opening in plans o (ℕ_discrete o.fault 0)))

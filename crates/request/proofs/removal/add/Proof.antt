@@ -11,42 +11,42 @@ use borrow.Author.Rules.{rules}
 use Rattle.request.proofs.removal.add.Statement.{statement}
 use Rattle.request.proofs.removal.add.Tie as tie
 
-module _ (c : tie.Joined1) where
-  abbrev read : tie.After-wide
+module _ (c : tie.Joined-wide_id-lt-MAX_TUPLES) where
+  abbrev read : tie.After-wide-wide_id
   read = c.before
 
   abbrev entry : tie.Start
   entry = read.before.before
 
-  words_are : c.if1.words ≡ added entry.args.g entry.args.words.now
+  words_are : c.if-wide_id-lt-MAX_TUPLES.words-1 ≡ added entry.args.g entry.args.words.now
   words_are =
       let g = entry.args.g in
       let ws = entry.args.words.now in
       ⊎_elim
-      {C = c.if1.words ≡ added g ws}
-      (λ w. w.5 ∙ w.2.ensures ∙ sym (added-inside g ws (omega (arith, w.0.taken, read.wide.ensures.0))))
-      (λ w. w.1 ∙ sym (added-outside g ws (omega (arith, w.0.left, read.wide.ensures.0))))
-      c.if1.branch
+      {C = c.if-wide_id-lt-MAX_TUPLES.words-1 ≡ added g ws}
+      (λ w. w.5 ∙ w.2.ensures ∙ sym (added-inside g ws (omega (arith, w.0.taken, read.wide-wide_id.ensures.0))))
+      (λ w. w.1 ∙ sym (added-outside g ws (omega (arith, w.0.left, read.wide-wide_id.ensures.0))))
+      c.if-wide_id-lt-MAX_TUPLES.branch-raw
 
-  still-long : length c.if1.words ≡ length entry.args.words.now
+  still-long : length c.if-wide_id-lt-MAX_TUPLES.words-1 ≡ length entry.args.words.now
   still-long = ap length words_are ∙ added-length entry.args.g entry.args.words.now
 
-  next-is : read.wide.result + 1 ≡ entry.args.g + 1
-  next-is = ap (λ (n : ℕ). n + 1) read.wide.ensures.0
+  next-is : read.wide-wide_id.result + 1 ≡ entry.args.g + 1
+  next-is = ap (λ (n : ℕ). n + 1) read.wide-wide_id.ensures.0
 
-returns : tie.Need-returns
-returns c = let j = c.before in (words_are j, next-is j ∙ sym (above_lower (entry j).args.bound (entry j).args.g (omega (arith, next-is j, c.if2.true))))
+returns : tie.Need-returns-then-bound-next
+returns c = let j = c.before in (words_are j, next-is j ∙ sym (above_lower (entry j).args.bound (entry j).args.g (omega (arith, next-is j, c.if-bound-next.true))))
 
-returns-2 : tie.Need-returns-2
-returns-2 c = let j = c.before in (words_are j, sym (above-higher (entry j).args.bound (entry j).args.g (omega (arith, next-is j, c.if2.false))))
+returns-2 : tie.Need-returns-else-bound-next
+returns-2 c = let j = c.before in (words_are j, sym (above-higher (entry j).args.bound (entry j).args.g (omega (arith, next-is j, c.if-bound-next.false))))
 
 pub add_spec : {M : Type 1} → statement M
 add_spec =
     tie.close
     (tie.spec
     (λ c κs. search rules)
-    (λ c κs. let r = c.before.before in omega (arith, r.wide.ensures.0, r.before.before.requires, c.before.if1.true))
-    (λ c. omega (arith, c.before.wide.ensures.1))
+    (λ c κs. let r = c.before.before in omega (arith, r.wide-wide_id.ensures.0, r.before.before.requires, c.before.if-wide_id-lt-MAX_TUPLES.true))
+    (λ c. omega (arith, c.before.wide-wide_id.ensures.1))
     (λ c. still-long c.before)
     returns
     (λ c. still-long c.before)

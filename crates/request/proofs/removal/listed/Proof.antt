@@ -8,32 +8,34 @@ use borrow.Author.Rules.{rules}
 use Rattle.request.proofs.removal.listed.Statement.{statement}
 use Rattle.request.proofs.removal.listed.Tie as tie
 
-abbrev invariant-loop : tie.invariant-loop
+abbrev invariant-loop : tie.invariant-loop-i
 invariant-loop ids words₀ bound₀ i₀ words bound i = Filled ids words bound i
 
-abbrev decreases-loop : tie.decreases-loop
+abbrev decreases-loop : tie.decreases-loop-i
 decreases-loop ids words₀ bound₀ i₀ words bound i = length ids - i
 
-loop-again : tie.Need-loop-preserved invariant-loop decreases-loop
+loop-again : tie.Need-loop-i-preserved invariant-loop decreases-loop
 loop-again c =
     let a = c.before in
     let turn = a.before.before.before in
-    let l = turn.before.loop in
-    filled_next _ l.words l.bound l.i l.invariant _ _ _ turn.loop-test.true refl a.add.ensures.0 a.add.ensures.1
+    let l = turn.before.loop-i in
+    filled_next _ l.words-1 l.bound l.i l.invariant _ _ _ turn.loop-i-test.true refl a.add-bound.ensures.0 a.add-bound.ensures.1
 
 returns : tie.Need-returns invariant-loop decreases-loop
-returns c = let l = c.before.loop in filled-end _ l.words l.bound l.i l.invariant c.loop-test.false
+returns c = let l = c.before.loop-i in filled-end _ l.words-1 l.bound l.i l.invariant c.loop-i-test.false
 
-pub listed-spec : {M : Type 1} → statement M
-listed-spec =
+pub listed_spec : {M : Type 1} → statement M
+listed_spec =
     tie.close
     (tie.spec
     invariant-loop
     decreases-loop
     (λ c. filled-start _)
-    (λ c. sym c.before.before.loop.invariant.full.long)
-    (λ c. search rules) (λ c. search rules)
-    (λ c κs. c.before.before.before.loop.invariant.full.long)
-    (λ c. search rules) (λ c. search rules)
+    (λ c. sym c.before.before.loop-i.invariant.full.long)
+    (λ c. search rules)
+    (λ c. search rules)
+    (λ c κs. c.before.before.before.loop-i.invariant.full.long)
+    (λ c. search rules)
+    (λ c. search rules)
     loop-again
     returns)

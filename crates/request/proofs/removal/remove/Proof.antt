@@ -8,35 +8,35 @@ use borrow.Author.Rules.{rules}
 use Rattle.request.proofs.removal.remove.Statement.{statement}
 use Rattle.request.proofs.removal.remove.Tie as tie
 
-abbrev invariant-loop : tie.invariant-loop
+abbrev invariant-loop : tie.invariant-loop-i
 invariant-loop words₀ removed n end i₀ words i = Cut words₀ removed words i × (i ≤ end)
 
-abbrev decreases-loop : tie.decreases-loop
+abbrev decreases-loop : tie.decreases-loop-i
 decreases-loop words₀ removed n end i₀ words i = end - i
 
 -- the words up to the end are there, and so are the words that cut them
-within : (c : tie.In-loop invariant-loop decreases-loop) → (c.before.loop.i < length c.before.loop.words) × (c.before.loop.i < 64)
+within : (c : tie.In-loop-i invariant-loop decreases-loop) → (c.before.loop-i.i < length c.before.loop-i.words) × (c.before.loop-i.i < 64)
 within c =
     let read = c.before.before in
     let start = read.before.before in
-    let l = c.before.loop in
-    (omega (arith, start.requires.bits, start.requires.few, l.invariant.0.long, read.words-for.ensures), omega (arith, start.requires.few, read.words-for.ensures))
+    let l = c.before.loop-i in
+    (omega (arith, start.requires.bits, start.requires.few, l.invariant.0.long, read.words_for-end.ensures), omega (arith, start.requires.few, read.words_for-end.ensures))
 
-loop-again : tie.Need-loop-preserved invariant-loop decreases-loop
+loop-again : tie.Need-loop-i-preserved invariant-loop decreases-loop
 loop-again c =
     let turn = c.before.before in
-    let l = turn.before.loop in
-    (cut-next _ _ l.words l.i l.invariant.0 (within turn).0, search rules)
+    let l = turn.before.loop-i in
+    (cut-next _ _ l.words-1 l.i l.invariant.0 (within turn).0, search rules)
 
 returns : tie.Need-returns invariant-loop decreases-loop
 returns c =
     let read = c.before.before in
     let start = read.before.before in
-    let l = c.before.loop in
-    cut-end _ _ l.words l.i l.invariant.0 start.args.n start.requires (λ i _. (read.before.slice-known.given i).fits) (omega (arith, read.words-for.ensures))
+    let l = c.before.loop-i in
+    cut-end _ _ l.words-1 l.i l.invariant.0 start.args.n start.requires (λ i _. (read.before.slice_known-1.given i).fits) (omega (arith, read.words_for-end.ensures))
 
-pub remove-spec : {M : Type 1} → statement M
-remove-spec =
+pub remove_spec : {M : Type 1} → statement M
+remove_spec =
     tie.close
     (tie.spec
     invariant-loop
@@ -49,7 +49,8 @@ remove-spec =
     (λ c. omega (arith, within c.before, c.before.before.before.before.before.requires.full.long))
     (λ c. omega (arith, within c.before.before))
     (λ c. omega (arith, within c.before.before))
-    (λ c. search rules) (λ c. search rules)
+    (λ c. search rules)
+    (λ c. search rules)
     loop-again
-    (λ c. c.before.loop.invariant.0.long)
+    (λ c. c.before.loop-i.invariant.0.long)
     returns)

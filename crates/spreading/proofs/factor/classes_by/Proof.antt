@@ -8,14 +8,14 @@ use borrow.Author.Rules.{rules}
 use Rattle.spreading.proofs.factor.classes_by.Statement.{statement}
 use Rattle.spreading.proofs.factor.classes_by.Tie as tie
 
-abbrev invariant-loop : tie.invariant-loop
+abbrev invariant-loop : tie.invariant-loop-j
 invariant-loop variables values starts index words members place factor n₀ j₀ n j = (j ≤ length members) × (n ≤ 524288 * j)
 
-abbrev decreases-loop : tie.decreases-loop
+abbrev decreases-loop : tie.decreases-loop-j
 decreases-loop variables values starts index words members place factor n₀ j₀ n j = length members - j
 
-pub classes-by-spec : {M : Type 1} → statement M
-classes-by-spec =
+pub classes_by_spec : {M : Type 1} → statement M
+classes_by_spec =
     tie.close
     (tie.spec
     invariant-loop
@@ -23,21 +23,21 @@ classes-by-spec =
     (λ c. search rules)
     (λ c κs. c.before.before.before.before.before.before.requires.1.1)
     (λ c. search rules)
-    (λ c. c.before.before.before.loop-test.true)
+    (λ c. c.before.before.before.loop-j-test.true)
     (λ c κs.
     let t = c.before.before.before in
     let s = t.before.before.before.before.before in
-    (s.requires.0, (s.requires.1.0, s.requires.1.1.1 t.before.loop.j t.loop-test.true)))
-    (λ c. let t = c.before.before.before.before in omega (arith, c.classes-of.ensures, t.before.loop.invariant, t.loop-test.true, t.before.before.before.before.before.requires.1.1.0))
+    (s.requires.0, (s.requires.1.0, s.requires.1.1.1 t.before.loop-j.j t.loop-j-test.true)))
+    (λ c. let t = c.before.before.before.before in omega (arith, c.classes_of-n.ensures, t.before.loop-j.invariant, t.loop-j-test.true, t.before.before.before.before.before.requires.1.1.0))
     (λ c. search rules)
-    (λ c. omega (arith, c.before.loop-test.true))
+    (λ c. omega (arith, c.before.loop-j-test.true))
     (λ c.
     let t = c.before in
-    let l = t.before.loop in (
-      omega (arith, t.loop-test.true),
+    let l = t.before.loop-j in (
+      omega (arith, t.loop-j-test.true),
       ⊎_elim
           (λ w. omega (arith, w.3.ensures, w.4, l.invariant))
           (λ w. omega (arith, w.1, l.invariant))
-          c.if1.branch,
+          c.if-j-place.branch-raw,
     ))
     (λ c. search rules))

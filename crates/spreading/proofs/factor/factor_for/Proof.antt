@@ -5,14 +5,14 @@ use borrow.Author.Rules.{rules}
 use Rattle.spreading.proofs.factor.factor_for.Statement.{statement}
 use Rattle.spreading.proofs.factor.factor_for.Tie as tie
 
-abbrev invariant-loop : tie.invariant-loop
+abbrev invariant-loop : tie.invariant-loop-k
 invariant-loop variables values starts index words members place best₀ most₀ factor₀ k₀ best most factor k = k ≤ 16
 
-abbrev decreases-loop : tie.decreases-loop
+abbrev decreases-loop : tie.decreases-loop-k
 decreases-loop variables values starts index words members place best₀ most₀ factor₀ k₀ best most factor k = 16 - k
 
-pub factor-for-spec : {M : Type 1} → statement M
-factor-for-spec =
+pub factor_for_spec : {M : Type 1} → statement M
+factor_for_spec =
     tie.close
     (tie.spec
     invariant-loop
@@ -22,6 +22,6 @@ factor-for-spec =
     (λ c. omega arith)
     (λ c. omega arith)
     (λ c. search rules)
-    (λ c. omega (arith, c.before.before.loop-test.true))
-    (λ c. omega (arith, c.before.before.loop-test.true))
+    (λ c. omega (arith, c.before.before.loop-k-test.true))
+    (λ c. omega (arith, c.before.before.loop-k-test.true))
     (λ c. search rules))

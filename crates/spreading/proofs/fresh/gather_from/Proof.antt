@@ -17,46 +17,46 @@ use Rattle.spreading.proofs.Relations.{Gathered, gathered-more}
 use Rattle.spreading.proofs.fresh.gather_from.Statement.{statement}
 use Rattle.spreading.proofs.fresh.gather_from.Tie as tie
 
-abbrev invariant-loop : tie.invariant-loop
+abbrev invariant-loop : tie.invariant-loop-g
 invariant-loop variables values starts index fresh words sum₀ r s first end g₀ sum g =
     let N = network_in (record { variables = variables; values = values; starts = starts }) in
     (length sum ≡ 64)
     × (((first_id N r ≤ g) × (g ≤ end)) × ((g < end → is_live fresh g ≡ true) × (((z : ℕ) → z < size N s → is_live sum₀ (first_id N s + z) ≡ true → is_live sum (first_id N s + z) ≡ true) × Gathered N r s fresh words sum g)))
 
-abbrev decreases-loop : tie.decreases-loop
+abbrev decreases-loop : tie.decreases-loop-g
 decreases-loop variables values starts index fresh words sum₀ r s first end g₀ sum g = end - g
 
-module _ (c : tie.After-tuple-start2 invariant-loop decreases-loop) where
+module _ (c : tie.After-tuple_start-end invariant-loop decreases-loop) where
   abbrev start : tie.Start invariant-loop decreases-loop
   start = c.before.before.before.before
 
   abbrev network : Network
   network = network_in (record { variables = start.args.variables.now; values = start.args.values.now; starts = start.args.starts.now })
 
-  first-is : c.before.tuple-start.result ≡ first_id network start.args.r
-  first-is = c.before.tuple-start.ensures ∙ tuple-start start.pre.1.0.laid.framed start.args.r (omega (arith, start.pre.1.1.0.0))
+  first-is : c.before.tuple_start-first.result ≡ first_id network start.args.r
+  first-is = c.before.tuple_start-first.ensures ∙ tuple-start start.requires.1.0.laid.framed start.args.r (omega (arith, start.requires.1.1.0.0))
 
-  end_is : c.tuple-start2.result ≡ first_id network start.args.r + size network start.args.r
-  end_is = c.tuple-start2.ensures ∙ tuple-end start.pre.1.0.laid.framed start.args.r start.pre.1.1.0.0
+  end_is : c.tuple_start-end.result ≡ first_id network start.args.r + size network start.args.r
+  end_is = c.tuple_start-end.ensures ∙ tuple-end start.requires.1.0.laid.framed start.args.r start.requires.1.1.0.0
 
-  few : c.tuple-start2.result ≤ 4096
-  few = omega (arith, c.tuple-start2.ensures, ids-few start.pre.1.0.laid.framed start.args.r start.pre.1.1.0.0)
+  few : c.tuple_start-end.result ≤ 4096
+  few = omega (arith, c.tuple_start-end.ensures, ids-few start.requires.1.0.laid.framed start.args.r start.requires.1.1.0.0)
 
   -- a walk from id g on
-  walks : (g : ℕ) → g ≤ c.tuple-start2.result → (g ≤ c.tuple-start2.result) × (c.tuple-start2.result ≤ 64 * length start.args.fresh.now) × (c.tuple-start2.result ≤ 4096)
-  walks g h = (h, omega (arith, few, start.pre.0.0), few)
+  walks : (g : ℕ) → g ≤ c.tuple_start-end.result → (g ≤ c.tuple_start-end.result) × (c.tuple_start-end.result ≤ 64 * length start.args.fresh.now) × (c.tuple_start-end.result ≤ 4096)
+  walks g h = (h, omega (arith, few, start.requires.0.0), few)
 
-  next-is : (g : ℕ) → g ≤ c.tuple-start2.result → First (is_live start.args.fresh.now) g c.tuple-start2.result (next_live start.args.fresh.now g c.tuple-start2.result)
-  next-is g h = next_live-first start.args.fresh.now g c.tuple-start2.result h
+  next-is : (g : ℕ) → g ≤ c.tuple_start-end.result → First (is_live start.args.fresh.now) g c.tuple_start-end.result (next_live start.args.fresh.now g c.tuple_start-end.result)
+  next-is g h = next_live-first start.args.fresh.now g c.tuple_start-end.result h
 
-abbrev reading : tie.At-loop invariant-loop decreases-loop → tie.After-tuple-start2 invariant-loop decreases-loop
+abbrev reading : tie.At-loop-g invariant-loop decreases-loop → tie.After-tuple_start-end invariant-loop decreases-loop
 reading c = c.before.before.before
 
-loop-holds : tie.Need-loop-init invariant-loop decreases-loop
+loop-holds : tie.Need-loop-g-init invariant-loop decreases-loop
 loop-holds c =
     let read = c.before.before in
-    let f = next-is read read.before.tuple-start.result (omega (arith, first-is read, end_is read)) in
-    let n = c.next.ensures in (
+    let f = next-is read read.before.tuple_start-first.result (omega (arith, first-is read, end_is read)) in
+    let n = c.next-g.ensures in (
       (start read).requires.0.1.1,
       (
         (omega (arith, first-is read, n, f.from-i), omega (arith, n, f.to_end)),
@@ -70,39 +70,39 @@ loop-holds c =
       ),
     )
 
-gather-near-requires : tie.Need-gather-near-requires invariant-loop decreases-loop
+gather-near-requires : tie.Need-gather_near-requires invariant-loop decreases-loop
 gather-near-requires c κs =
     let turn = c.before in
-    let l = turn.before.loop in
+    let l = turn.before.loop-g in
     let read = reading turn.before in
     let s = start read in (
-      (s.pre.0.1.0, l.invariant.0),
-      (record { laid = s.pre.1.0.laid; indexed = s.pre.1.0.indexed; own = omega (arith, first-is read, end_is read, turn.loop-test.true, l.invariant.1.0.0) }, s.pre.1.1),
+      (s.requires.0.1.0, l.invariant.0),
+      (record { laid = s.requires.1.0.laid; indexed = s.requires.1.0.indexed; own = omega (arith, first-is read, end_is read, turn.loop-g-test.true, l.invariant.1.0.0) }, s.requires.1.1),
     )
 
-loop-again : tie.Need-loop-preserved invariant-loop decreases-loop
+loop-again : tie.Need-loop-g-preserved invariant-loop decreases-loop
 loop-again c =
     let done = c.before.before in
     let turn = done.before.before in
-    let l = turn.before.loop in
+    let l = turn.before.loop-g in
     let read = reading turn.before in
     let s = start read in
     let a = s.args in
-    let t = turn.loop-test.true in
+    let t = turn.loop-g-test.true in
     let f = next-is read (l.g + 1) (omega (arith, t)) in
-    let n = c.next2.ensures in
-    let y = l.g - read.before.tuple-start.result in
+    let n = c.next-g-in-loop-g.ensures in
+    let y = l.g - read.before.tuple_start-first.result in
     let is-g : first_id (network read) a.r + y ≡ l.g = omega (arith, first-is read, l.invariant.1.0.0) in (
-      done.gather-near.ensures.0,
+      done.gather_near.ensures.0,
       (
         (omega (arith, n, f.from-i, l.invariant.1.0.0), omega (arith, n, f.to_end)),
         (
           λ h. subst (λ (k : ℕ). is_live a.fresh.now k ≡ true) (sym n) (f.passes (omega (arith, n, h))),
           (
-            λ z h i. done.gather-near.ensures.1.keeps z h (l.invariant.1.1.1.0 z h i),
-            gathered-more (network read) a.r a.s a.fresh.now a.words.now l.sum done.gather-near.new.1.1.1.1.1.0 y c.next2.result
+            λ z h i. done.gather_near.ensures.1.keeps z h (l.invariant.1.1.1.0 z h i),
+            gathered-more (network read) a.r a.s a.fresh.now a.words.now l.sum done.gather_near.new.1.1.1.1.1.0 y c.next-g-in-loop-g.result
                 (λ k h i e. not-both e (f.none_before k (omega (arith, h, is-g)) (omega (arith, i, n))))
-                done.gather-near.ensures.1
+                done.gather_near.ensures.1
                 (subst (Gathered (network read) a.r a.s a.fresh.now a.words.now l.sum) (sym is-g) l.invariant.1.1.1.1),
           ),
         ),
@@ -111,31 +111,33 @@ loop-again c =
 
 returns : tie.Need-returns invariant-loop decreases-loop
 returns c =
-    let l = c.before.loop in
+    let l = c.before.loop-g in
     let read = reading c.before in
     record {
       long = l.invariant.0;
       keeps = l.invariant.1.1.1.0;
-      adds = λ x z hx hz a lx lz. l.invariant.1.1.1.1 x z hx (omega (arith, end_is read, c.loop-test.false)) lx hz a lz;
+      adds = λ x z hx hz a lx lz. l.invariant.1.1.1.1 x z hx (omega (arith, end_is read, c.loop-g-test.false)) lx hz a lz;
     }
 
-pub gather-from-spec : {M : Type 1} → statement M
-gather-from-spec =
+pub gather_from_spec : {M : Type 1} → statement M
+gather_from_spec =
     tie.close
     (tie.spec
     invariant-loop
     decreases-loop
-    (λ c κs. search rules) (λ c. search rules) (λ c κs. search rules)
-    (λ c κs. let read = c.before in walks read read.before.tuple-start.result (omega (arith, first-is read, end_is read)))
+    (λ c κs. search rules)
+    (λ c. search rules)
+    (λ c κs. search rules)
+    (λ c κs. let read = c.before in walks read read.before.tuple_start-first.result (omega (arith, first-is read, end_is read)))
     loop-holds
-    (λ c. let l = c.before.before in omega (arith, first-is (reading l), l.loop.invariant.1.0.0))
+    (λ c. let l = c.before.before in omega (arith, first-is (reading l), l.loop-g.invariant.1.0.0))
     gather-near-requires
-    (λ c. let turn = c.before.before.before in omega (arith, turn.loop-test.true, few (reading turn.before)))
-    (λ c κs. let turn = c.before.before.before in walks (reading turn.before) (turn.before.loop.g + 1) (omega (arith, turn.loop-test.true)))
+    (λ c. let turn = c.before.before.before in omega (arith, turn.loop-g-test.true, few (reading turn.before)))
+    (λ c κs. let turn = c.before.before.before in walks (reading turn.before) (turn.before.loop-g.g + 1) (omega (arith, turn.loop-g-test.true)))
     (λ c.
     let turn = c.before.before.before.before in
     let read = reading turn.before in
-    let f = next-is read (turn.before.loop.g + 1) (omega (arith, turn.loop-test.true)) in
-    omega (arith, c.next2.ensures, f.from-i, f.to_end, turn.loop-test.true))
+    let f = next-is read (turn.before.loop-g.g + 1) (omega (arith, turn.loop-g-test.true)) in
+    omega (arith, c.next-g-in-loop-g.ensures, f.from-i, f.to_end, turn.loop-g-test.true))
     loop-again
     returns)

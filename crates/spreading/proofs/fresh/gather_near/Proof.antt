@@ -21,7 +21,7 @@ only_one r s few apart =
       other = λ j l. let e : j ≡ 0 = omega (arith, l.inside) in subst (λ (k : ℕ). get_or (s ∷ []) k 0 ≡ r → ⊥) (sym e) apart;
     }
 
-narrow-members-requires : tie.Need-narrow-members-requires
+narrow-members-requires : tie.Need-narrow_members-requires
 narrow-members-requires c κs =
     let s = c.before.before.before.before.before in
     (s.requires.0.0, (s.requires.1.0, only_one s.args.r s.args.s s.requires.1.1.0.1 s.requires.1.1.1))
@@ -37,12 +37,12 @@ returns c =
       c.join.ensures.long,
       record {
         keeps = λ z h l. c.join.ensures.keeps (first_id N a.s + z) l;
-        adds = λ z h g l. c.join.ensures.adds (first_id N a.s + z) (omega arith) (omega (arith, few, h)) (c.before.before.before.narrow-members.ensures.1.0.keeps a.s z h g l) refl;
+        adds = λ z h g l. c.join.ensures.adds (first_id N a.s + z) (omega arith) (omega (arith, few, h)) (c.before.before.before.narrow_members.ensures.1.0.keeps a.s z h g l) refl;
       },
     )
 
-pub gather-near-spec : {M : Type 1} → statement M
-gather-near-spec =
+pub gather_near_spec : {M : Type 1} → statement M
+gather_near_spec =
     tie.close
     (tie.spec
     (λ c. search rules)

@@ -28,33 +28,33 @@ module _ (s : tie.Start) where
   narrowed = get_or s.args.members.now s.args.j 0
 
   below : narrowed < 64
-  below = member_below s.pre.1.0.0.0.laid s.pre.1.0.0.1 s.args.j s.pre.0.1.1.0
+  below = member_below s.requires.1.0.0.0.laid s.requires.1.0.0.1 s.args.j s.requires.0.1.1.0
 
-abbrev start : tie.After-gather-others → tie.Start
+abbrev start : tie.After-gather_others → tie.Start
 start c = c.before.before.before.before.before.before.before.before.before
 
-module _ (c : tie.After-tuple-start2) where
-  abbrev gathering : tie.After-gather-others
+module _ (c : tie.After-tuple_start-to) where
+  abbrev gathering : tie.After-gather_others
   gathering = c.before.before.before.before
 
   abbrev begun : tie.Start
   begun = start gathering
 
-  from_is : c.before.before.tuple-start.result ≡ first_id (network begun) (narrowed begun)
-  from_is = c.before.before.tuple-start.ensures ∙ tuple-start begun.pre.1.0.0.0.laid.framed (narrowed begun) (omega (arith, below begun))
+  from_is : c.before.before.tuple_start-from.result ≡ first_id (network begun) (narrowed begun)
+  from_is = c.before.before.tuple_start-from.ensures ∙ tuple-start begun.requires.1.0.0.0.laid.framed (narrowed begun) (omega (arith, below begun))
 
-  to_is : c.tuple-start2.result ≡ first_id (network begun) (narrowed begun) + size (network begun) (narrowed begun)
-  to_is = c.tuple-start2.ensures ∙ tuple-end begun.pre.1.0.0.0.laid.framed (narrowed begun) (below begun)
+  to_is : c.tuple_start-to.result ≡ first_id (network begun) (narrowed begun) + size (network begun) (narrowed begun)
+  to_is = c.tuple_start-to.ensures ∙ tuple-end begun.requires.1.0.0.0.laid.framed (narrowed begun) (below begun)
 
-  to-few : c.tuple-start2.result ≤ 4096
-  to-few = omega (arith, c.tuple-start2.ensures, ids-few begun.pre.1.0.0.0.laid.framed (narrowed begun) (below begun))
+  to-few : c.tuple_start-to.result ≤ 4096
+  to-few = omega (arith, c.tuple_start-to.ensures, ids-few begun.requires.1.0.0.0.laid.framed (narrowed begun) (below begun))
 
 keep-requires : tie.Need-keep-requires
 keep-requires c κs =
     let t = c.before.before in
-    ((begun t).requires.0.1.0, (to-few t, omega (arith, to-few t, (gathering t).gather-others.ensures.long)))
+    ((begun t).requires.0.1.0, (to-few t, omega (arith, to-few t, (gathering t).gather_others.ensures.long)))
 
-returns-2 : tie.Need-returns-2
+returns-2 : tie.Need-returns
 returns-2 c =
     let k = c.before.before.before in
     let t = k.before.before.before in
@@ -62,37 +62,39 @@ returns-2 c =
     let a = s.args in
     let N = network s in
     let r = narrowed s in
-    let from = t.before.before.tuple-start.result in
-    let to = t.tuple-start2.result in
+    let from = t.before.before.tuple_start-from.result in
+    let to = t.tuple_start-to.result in
     let after = k.keep.new.1.0 in
-    let sum = (gathering t).gather-others.new.1.1.1.1.1.1.0 in
+    let sum = (gathering t).gather_others.new.1.1.1.1.1.1.0 in
     let kept = k.keep.ensures.1 in
-    let inside = s.pre.0.1.1.0 in (
+    let inside = s.requires.0.1.1.0 in (
       k.keep.ensures.0,
       (
-        keeps-member N a.members.now s.pre.1.0.0.1 a.j inside a.words.now after
+        keeps-member N a.members.now s.requires.1.0.0.1 a.j inside a.words.now after
             (kept-outside N r from to a.words.now sum after (from_is t) (to_is t) kept)
             (kept-inside N r from to a.words.now sum after (from_is t) (to_is t) kept)
             (λ q m p l.
-            let own = gathered-own N a.members.now a.place a.j inside a.fresh.now a.words.now sum (gathering t).gather-others.ensures s.pre.1.1 q m p l in
+            let own = gathered-own N a.members.now a.place a.j inside a.fresh.now a.words.now sum (gathering t).gather_others.ensures s.requires.1.1 q m p l in
             kept-both from to a.words.now sum after kept (get_or q a.j 0) (l (get_or q a.j 0) (candidates-at N a.members.now m a.j inside).0) own)
-            a.place 0 (⊎_elim (λ l. omega (arith, l)) s.pre.0.1.1.1),
+            a.place 0 (⊎_elim (λ l. omega (arith, l)) s.requires.0.1.1.1),
         λ e.
             let past = ltb-false c.next.result to e in
-            record { j = a.j; later = record { from-k = omega arith; inside = inside; other = s.pre.0.1.1.1 }; dead = dead-past N r from to (from_is t) (to_is t) after (omega (arith, past, c.next.ensures)) },
+            record { j = a.j; later = record { from-k = omega arith; inside = inside; other = s.requires.0.1.1.1 }; dead = dead-past N r from to (from_is t) (to_is t) after (omega (arith, past, c.next.ensures)) },
       ),
     )
 
-pub narrow-fresh-spec : {M : Type 1} → statement M
-narrow-fresh-spec =
+pub narrow_fresh_spec : {M : Type 1} → statement M
+narrow_fresh_spec =
     tie.close
     (tie.spec
     (λ c κs. let s = c.before.before.before in let P = s.requires.1.0.0 in (s.requires.0.0, (P.0.laid.framed, (P.1.few, λ j h. member_below P.0.laid P.1 j h))))
     (λ c. let s = c.before.before.before.before.before in (s.requires.0.1.0, (keeps-none (network s) s.args.members.now s.args.place 0 s.args.words.now, λ e. absurd (not-both refl e))))
     (λ c κs. search rules)
-    (λ c. search rules) (λ c. search rules)
+    (λ c. search rules)
+    (λ c. search rules)
     (λ c κs. let s = start c.before in omega (arith, below s))
-    (λ c. search rules) (λ c. search rules)
+    (λ c. search rules)
+    (λ c. search rules)
     (λ c. let s = start c.before.before.before in omega (arith, below s))
     (λ c κs. let s = start c.before.before.before in omega (arith, below s))
     (λ c. search rules)

@@ -5,8 +5,8 @@ use Rattle.twins.proofs.Dividing.{put-far, put-near}
 use Rattle.twins.proofs.sides.put_member.Statement.{statement}
 use Rattle.twins.proofs.sides.put_member.Tie as tie
 
-pub put-member-spec : {M : Type 1} → statement M
-put-member-spec =
+pub put_member_spec : {M : Type 1} → statement M
+put_member_spec =
     tie.close
     (tie.spec
     (λ c. let s = c.before.before.before.before.before in omega (arith, s.requires.0))

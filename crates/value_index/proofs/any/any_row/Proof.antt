@@ -13,16 +13,17 @@ module _ (s : tie.Start) where
   rows = digit_count s.args.index.now * digit_rows s.args.index.now
 
   many : rows ≤ 36864
-  many = rows-many s.pre.0
+  many = rows-many s.requires.0
 
   fits : s.args.start + rows * row_words s.args.index.now + row_words s.args.index.now ≤ index_words
-  fits = nth-within s.pre.1 rows (omega arith)
+  fits = nth-within s.requires.1 rows (omega arith)
 
-pub any-row-spec : {M : Type 1} → statement M
-any-row-spec =
+pub any_row_spec : {M : Type 1} → statement M
+any_row_spec =
     tie.close
     (tie.spec
-    (λ c. search rules) (λ c. search rules)
+    (λ c. search rules)
+    (λ c. search rules)
     (λ c. omega (arith, many c.before.before))
     (λ c. search rules)
     (λ c. omega (arith, fits c.before.before.before))

@@ -13,29 +13,29 @@ use borrow.Author.Rules.{rules}
 use Rattle.value_index.proofs.any.has_some.Statement.{statement}
 use Rattle.value_index.proofs.any.has_some.Tie as tie
 
-abbrev invariant-loop : tie.invariant-loop
+abbrev invariant-loop : tie.invariant-loop-i
 invariant-loop index row from to some₀ i₀ some i = some ≡ 0 → NoneIn index row (64 * from) (64 * i)
 
-abbrev decreases-loop : tie.decreases-loop
+abbrev decreases-loop : tie.decreases-loop-i
 decreases-loop index row from to some₀ i₀ some i = to - i
 
-within : (c : tie.In-loop invariant-loop decreases-loop) → c.before.before.args.row + c.before.loop.i < index_words
-within c = omega (arith, c.loop-test.true, c.before.before.requires)
+within : (c : tie.In-loop-i invariant-loop decreases-loop) → c.before.before.args.row + c.before.loop-i.i < index_words
+within c = omega (arith, c.loop-i-test.true, c.before.before.requires)
 
-loop-again : tie.Need-loop-preserved invariant-loop decreases-loop
+loop-again : tie.Need-loop-i-preserved invariant-loop decreases-loop
 loop-again c e =
-    let l = c.before.before.loop in
+    let l = c.before.before.loop-i in
     let a = c.before.before.before.args in
-    let none = or-none l.some _ e in
+    let none = or-none l.some-1 _ e in
     none_more a.index.now a.row (64 * a.from) l.i none.1 (l.invariant none.0)
 
 returns : tie.Need-returns invariant-loop decreases-loop
 returns c e g l h =
-    let w = c.before.loop in
-    w.invariant (eqb-true w.some 0 (not-false (eqb w.some 0) e)) g l (omega (arith, c.loop-test.false))
+    let w = c.before.loop-i in
+    w.invariant (eqb-true w.some-1 0 (not-false (eqb w.some-1 0) e)) g l (omega (arith, c.loop-i-test.false))
 
-pub has-some-spec : {M : Type 1} → statement M
-has-some-spec =
+pub has_some_spec : {M : Type 1} → statement M
+has_some_spec =
     tie.close
     (tie.spec
     invariant-loop
@@ -45,6 +45,6 @@ has-some-spec =
     (λ c. omega (arith, within c))
     (λ c. within c)
     (λ c. omega (arith, within c.before))
-    (λ c. omega (arith, c.before.loop-test.true))
+    (λ c. omega (arith, c.before.loop-i-test.true))
     loop-again
     returns)

@@ -13,8 +13,8 @@ use Rattle.value_index.proofs.digits.hash_behind.Tie as tie
 rows_are : (s : tie.Start) → s.args.plan.rows ≡ digit_rows s.args.index.now
 rows_are s = ap (λ (p : RowPlan). p.rows) s.requires.1.0
 
-pub hash-behind-spec : {M : Type 1} → statement M
-hash-behind-spec =
+pub hash_behind_spec : {M : Type 1} → statement M
+hash_behind_spec =
     tie.close
     (tie.spec
     (λ c. let s = c.before in let p = hash-fits s.requires.0 s.args.hash s.requires.1.1 in rw (rows_are s) (omega (arith, p)))

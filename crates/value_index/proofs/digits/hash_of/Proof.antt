@@ -16,7 +16,7 @@ module _ (s : tie.Start) where
   factor-is = ap (λ (p : RowPlan). p.factor) s.requires.1
 
   mixes-is : s.args.plan.mixes ≡ mixes s.args.index.now
-  mixes-is = ap (λ (p : RowPlan). p.mixes) s.pre.1
+  mixes-is = ap (λ (p : RowPlan). p.mixes) s.requires.1
 
   product : s.args.value * s.args.plan.factor % hashes ≡ s.args.value * factor s.args.index.now % hashes
   product = ap (λ (f : ℕ). s.args.value * f % hashes) factor-is
@@ -27,20 +27,24 @@ module _ (s : tie.Start) where
   mixing : (s.args.plan.mixes ≡ 0 → ⊥) → mixed (s.args.value * s.args.plan.factor % hashes) ≡ hash_at s.args.index.now s.args.value 0
   mixing d = ap mixed product ∙ sym (is-mixed (mixes s.args.index.now) _ (λ e. d (mixes-is ∙ e))) ∙ sym (hash-first s.args.index.now s.args.value)
 
-mul-hash : tie.Need-overflow-mul-hash
+mul-hash : tie.Need-overflow_mul-hash
 mul-hash c =
     let s = c.before in
     let v : s.args.value ≤ 4294967295 = search rules in
     let p = mul-le-mul v s.requires.0.small in
     rw (factor-is s) (omega (arith, p))
 
-returns : tie.Need-returns
-returns c = plain c.before.before.before c.if1.true
+returns : tie.Need-returns-then-plan-eq0
+returns c = plain c.before.before.before c.if-plan-eq0.true
 
-returns-2 : tie.Need-returns-2
-returns-2 c = c.mix.ensures ∙ mixing c.before.before.before.before c.before.if1.false
+returns-2 : tie.Need-returns
+returns-2 c = c.mix.ensures ∙ mixing c.before.before.before.before c.before.if-plan-eq0.false
 
-pub hash-of-spec : {M : Type 1} → statement M
-hash-of-spec =
+pub hash_of_spec : {M : Type 1} → statement M
+hash_of_spec =
     tie.close
-    (tie.spec mul-hash returns (λ c κs. search rules) returns-2)
+    (tie.spec
+    mul-hash
+    returns
+    (λ c κs. search rules)
+    returns-2)

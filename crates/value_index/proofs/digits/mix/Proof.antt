@@ -6,8 +6,8 @@ use Rattle.value_index.proofs.ValueRows.{mixed-is}
 use Rattle.value_index.proofs.digits.mix.Statement.{statement}
 use Rattle.value_index.proofs.digits.mix.Tie as tie
 
-pub mix-spec : {M : Type 1} → statement M
-mix-spec =
+pub mix_spec : {M : Type 1} → statement M
+mix_spec =
     tie.close
     (tie.spec
     (λ c. search rules)

@@ -15,19 +15,19 @@ module _ (s : tie.Start) where
   rows_are = ap (λ (p : RowPlan). p.rows) s.requires.1
 
   words_are : s.args.plan.words ≡ row_words s.args.index.now
-  words_are = ap (λ (p : RowPlan). p.words) s.pre.1
+  words_are = ap (λ (p : RowPlan). p.words) s.requires.1
 
   short : s.args.hash * digit_rows s.args.index.now ≤ 39582418599936
-  short = hash-fits s.pre.0.0 s.args.hash s.pre.0.1.1.0
+  short = hash-fits s.requires.0.0 s.args.hash s.requires.0.1.1.0
 
   few : s.args.i * digit_rows s.args.index.now + s.args.hash * digit_rows s.args.index.now / hashes < 36865
-  few = rows_few s.pre.0.0 s.args.hash s.pre.0.1.1.0 s.args.i s.pre.0.1.1.1
+  few = rows_few s.requires.0.0 s.args.hash s.requires.0.1.1.0 s.args.i s.requires.0.1.1.1
 
   fits : row_of s.args.index.now s.args.start s.args.hash s.args.i + row_words s.args.index.now ≤ index_words
-  fits = row_within s.pre.0.0 s.args.hash s.pre.0.1.1.0 s.args.i s.pre.0.1.1.1 s.pre.0.1.0
+  fits = row_within s.requires.0.0 s.args.hash s.requires.0.1.1.0 s.args.i s.requires.0.1.1.1 s.requires.0.1.0
 
-pub row-of-spec : {M : Type 1} → statement M
-row-of-spec =
+pub row_of_spec : {M : Type 1} → statement M
+row_of_spec =
     tie.close
     (tie.spec
     (λ c. rw (rows_are c) (omega (arith, few c)))

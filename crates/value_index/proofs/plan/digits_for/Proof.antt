@@ -10,11 +10,11 @@ use borrow.Author.Rules.{rules}
 use Rattle.value_index.proofs.plan.digits_for.Statement.{statement}
 use Rattle.value_index.proofs.plan.digits_for.Tie as tie
 
-abbrev invariant-loop : tie.invariant-loop
+abbrev invariant-loop : tie.invariant-loop-count
 invariant-loop rows range factor classes count₀ count =
     (0 < count) × ((count ≤ 5) × ((factor ≤ hashes) × (classes ≤ hashes)))
 
-abbrev decreases-loop : tie.decreases-loop
+abbrev decreases-loop : tie.decreases-loop-count
 decreases-loop rows range factor classes count₀ count = 5 - count
 
 -- the factor, and how many classes of hashes it leaves
@@ -28,58 +28,59 @@ module _ (s : tie.Start invariant-loop decreases-loop) where
   classes-few : 4294967295 / (hashes / s.args.range) + 1 ≤ hashes
   classes-few = let d = div-le_self 4294967295 (hashes / s.args.range) in omega (arith, d)
 
-div-classes : tie.Need-nonzero-div-classes invariant-loop decreases-loop
+div-classes : tie.Need-nonzero_div-classes invariant-loop decreases-loop
 div-classes c = factor-some c
 
-add-classes : tie.Need-overflow-add-classes invariant-loop decreases-loop
+add-classes : tie.Need-overflow_add-classes invariant-loop decreases-loop
 add-classes c = let k = classes-few c in omega (arith, k)
 
-loop-holds : tie.Need-loop-init invariant-loop decreases-loop
+loop-holds : tie.Need-loop-count-init invariant-loop decreases-loop
 loop-holds c = (omega arith, (omega arith, (factor-small c, classes-few c)))
 
-div-each : tie.Need-nonzero-div-each invariant-loop decreases-loop
-div-each c = c.before.loop.invariant.0
+div-each : tie.Need-nonzero_div-each invariant-loop decreases-loop
+div-each c = c.before.loop-count.invariant.0
 
 -- a digit's share of the rows
-module _ (c : tie.In-loop invariant-loop decreases-loop) where
+module _ (c : tie.In-loop-count invariant-loop decreases-loop) where
   abbrev start : tie.Start invariant-loop decreases-loop
   start = c.before.before
 
-  few : c.before.loop.count ≤ 4
-  few = omega (arith, c.loop-test.true)
+  few : c.before.loop-count.count ≤ 4
+  few = omega (arith, c.loop-count-test.true)
 
-  some : 0 < start.args.rows / c.before.loop.count
-  some = quotient-some start.args.rows c.before.loop.count c.before.loop.invariant.0 (omega (arith, few, start.pre.0))
+  some : 0 < start.args.rows / c.before.loop-count.count
+  some = quotient-some start.args.rows c.before.loop-count.count c.before.loop-count.invariant.0 (omega (arith, few, start.requires.0))
 
-  short : start.args.rows / c.before.loop.count ≤ 1024
-  short = let d = div-le_self start.args.rows c.before.loop.count in omega (arith, d, start.pre.1)
+  short : start.args.rows / c.before.loop-count.count ≤ 1024
+  short = let d = div-le_self start.args.rows c.before.loop-count.count in omega (arith, d, start.requires.1)
 
-returns : tie.Need-returns invariant-loop decreases-loop
+returns : tie.Need-returns-then-tells invariant-loop decreases-loop
 returns c =
     let t = c.before.before.before in
-    let e = c.fewer-rows.ensures in
-    let s : c.fewer-rows.result ≤ 1024 = omega (arith, e.1, short t) in
+    let e = c.fewer_rows-fewer.ensures in
+    let s : c.fewer_rows-fewer.result ≤ 1024 = omega (arith, e.1, short t) in
     record { few = few t; some = e.0; short = s; small = factor-small (start t) }
 
-returns-2 : tie.Need-returns-2 invariant-loop decreases-loop
+returns-2 : tie.Need-returns-then-tells-2 invariant-loop decreases-loop
 returns-2 c =
     let t = c.before.before.before.before in
     record { few = few t; some = some t; short = short t; small = omega arith }
 
-returns-3 : tie.Need-returns-3 invariant-loop decreases-loop
+returns-3 : tie.Need-returns invariant-loop decreases-loop
 returns-3 c =
     let s = c.before.before in
     let rows : 4 ≤ s.args.rows = s.requires.0 in
     let most : s.args.rows ≤ 1024 = s.requires.1 in
     record { few = omega arith; some = omega arith; short = omega arith; small = omega arith }
 
-pub digits-for-spec : {M : Type 1} → statement M
-digits-for-spec =
+pub digits_for_spec : {M : Type 1} → statement M
+digits_for_spec =
     tie.close
     (tie.spec
     invariant-loop
     decreases-loop
-    (λ c. search rules) (λ c. search rules)
+    (λ c. search rules)
+    (λ c. search rules)
     div-classes
     add-classes
     loop-holds
@@ -89,5 +90,8 @@ digits-for-spec =
     returns
     (λ c κs. (short c.before.before, omega arith))
     returns-2
-    (λ c. search rules) (λ c. search rules) (λ c. search rules) (λ c. search rules)
+    (λ c. search rules)
+    (λ c. search rules)
+    (λ c. search rules)
+    (λ c. search rules)
     returns-3)

@@ -5,23 +5,23 @@ use borrow.Author.Rules.{rules}
 use Rattle.value_index.proofs.plan.fewer_rows.Statement.{statement}
 use Rattle.value_index.proofs.plan.fewer_rows.Tie as tie
 
-abbrev invariant-loop : tie.invariant-loop
+abbrev invariant-loop : tie.invariant-loop-fewer
 invariant-loop rows digits classes fewer₀ fewer = (0 < fewer) × (fewer ≤ rows)
 
-abbrev decreases-loop : tie.decreases-loop
+abbrev decreases-loop : tie.decreases-loop-fewer
 decreases-loop rows digits classes fewer₀ fewer = fewer
 
 tells-requires : tie.Need-tells-requires invariant-loop decreases-loop
-tells-requires c κs = let s = c.before.before in (omega (arith, c.before.loop.invariant.1, s.requires.1.0), s.requires.1.1)
+tells-requires c κs = let s = c.before.before in (omega (arith, c.before.loop-fewer.invariant.1, s.requires.1.0), s.requires.1.1)
 
-loop-less : tie.Need-loop-smaller invariant-loop decreases-loop
-loop-less c = omega (arith, c.before.before.loop-test.true)
+loop-less : tie.Need-loop-fewer-smaller invariant-loop decreases-loop
+loop-less c = omega (arith, c.before.before.loop-fewer-test.true)
 
-loop-again : tie.Need-loop-preserved invariant-loop decreases-loop
-loop-again c = let t = c.before.before in (omega (arith, t.loop-test.true), omega (arith, t.before.loop.invariant.1))
+loop-again : tie.Need-loop-fewer-preserved invariant-loop decreases-loop
+loop-again c = let t = c.before.before in (omega (arith, t.loop-fewer-test.true), omega (arith, t.before.loop-fewer.invariant.1))
 
-pub fewer-rows-spec : {M : Type 1} → statement M
-fewer-rows-spec =
+pub fewer_rows_spec : {M : Type 1} → statement M
+fewer_rows_spec =
     tie.close
     (tie.spec
     invariant-loop
@@ -30,4 +30,5 @@ fewer-rows-spec =
     tells-requires
     loop-less
     loop-again
-    (λ c. search rules) (λ c. search rules))
+    (λ c. search rules)
+    (λ c. search rules))

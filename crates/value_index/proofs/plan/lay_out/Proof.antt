@@ -20,28 +20,28 @@ few d h = let p = mul-le-mul h.few h.short in omega (arith, p)
 scopes : {L : Lists} → SoundLists L → ScopesWithin L.starts L.variables
 scopes laid = record { rises = λ r h. scope-rises laid.framed r h; inside = λ r h. scope-within laid r h }
 
-words-of-row-requires : tie.Need-words-of-row-requires
+words-of-row-requires : tie.Need-words_of_row-words-requires
 words-of-row-requires c κs = let f = c.before.before.before.before.requires.1.framed in omega (arith, tuple-count f, tuples-few f)
 
-most-columns-requires : tie.Need-most-columns-requires
+most-columns-requires : tie.Need-most_columns-requires
 most-columns-requires c κs = scopes c.before.before.before.before.before.before.requires.1
 
-mul-size : tie.Need-overflow-mul-size
-mul-size c = let d = c.before.digits-for in omega (arith, few d.result d.ensures)
+mul-size : tie.Need-overflow_mul-size
+mul-size c = let d = c.before.digits_for-digits in omega (arith, few d.result d.ensures)
 
-mul-size-2 : tie.Need-overflow-mul-size-2
+mul-size-2 : tie.Need-overflow_mul-size-2
 mul-size-2 c =
-    let d = c.before.digits-for in
-    let p = mul-le-mul (few d.result d.ensures) c.before.before.before.before.before.before.words-of-row.ensures.1 in
+    let d = c.before.digits_for-digits in
+    let p = mul-le-mul (few d.result d.ensures) c.before.before.before.before.before.before.words_of_row-words.ensures.1 in
     omega (arith, p)
 
-lay-relations-requires : tie.Need-lay-relations-requires
+lay-relations-requires : tie.Need-lay_relations-requires
 lay-relations-requires c κs =
     let d = c.before.before in
     let w = d.before.before.before.before.before in
     let laid = w.before in
     let s = laid.before.before.before.before in
-    (numbered-full laid.lay-scopes.new.1.1.0 laid.lay-scopes.ensures w.words-of-row.result d.digits-for.result, scopes s.requires.1)
+    (numbered-full laid.lay_scopes.new.1.1.0 laid.lay_scopes.ensures w.words_of_row-words.result d.digits_for-digits.result, scopes s.requires.1)
 
 returns : tie.Need-returns
 returns c =
@@ -50,20 +50,26 @@ returns c =
     let laid = w.before in
     let s = laid.before.before.before.before in
     let f = s.requires.1.framed in
-    laid_out laid.lay-scopes.new.1.1.0 laid.lay-scopes.ensures w.words-of-row.result d.digits-for.result _ c.lay-relations.ensures.1 _ c.lay-relations.ensures.0 d.digits-for.ensures w.words-of-row.ensures.1 (omega (arith, tuple-count f, w.words-of-row.ensures.2))
+    laid_out laid.lay_scopes.new.1.1.0 laid.lay_scopes.ensures w.words_of_row-words.result d.digits_for-digits.result _ c.lay_relations.ensures.1 _ c.lay_relations.ensures.0 d.digits_for-digits.ensures w.words_of_row-words.ensures.1 (omega (arith, tuple-count f, w.words_of_row-words.ensures.2))
 
-pub lay-out-spec : {M : Type 1} → statement M
-lay-out-spec =
+pub lay_out_spec : {M : Type 1} → statement M
+lay_out_spec =
     tie.close
     (tie.spec
     (λ c κs. let s = c.before.before.before in (s.requires.0, scopes s.requires.1))
     words-of-row-requires
     (λ c κs. search rules)
     most-columns-requires
-    (λ c κs. search rules) (λ c κs. search rules) (λ c κs. search rules) (λ c. search rules)
-    (λ c. search rules) (λ c. search rules) (λ c. search rules) (λ c. search rules)
+    (λ c κs. search rules)
+    (λ c κs. search rules)
+    (λ c κs. search rules)
+    (λ c. search rules)
+    (λ c. search rules)
+    (λ c. search rules)
+    (λ c. search rules)
+    (λ c. search rules)
     mul-size
-    (λ c. let d = c.before.digits-for in omega (arith, few d.result d.ensures))
+    (λ c. let d = c.before.digits_for-digits in omega (arith, few d.result d.ensures))
     mul-size-2
     lay-relations-requires
     returns)

@@ -13,26 +13,26 @@ use Rattle.layout.proofs.variable_start.Reads as variable-start-reads
 use Rattle.layout.proofs.wide.Reads as wide-reads
 use Rattle.value_index.proofs.plan.bits_of.Reads as bits-of-reads
 
-abbrev invariant-loop : tie.invariant-loop
+abbrev invariant-loop : tie.invariant-loop-scope
 invariant-loop variables starts index₀ r₀ index r =
     (r ≤ 64) × (length index ≡ index_words)
 
-abbrev decreases-loop : tie.decreases-loop
+abbrev decreases-loop : tie.decreases-loop-scope
 decreases-loop variables starts index₀ r₀ index r = 64 - r
 
 -- the relation reached is one of 64
-below : (c : tie.Then1 invariant-loop decreases-loop) → c.before.before.loop.r < 64
-below c = omega (arith, c.if1.true, c.before.wide.ensures.0)
+below : (c : tie.In-loop-scope invariant-loop decreases-loop) → c.before.before.loop-scope.r < 64
+below c = omega (arith, c.loop-scope-test.true, c.before.wide.ensures.0)
 
 -- the scope lies within the list
-within : (c : tie.After-variable-start2 invariant-loop decreases-loop) → (c.before.variable-start.result ≤ c.variable-start2.result) × (c.variable-start2.result ≤ length c.before.before.before.before.before.before.args.variables.now)
+within : (c : tie.After-variable_start-scope_end invariant-loop decreases-loop) → (c.before.variable_start-scope.result ≤ c.variable_start-scope_end.result) × (c.variable_start-scope_end.result ≤ length c.before.before.before.before.before.before.args.variables.now)
 within c =
     let turn = c.before.before in
     let s = turn.before.before.before.before in
-    scope-within s.requires.1 turn.before.before.loop.r c.before.variable-start.result c.variable-start2.result (below turn) c.before.variable-start.ensures.0 c.variable-start2.ensures.0
+    scope-within s.requires.1 turn.before.before.loop-scope.r c.before.variable_start-scope.result c.variable_start-scope_end.result (below turn) c.before.variable_start-scope.ensures.0 c.variable_start-scope_end.ensures.0
 
 -- src/plan.rt:251:5
-loop-holds : tie.Need-loop-init invariant-loop decreases-loop
+loop-holds : tie.Need-loop-scope-init invariant-loop decreases-loop
 loop-holds c = search rules
 
 -- src/plan.rt:251:11
@@ -40,71 +40,71 @@ wide-requires : tie.Need-wide-requires invariant-loop decreases-loop
 wide-requires c κs = search rules
 
 -- src/plan.rt:252:13
-variable-start-requires : tie.Need-variable-start-requires invariant-loop decreases-loop
+variable-start-requires : tie.Need-variable_start-scope-requires invariant-loop decreases-loop
 variable-start-requires c κs = search rules
 
 -- src/plan.rt:253:48
-add-variable-start : tie.Need-overflow-add-variable-start invariant-loop decreases-loop
+add-variable-start : tie.Need-overflow_add-r invariant-loop decreases-loop
 add-variable-start c = search rules
 
 -- src/plan.rt:253:13
-variable-start-requires-2 : tie.Need-variable-start-requires-2 invariant-loop decreases-loop
+variable-start-requires-2 : tie.Need-variable_start-scope_end-requires invariant-loop decreases-loop
 variable-start-requires-2 c κs = search rules
 
 -- src/plan.rt:254:43
-mul-bits-of : tie.Need-overflow-mul-bits-of invariant-loop decreases-loop
+mul-bits-of : tie.Need-offset_bounds-variables-scope invariant-loop decreases-loop
 mul-bits-of c = search rules
 
 -- src/plan.rt:254:43
-sub-bits-of : tie.Need-overflow-sub-bits-of invariant-loop decreases-loop
+sub-bits-of : tie.Need-slice_bounds-bits_of-count invariant-loop decreases-loop
 sub-bits-of c = omega (arith, within c)
 
 -- src/plan.rt:254:43
-part-bits-of-start : tie.Need-slice-bounds-bits-of-start invariant-loop decreases-loop
+part-bits-of-start : tie.Need-slice_bounds-bits_of-start invariant-loop decreases-loop
 part-bits-of-start c = omega (arith, within c)
 
 -- src/plan.rt:254:43
-part-bits-of-end : tie.Need-slice-bounds-bits-of-end invariant-loop decreases-loop
+part-bits-of-end : tie.Need-slice_bounds-bits_of-end invariant-loop decreases-loop
 part-bits-of-end c = omega (arith, within c)
 
 -- src/plan.rt:254:35
-bits-of-requires : tie.Need-bits-of-requires invariant-loop decreases-loop
+bits-of-requires : tie.Need-bits_of-requires invariant-loop decreases-loop
 bits-of-requires c κs = search rules
 
 -- src/plan.rt:254:24
-wide-requires-2 : tie.Need-wide-requires-2 invariant-loop decreases-loop
+wide-requires-2 : tie.Need-wide-requires-in-loop-scope invariant-loop decreases-loop
 wide-requires-2 c κs = search rules
 
 -- src/plan.rt:254:15
-add-index : tie.Need-overflow-add-index invariant-loop decreases-loop
+add-index : tie.Need-overflow_add-index invariant-loop decreases-loop
 add-index c = search rules
 
 -- src/plan.rt:254:9
-mul-index : tie.Need-overflow-mul-index invariant-loop decreases-loop
+mul-index : tie.Need-offset_bounds-index-wide invariant-loop decreases-loop
 mul-index c = search rules
 
 -- src/plan.rt:254:9
-element-write-index : tie.Need-element-write-index invariant-loop decreases-loop
+element-write-index : tie.Need-bounds-index-wide invariant-loop decreases-loop
 element-write-index c = search rules
 
 -- src/plan.rt:255:9
-add_r : tie.Need-overflow-add-r invariant-loop decreases-loop
+add_r : tie.Need-overflow_add-r invariant-loop decreases-loop
 add_r c = search rules
 
 -- src/plan.rt:251:5
-loop-less : tie.Need-loop-smaller invariant-loop decreases-loop
+loop-less : tie.Need-loop-scope-smaller invariant-loop decreases-loop
 loop-less c = search rules
 
 -- src/plan.rt:251:5
-loop-again : tie.Need-loop-preserved invariant-loop decreases-loop
+loop-again : tie.Need-loop-scope-preserved invariant-loop decreases-loop
 loop-again c = search rules
 
 -- src/plan.rt:246:1
 returns : tie.Need-returns invariant-loop decreases-loop
 returns c = search rules
 
-pub lay-scopes-spec : {M : Type 1} → statement M
-lay-scopes-spec =
+pub lay_scopes_spec : {M : Type 1} → statement M
+lay_scopes_spec =
     tie.close
     (tie.spec
     invariant-loop
@@ -123,7 +123,7 @@ lay-scopes-spec =
     add-index
     mul-index
     element-write-index
-    add_r
+    (λ c. search rules)
     loop-less
     loop-again
     returns)

@@ -8,24 +8,28 @@ use Rattle.value_index.specs.Plan.{hashes}
 use Rattle.value_index.proofs.plan.tells.Statement.{statement}
 use Rattle.value_index.proofs.plan.tells.Tie as tie
 
-abbrev invariant-loop : tie.invariant-loop
+abbrev invariant-loop : tie.invariant-loop-i
 invariant-loop rows digits classes reached₀ i₀ reached i =
     (i ≤ digits) × (reached ≤ hashes)
 
-abbrev decreases-loop : tie.decreases-loop
+abbrev decreases-loop : tie.decreases-loop-i
 decreases-loop rows digits classes reached₀ i₀ reached i = digits - i
 
-mul-reached : tie.Need-overflow-mul-reached invariant-loop decreases-loop
+mul-reached : tie.Need-overflow_mul-reached invariant-loop decreases-loop
 mul-reached c =
-    let p = mul-le-mul c.before.loop.invariant.1 c.before.before.requires.0 in
+    let p = mul-le-mul c.before.loop-i.invariant.1 c.before.before.requires.0 in
     omega (arith, p)
 
-pub tells-spec : {M : Type 1} → statement M
-tells-spec =
+pub tells_spec : {M : Type 1} → statement M
+tells_spec =
     tie.close
     (tie.spec
     invariant-loop
     decreases-loop
     (λ c. search rules)
     mul-reached
-    (λ c. search rules) (λ c. search rules) (λ c. search rules) (λ c. search rules) (λ c. search rules))
+    (λ c. search rules)
+    (λ c. search rules)
+    (λ c. search rules)
+    (λ c. search rules)
+    (λ c. search rules))

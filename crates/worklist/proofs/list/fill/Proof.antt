@@ -11,18 +11,18 @@ use Rattle.model.specs.Limits.{no_support}
 use Rattle.worklist.proofs.list.fill.Statement.{statement}
 use Rattle.worklist.proofs.list.fill.Tie as tie
 
-abbrev invariant-loop : tie.invariant-loop
+abbrev invariant-loop : tie.invariant-loop-i
 invariant-loop numbers₀ n i₀ numbers i = (numbers ≡ replicate i no_support ++ drop i numbers₀) × ((length numbers ≡ length numbers₀) × (i ≤ n))
 
-abbrev decreases-loop : tie.decreases-loop
+abbrev decreases-loop : tie.decreases-loop-i
 decreases-loop numbers₀ n i₀ numbers i = n - i
 
-loop-holds : tie.Need-loop-init invariant-loop decreases-loop
+loop-holds : tie.Need-loop-i-init invariant-loop decreases-loop
 loop-holds c = (fill_none c.args.numbers.now no_support, (search rules, search rules))
 
-loop-again : tie.Need-loop-preserved invariant-loop decreases-loop
+loop-again : tie.Need-loop-i-preserved invariant-loop decreases-loop
 loop-again c =
-    let l = c.before.loop in
+    let l = c.before.loop-i in
     let entry = c.before.before.args.numbers.now in (
       ap (λ (xs : List ℕ). set xs l.i no_support) l.invariant.0 ∙ fill_more l.i no_support entry (omega arith),
       (length-set l.numbers l.i no_support ∙ l.invariant.1.0, search rules),
@@ -30,7 +30,7 @@ loop-again c =
 
 returns : tie.Need-returns invariant-loop decreases-loop
 returns c =
-    let l = c.before.loop in
+    let l = c.before.loop-i in
     let e : l.i ≡ c.before.before.args.n = omega arith in
     rw e at l.invariant.0
 
@@ -41,7 +41,10 @@ fill_spec =
     invariant-loop
     decreases-loop
     loop-holds
-    (λ c. search rules) (λ c. search rules) (λ c. search rules) (λ c. search rules)
+    (λ c. search rules)
+    (λ c. search rules)
+    (λ c. search rules)
+    (λ c. search rules)
     loop-again
-    (λ c. c.before.loop.invariant.1.0)
+    (λ c. c.before.loop-i.invariant.1.0)
     returns)

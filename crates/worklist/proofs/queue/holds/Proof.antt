@@ -13,52 +13,54 @@ use Rattle.worklist.proofs.Waiting.{part-cons}
 use Rattle.worklist.proofs.queue.holds.Statement.{statement}
 use Rattle.worklist.proofs.queue.holds.Tie as tie
 
-abbrev invariant-loop : tie.invariant-loop
+abbrev invariant-loop : tie.invariant-loop-q
 invariant-loop members base m r end q₀ q = (q ≤ end) × (elem r (take (end - q) (drop q members)) ≡ elem r (take m (drop base members)))
 
-abbrev decreases-loop : tie.decreases-loop
+abbrev decreases-loop : tie.decreases-loop-q
 decreases-loop members base m r end q₀ q = end - q
 
-loop-holds : tie.Need-loop-init invariant-loop decreases-loop
+loop-holds : tie.Need-loop-q-init invariant-loop decreases-loop
 loop-holds c = (search rules, rw add-sub_cancel_left)
 
-returns : tie.Need-returns invariant-loop decreases-loop
+returns : tie.Need-returns-then-members-q invariant-loop decreases-loop
 returns c =
     let a = c.before.before.before.before.args in
-    let l = c.before.before.before.loop in
-    let e = c.if1.true in
+    let l = c.before.before.before.loop-q in
+    let e = c.if-members-q.true in
     ap (λ (b : Bool). b || elem a.r (take (a.base + a.m - (l.q + 1)) (drop (l.q + 1) a.members.now))) (sym (eq-eqb a.r (get_or a.members.now l.q 0) (sym e)))
     ∙ sym (ap (elem a.r) (part-cons a.members.now l.q (a.base + a.m) (omega arith) (omega arith)))
     ∙ l.invariant.1
 
-loop-again : tie.Need-loop-preserved invariant-loop decreases-loop
+loop-again : tie.Need-loop-q-preserved invariant-loop decreases-loop
 loop-again c =
     let a = c.before.before.before.before.args in
-    let l = c.before.before.before.loop in
-    let d = c.if1.false in (
+    let l = c.before.before.before.loop-q in
+    let d = c.if-members-q.false in (
       search rules,
       ap (λ (b : Bool). b || elem a.r (take (a.base + a.m - (l.q + 1)) (drop (l.q + 1) a.members.now))) (sym (ne_eqb a.r (get_or a.members.now l.q 0) (λ e. d (sym e))))
           ∙ sym (ap (elem a.r) (part-cons a.members.now l.q (a.base + a.m) (omega arith) (omega arith)))
           ∙ l.invariant.1,
     )
 
-returns-2 : tie.Need-returns-2 invariant-loop decreases-loop
+returns-2 : tie.Need-returns invariant-loop decreases-loop
 returns-2 c =
     let a = c.before.before.args in
-    let l = c.before.loop in
+    let l = c.before.loop-q in
     let e : a.base + a.m - l.q ≡ 0 = omega arith in
     rw e at l.invariant.1
 
-pub holds-spec : {M : Type 1} → statement M
-holds-spec =
+pub holds_spec : {M : Type 1} → statement M
+holds_spec =
     tie.close
     (tie.spec
     invariant-loop
     decreases-loop
     (λ c. search rules)
     loop-holds
-    (λ c. search rules) (λ c. search rules)
+    (λ c. search rules)
+    (λ c. search rules)
     returns
-    (λ c. search rules) (λ c. search rules)
+    (λ c. search rules)
+    (λ c. search rules)
     loop-again
     returns-2)

@@ -18,14 +18,14 @@ use Rattle.worklist.proofs.Waiting.{Words, words_of, put-words, put-waits, wait-
 use Rattle.worklist.proofs.queue.put_others.Statement.{statement}
 use Rattle.worklist.proofs.queue.put_others.Tie as tie
 
-abbrev invariant-loop : tie.invariant-loop
+abbrev invariant-loop : tie.invariant-loop-q
 invariant-loop members base m r end queue₀ q₀ queue q =
     (base ≤ q) × (q ≤ end) × Words queue.words × WaitToo queue₀.words (others base q members r) queue.words
 
-abbrev decreases-loop : tie.decreases-loop
+abbrev decreases-loop : tie.decreases-loop-q
 decreases-loop members base m r end queue₀ q₀ queue q = end - q
 
-loop-holds : tie.Need-loop-init invariant-loop decreases-loop
+loop-holds : tie.Need-loop-q-init invariant-loop decreases-loop
 loop-holds c =
     let a = c.before.args in
     let ws = a.queue.words in
@@ -33,21 +33,21 @@ loop-holds c =
     (search rules, search rules, words_of ws (search rules) f, wait-none ws (others a.base a.base a.members.now a.r) (others-none a.base a.members.now a.r))
 
 -- the condition of a turn
-abbrev other : tie.Joined1 invariant-loop decreases-loop → Bool
+abbrev other : tie.Joined-members-q invariant-loop decreases-loop → Bool
 other c =
     let a = c.before.before.before.before.before.args in
-    not (eqb (get_or a.members.now c.before.before.before.loop.q 0) a.r)
+    not (eqb (get_or a.members.now c.before.before.before.loop-q.q 0) a.r)
 
 -- what holds of the queue after it
-abbrev Turned : tie.Joined1 invariant-loop decreases-loop → Type 0
+abbrev Turned : tie.Joined-members-q invariant-loop decreases-loop → Type 0
 Turned c =
-    let l = c.before.before.before.loop in
-    Words c.if1.queue.words × WaitToo l.queue.words (λ (h : ℕ). other c && eqb l.q h) c.if1.queue.words
+    let l = c.before.before.before.loop-q in
+    Words c.if-members-q.queue.words × WaitToo l.queue.words (λ (h : ℕ). other c && eqb l.q h) c.if-members-q.queue.words
 
-turned : (c : tie.Joined1 invariant-loop decreases-loop) → Turned c
+turned : (c : tie.Joined-members-q invariant-loop decreases-loop) → Turned c
 turned c =
     let a = c.before.before.before.before.before.args in
-    let l = c.before.before.before.loop in
+    let l = c.before.before.before.loop-q in
     let ws = l.queue.words in
     ⊎_elim
     {C = Turned c}
@@ -59,31 +59,35 @@ turned c =
     (λ w. subst (λ (vs : List ℕ). Words vs × WaitToo ws (λ (h : ℕ). other c && eqb l.q h) vs)
     (sym (ap (λ (x : Queue). x.words) w.1))
     (l.invariant.2, wait-not (eqb l.q) (other c) ws (ap not (eq-eqb (get_or a.members.now l.q 0) a.r w.0.left))))
-    c.if1.branch
+    c.if-members-q.branch-raw
 
-loop-again : tie.Need-loop-preserved invariant-loop decreases-loop
+loop-again : tie.Need-loop-q-preserved invariant-loop decreases-loop
 loop-again c =
     let a = c.before.before.before.before.before.args in
-    let l = c.before.before.before.loop in
+    let l = c.before.before.before.loop-q in
     let t = turned c in
     (search rules, search rules, t.0, wait-then _ l.queue.words _ _ _ _ l.invariant.3 t.1 (others-next a.base a.members.now a.r l.q l.invariant.0))
 
 returns : tie.Need-returns invariant-loop decreases-loop
 returns c =
     let a = c.before.before.before.args in
-    let l = c.before.loop in
+    let l = c.before.loop-q in
     let e : l.q ≡ a.base + a.m = omega arith in
     subst (λ (x : ℕ). WaitToo a.queue.words (others a.base x a.members.now a.r) l.queue.words) e l.invariant.3
 
-pub put-others-spec : {M : Type 1} → statement M
-put-others-spec =
+pub put_others_spec : {M : Type 1} → statement M
+put_others_spec =
     tie.close
     (tie.spec
     invariant-loop
     decreases-loop
     (λ c. search rules)
     loop-holds
-    (λ c. search rules) (λ c. search rules) (λ c. search rules) (λ c κs. search rules)
-    (λ c. search rules) (λ c. search rules)
+    (λ c. search rules)
+    (λ c. search rules)
+    (λ c. search rules)
+    (λ c κs. search rules)
+    (λ c. search rules)
+    (λ c. search rules)
     loop-again
     returns)
