@@ -95,9 +95,9 @@ more c =
     ⊎_elim
     {C = Reached c.if-not-passes.words}
     (λ w.
-    subst Reached (sym (w.3 ∙ w.2.ensures ∙ ap (λ (h : ℕ). cleared h l.words) (id t)))
+    subst Reached (sym (w.words-is ∙ w.clear.ensures ∙ ap (λ (h : ℕ). cleared h l.words) (id t)))
     (narrowing-more (network k) s.args.r (test k) l.invariant.1 (x t) (index t) (omega (arith, id t, few k, t.loop-g-test.true))
-    (λ p. not-both (c.before.passes.ensures p) (not-true _ w.0.taken))))
+    (λ p. not-both (c.before.passes.ensures p) (not-true _ w.if-not-passes.taken))))
     (λ w. subst Reached (sym w.1) l.invariant.1)
     c.if-not-passes.branch-raw
 
@@ -126,12 +126,12 @@ keep_passing_spec =
     (λ c.
     let j = turned c in
     let t = j.before.before in
-    let f = next_live-first j.if-not-passes.words (g t + 1) (end (known t)) (omega (arith, t.loop-g-test.taken)) in
-    omega (arith, c.next-g-in-loop-g.ensures, f.from-i, t.loop-g-test.taken))
+    let f = next_live-first j.if-not-passes.words (g t + 1) (end (known t)) (omega (arith, t.loop-g-test.true)) in
+    omega (arith, c.next-g-in-loop-g.ensures, f.from-i, t.loop-g-test.true))
     (λ c.
     let j = turned c in
     let t = j.before.before in
-    let f = next_live-first j.if-not-passes.words (g t + 1) (end (known t)) (omega (arith, t.loop-g-test.taken)) in
+    let f = next_live-first j.if-not-passes.words (g t + 1) (end (known t)) (omega (arith, t.loop-g-test.true)) in
     ((omega (arith, c.next-g-in-loop-g.ensures, f.from-i, t.before.loop-g.inv.0.0), omega (arith, c.next-g-in-loop-g.ensures, f.to_end)), more j))
     (λ c κs.
     let l = c.before.before.before in

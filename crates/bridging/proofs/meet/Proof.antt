@@ -35,7 +35,7 @@ reached-bit table row i c e o =
     o
 
 abbrev turn : tie.Else-reached-far-ne0 invariant-loop decreases-loop → tie.In-loop-i invariant-loop decreases-loop
-turn c = c.before.before.before.before.before
+turn c = c.before.before.before.before.before.before.before
 
 -- no class of this word either is in both
 loop-again : tie.Need-loop-i-preserved invariant-loop decreases-loop
@@ -43,7 +43,7 @@ loop-again c =
     let t = turn c in
     let l = t.before.loop-i in
     let a = t.before.before.args in (
-      omega (arith, t.loop-i-test.taken),
+      omega (arith, t.loop-i-test.true),
       λ d h n f. go d n f h (ℕ_discrete (d / 64) l.i),
     )
   where

@@ -107,7 +107,7 @@ loop-again c =
     let e = c.next-g-in-loop-g.ensures in (
       (omega (arith, e, f.from-i, l.inv.0.0), omega (arith, e, f.to_end)),
       reaches_more (network k) a.s a.key a.over a.factor (words k) (y t) c.next-g-in-loop-g.result
-          (subst (ReachesBelow (network k) a.s a.key a.over a.factor (words k) l.reached-1) (sym (id t)) l.inv.1)
+          (subst (ReachesBelow (network k) a.s a.key a.over a.factor (words k) l.reached) (sym (id t)) l.inv.1)
           classes.before.class_at-row.result classes.class_at-class.result classes.before.class_at-row.ensures.0 classes.class_at-class.ensures.0
           once.add.ensures second.add-in-loop-g.ensures
           (λ i h b live. not-both live (f.none_before i (omega (arith, h, id t)) (omega (arith, b, e)))),

@@ -33,8 +33,8 @@ taken_in c =
     let w = turn.before.loop-i.grown in
     let r = c.before.before.wide.result in
     ⊎_elim
-    (λ h. h.1 ∙ sym (ap (λ (b : Bool). cond (not b) (bit_or w (get_or ms r 0)) w) (ne_eqb (bit_and (get_or ms r 0) w) 0 h.0.taken)))
-    (λ h. h.1 ∙ sym (ap (λ (b : Bool). cond (not b) (bit_or w (get_or ms r 0)) w) (eq-eqb (bit_and (get_or ms r 0) w) 0 h.0.left)))
+    (λ h. h.grown-is ∙ sym (ap (λ (b : Bool). cond (not b) (bit_or w (get_or ms r 0)) w) (ne_eqb (bit_and (get_or ms r 0) w) 0 h.if-mask-grown-ne0.true)))
+    (λ h. h.grown-is ∙ sym (ap (λ (b : Bool). cond (not b) (bit_or w (get_or ms r 0)) w) (eq-eqb (bit_and (get_or ms r 0) w) 0 h.if-mask-grown-ne0.false)))
     c.if-mask-grown-ne0.branch-raw
     ∙ ap (grown ms w) c.before.before.wide.ensures.0
 
@@ -42,7 +42,7 @@ loop-holds : tie.Need-loop-i-init invariant-loop decreases-loop
 loop-holds c = (search rules, refl)
 
 element-copy-out-mask : tie.Need-bounds-masks-wide invariant-loop decreases-loop
-element-copy-out-mask c = omega (arith, exists c.before.before)
+element-copy-out-mask c = omega (arith, exists c.before.before.before)
 
 loop-again : tie.Need-loop-i-preserved invariant-loop decreases-loop
 loop-again c =

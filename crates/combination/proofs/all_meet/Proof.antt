@@ -30,7 +30,7 @@ loop-holds : tie.Need-loop-at-init invariant-loop decreases-loop
 loop-holds c = (search rules, refl)
 
 element-copy-out-if1 : tie.Need-bounds-masks-wide invariant-loop decreases-loop
-element-copy-out-if1 c = omega (arith, exists c.before.before)
+element-copy-out-if1 c = omega (arith, exists c.before.before.before)
 
 returns : tie.Need-returns-then-masks-wide-eq0 invariant-loop decreases-loop
 returns c =

@@ -37,7 +37,7 @@ element-copy-out-reached : tie.Need-bounds-masks-wide invariant-loop decreases-l
 element-copy-out-reached c =
     let some = c.before.before in
     let start = some.before.before in
-    omega (arith, member_below max_relations start.args.members.now 0 (below_all start) (not-empty some))
+    omega (arith, member_below max_relations start.args.members.now 0 (below_all start.before) (not-empty some.before))
 
 loop-holds : tie.Need-loop-reached-init invariant-loop decreases-loop
 loop-holds c =
@@ -51,7 +51,7 @@ returns-2 c =
     let start = some.before.before in
     let args = start.args in
     c.all_meet.ensures
-    ∙ connected-meets args.masks.now args.members.now start.requires (first_member args.members.now (not-empty some)) turn.loop-reached.reached turn.loop-reached.invariant (sym c.before.before.absorb-next.ensures ∙ c.before.if-next-reached.true)
+    ∙ connected-meets args.masks.now args.members.now start.requires (first_member args.members.now (not-empty some.before)) turn.loop-reached.reached turn.loop-reached.invariant (sym c.before.before.absorb-next.ensures ∙ c.before.if-next-reached.true)
 
 loop-less : tie.Need-loop-reached-smaller invariant-loop decreases-loop
 loop-less c =
@@ -77,8 +77,8 @@ connected_spec =
     (λ c. search rules)
     element-copy-out-reached
     loop-holds
-    (λ c κs. below_all c.before.before.before.before.before.before)
-    (λ c κs. below_all c.before.before.before.before.before.before.before.before)
+    (λ c κs. below_all c.before.before.before.before.before.before.before)
+    (λ c κs. below_all c.before.before.before.before.before.before.before.before.before)
     returns-2
     loop-less
     loop-again)

@@ -67,10 +67,10 @@ put_spec =
     let a = i.before.before.args in
     let l = i.before.loop-j in
     let now = passed a.numbers a.k a.x in
-    (omega (arith, i.loop-j-test.true), ⊎_elim {C = c.if-j-k.t ≡ now (l.j + 1)} (λ w. w.1 ∙ ap (λ (u : List ℕ). set u l.j a.x) l.invariant.1 ∙ passed-own a.numbers a.k a.x l.j w.0.taken) (λ w. w.1 ∙ l.invariant.1 ∙ passed-other a.numbers a.k a.x l.j w.0.left) c.if-j-k.branch-raw))
+    (omega (arith, i.loop-j-test.true), ⊎_elim {C = c.if-j-k.t ≡ now (l.j + 1)} (λ w. w.t-is ∙ ap (λ (u : List ℕ). set u l.j a.x) l.invariant.1 ∙ passed-own a.numbers a.k a.x l.j w.if-j-k.true) (λ w. w.t-is ∙ l.invariant.1 ∙ passed-other a.numbers a.k a.x l.j w.if-j-k.false) c.if-j-k.branch-raw))
     (λ c.
     let s = c.before.before in
     let a = s.args in
     let l = c.before.loop-j in
     let four : l.j ≡ 4 = omega (arith, c.loop-j-test.false, l.invariant.0) in
-    l.invariant.1 ∙ ap (passed a.numbers a.k a.x) four ∙ passed-all a.numbers a.k a.x (good_length (e_int w16) 4 a.numbers _ s.well-formed.0)))
+    l.invariant.1 ∙ ap (passed a.numbers a.k a.x) four ∙ passed-all a.numbers a.k a.x (good_length (e_int w16) 4 a.numbers _ s.well_formed.0)))

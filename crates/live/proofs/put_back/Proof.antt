@@ -30,7 +30,7 @@ loop-again c =
     let below = c.before.loop-i-test.true in (
       search rules,
       (
-        length-set l.words-1 l.i (get_or copy l.i 0) ∙ l.invariant.1.0,
+        length-set l.words l.i (get_or copy l.i 0) ∙ l.invariant.1.0,
         ap (λ (xs : List ℕ). set xs l.i (get_or copy l.i 0)) l.invariant.1.1
             ∙ ap (λ (k : ℕ). set (paste ws 0 copy l.i) k (get_or copy l.i 0)) (sym (zero-add l.i))
             ∙ paste-suc ws 0 copy l.i 0 (omega (arith, below, a.requires.1.1)) (omega (arith, below, a.requires.0, a.requires.1.0))

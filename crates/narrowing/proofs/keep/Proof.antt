@@ -26,7 +26,7 @@ module _ (w : tie.After-wide-last) where
   last = w.wide-last.result
 
   edges : Edges start.args.start start.args.end i last
-  edges = record { some = w.before.before.if-end-start.left; first = omega (arith, w.before.wide-i.ensures.0); final = omega (arith, w.wide-last.ensures.0) }
+  edges = record { some = w.before.before.if-end-start.false; first = omega (arith, w.before.wide-i.ensures.0); final = omega (arith, w.wide-last.ensures.0) }
 
   -- their words have a place in the row
   inside : start.args.first + (last + 1) ≤ length start.args.rows.now

@@ -34,16 +34,16 @@ loop-again c =
     let s = turn.before.before in
     let a = s.args in
     let inv = l.invariant in
-    let inside : l.i < length l.words-1 = omega (arith, turn.loop-i-test.true, s.requires.1.1.1, inv.1.1.0) in
+    let inside : l.i < length l.words = omega (arith, turn.loop-i-test.true, s.requires.1.1.1, inv.1.1.0) in
     let on : 64 * a.from ≤ 64 * l.i = omega (arith, inv.0) in
     let further : 64 * l.i ≤ 64 * (l.i + 1) = omega arith in (
       omega (arith, inv.0),
       (
         omega (arith, turn.loop-i-test.true),
         (
-          length-set l.words-1 l.i _ ∙ inv.1.1.0,
-          kept_on (row_bit a.rows.now a.first) (64 * a.from) (64 * l.i) (64 * (l.i + 1)) a.words.now l.words-1 _ on further inv.1.1.1
-              (kept_word (row_bit a.rows.now a.first) l.i _ l.words-1 inside
+          length-set l.words l.i _ ∙ inv.1.1.0,
+          kept_on (row_bit a.rows.now a.first) (64 * a.from) (64 * l.i) (64 * (l.i + 1)) a.words.now l.words _ on further inv.1.1.1
+              (kept_word (row_bit a.rows.now a.first) l.i _ l.words inside
               (λ j h. is_set-and (get_or l.words-1 l.i 0) _ j ∙ ap (λ (x : Bool). is_set (get_or l.words-1 l.i 0) j && x) (row-at a.rows.now a.first l.i j h))),
         ),
       ),
@@ -55,7 +55,7 @@ returns c =
     let a = s.args in
     let l = c.before.loop-i in
     let e : l.i ≡ a.to = omega (arith, c.loop-i-test.false, l.invariant.1.0) in
-    (l.invariant.1.1.0, subst (λ (n : ℕ). Kept (row_bit a.rows.now a.first) a.from n a.words.now l.words-1) e l.invariant.1.1.1)
+    (l.invariant.1.1.0, subst (λ (n : ℕ). Kept (row_bit a.rows.now a.first) a.from n a.words.now l.words) e l.invariant.1.1.1)
 
 pub keep_words_spec : {M : Type 1} → statement M
 keep_words_spec =

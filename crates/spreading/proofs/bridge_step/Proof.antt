@@ -39,13 +39,13 @@ module _ (c : tie.Else-members-b) where
   start = first.before.before.before.before
 
   a_in : first.other_from-a.result < length start.args.members.now
-  a_in = omega (arith, second.before.if-members-a.left)
+  a_in = omega (arith, second.before.if-members-a.false)
 
   b-in : second.other_from-b.result < length start.args.members.now
   b-in = omega (arith, c.if-members-b.false)
 
 abbrev chosen : tie.Else-not-is_worth → tie.Else-members-b
-chosen c = c.before.before.before.before.before.before
+chosen c = c.before.before.before.before.before
 
 bridge-requires : tie.Need-bridge-requires
 bridge-requires c κs =

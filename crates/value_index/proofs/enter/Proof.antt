@@ -35,10 +35,10 @@ module _ (c : tie.After-wide) where
 returns : tie.Need-returns
 returns c =
     let w = c.before in
-    let s = start w in
+    let s = start w.before in
     let ws = s.args.index.now in
-    let bit : place w % 64 ≡ s.args.g % 64 = omega arith in (
-      length-set ws (at w) _ ∙ s.requires.0,
+    let bit : place w.before % 64 ≡ s.args.g % 64 = omega arith in (
+      length-set ws (at w.before) _ ∙ s.requires.0,
       (
         λ k h. get_or-set_other ws (at w) k _ 0 (λ e. absurd (omega (arith, s.requires.1.0))),
         λ h.
@@ -55,9 +55,9 @@ enter_spec =
     (λ c κs. search rules)
     (λ c. omega (arith, few c))
     (λ c. omega (arith, few c))
-    (λ c. omega (arith, few c))
+    (λ c. omega (arith, few c.before))
     (λ c. search rules)
     (λ c. search rules)
-    (λ c. omega (arith, few c.before))
-    (λ c. omega (arith, few c.before))
+    (λ c. omega (arith, few c.before.before))
+    (λ c. omega (arith, few c.before.before))
     returns)

@@ -22,7 +22,7 @@ decreases-loop values at width c start first end index₀ plan g₀ p₀ index g
 
 module _ (c : tie.In-loop-g invariant-loop decreases-loop) where
   abbrev begun : tie.Else-start-eq0 invariant-loop decreases-loop
-  begun = c.before.before.before.before.before
+  begun = c.before.before.before.before
 
   abbrev start : tie.Start invariant-loop decreases-loop
   start = begun.before.before

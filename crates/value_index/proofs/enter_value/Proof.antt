@@ -60,7 +60,7 @@ module _ (c : tie.In-loop-i invariant-loop decreases-loop) where
 -- the row reached is entered
 module _ (e : tie.After-enter invariant-loop decreases-loop) where
   abbrev turn : tie.In-loop-i invariant-loop decreases-loop
-  turn = e.before.before.before.before
+  turn = e.before.before.before
 
   abbrev new : List ℕ
   new = e.enter.last.0

@@ -102,7 +102,7 @@ begin-is : (c : tie.After-wide-start invariant-loop decreases-loop) → (let a =
 begin-is c =
     let a = entry c in
     c.wide-start.ensures.0
-    ∙ ap (λ (q : ℕ). get_or a.args.pair-starts.now q 0) c.before.before.wide-2.ensures.0
+    ∙ ap (λ (q : ℕ). get_or a.args.pair_starts.now q 0) c.before.before.wide-2.ensures.0
     ∙ a.requires.1.prepared.places a.args.p (omega (arith, in_members a))
     ∙ support_start-outline (G a).lists a.args.m a.args.members.now a.args.p
 

@@ -78,18 +78,18 @@ few c = omega (arith, c.loop-r-test.true, (begun c).requires.0.choice.relations)
 
 -- the turn
 abbrev turned : tie.Else-wide-gt-MAX_COMBINATIONS invariant-loop decreases-loop → tie.In-loop-r invariant-loop decreases-loop
-turned c = c.before.before.before.before.before.before.before.before.before
+turned c = c.before.before.before.before.before.before.before.before.before.before
 
 -- those with relation r
 abbrev here : tie.After-candidates-last invariant-loop decreases-loop → List Combination
 here c =
     let turn = c.before.before.before in
-    let s = begun turn in
+    let s = begun turn.before in
     let r = turn.before.loop-r.r in
     last_extensions c.candidates-last.result (set s.args.members s.args.k r) (s.args.k + 1) (r + 1) s.args.count
 
 -- .. and those without it
-ahead : (c : tie.After-candidates-last invariant-loop decreases-loop) → let turn = c.before.before.before in let s = begun turn in let l = turn.before.loop-r in Going s.args.m (here c ++ es s (l.r + 1)) (es s s.args.from) s.args.found s.args.list.now l.n l.list-1
+ahead : (c : tie.After-candidates-last invariant-loop decreases-loop) → let turn = c.before.before.before in let s = begun turn.before in let l = turn.before.loop-r in Going s.args.m (here c ++ es s (l.r + 1)) (es s s.args.from) s.args.found s.args.list.now l.n l.list-1
 ahead c =
     let w = c.before.before in
     let turn = w.before in
@@ -101,7 +101,7 @@ ahead c =
     l.invariant.1.1
 
 -- what was added
-added : (c : tie.After-extend_by-n invariant-loop decreases-loop) → let j = c.before.before in let turn = j.before.before.before in let s = begun turn in let l = turn.before.loop-r in Adds s.args.m (here j) l.n l.list-1 c.extend_by-n.result c.extend_by-n.new.1.1.1.1.1.0
+added : (c : tie.After-extend_by-n invariant-loop decreases-loop) → let j = c.before.before in let turn = j.before.before.before in let s = begun turn.before in let l = turn.before.loop-r in Adds s.args.m (here j) l.n l.list-1 c.extend_by-n.result c.extend_by-n.new.1.1.1.1.1.0
 added c =
     let j = c.before.before in
     let turn = j.before.before.before in
@@ -114,9 +114,9 @@ loop-again c =
     let x = w.before.before.before in
     let j = x.before.before in
     let turn = j.before.before.before in
-    let s = begun turn in
+    let s = begun turn.before in
     let l = turn.before.loop-r in
-    arrived turn.before.before.before (l.r + 1) c.next_in-r-in-loop-r.result (omega (arith, l.invariant.0)) (omega (arith, turn.loop-r-test.true)) c.next_in-r-in-loop-r.ensures
+    arrived turn.before.before.before.before (l.r + 1) c.next_in-r-in-loop-r.result (omega (arith, l.invariant.0)) (omega (arith, turn.loop-r-test.true)) c.next_in-r-in-loop-r.ensures
     (going_next s.args.m (here j) (es s (l.r + 1)) (ahead j) (added x) (omega (arith, c.before.if-wide-gt-MAX_COMBINATIONS.false, w.wide-in-loop-r.ensures.0)))
 
 returns : tie.Need-returns-then-wide-gt-MAX_COMBINATIONS invariant-loop decreases-loop
@@ -125,7 +125,7 @@ returns c =
     let x = w.before.before.before in
     let j = x.before.before in
     let turn = j.before.before.before in
-    let s = begun turn in
+    let s = begun turn.before in
     going-over s.args.m (here j) (es s (turn.before.loop-r.r + 1)) (ahead j) (added x) (omega (arith, c.if-wide-gt-MAX_COMBINATIONS.true, w.wide-in-loop-r.ensures.0))
 
 returns-2 : tie.Need-returns invariant-loop decreases-loop

@@ -35,7 +35,7 @@ asked c x =
     let p = meets a.masks.now a.set in
     let e = c.before.before.wide.ensures.0 in
     ⊎_elim
-    (λ h. ap (λ (w : ℕ). is_set w x) h.1 ∙ bits-with p l.found l.s l.invariant.1 (few turn)
+    (λ h. ap (λ (w : ℕ). is_set w x) h.1 ∙ bits-with p l.found l.s l.invariant.1 (few turn.before)
     (ap (λ (i : ℕ). meets a.masks.now a.set i) (sym e) ∙ ap not (ne_eqb (bit_and (get_or a.masks.now c.before.before.wide.result 0) a.set) 0 h.0.taken)) x)
     (λ h. ap (λ (w : ℕ). is_set w x) h.1 ∙ bits-without p l.found l.s l.invariant.1
     (ap (λ (i : ℕ). meets a.masks.now a.set i) (sym e) ∙ ap not (eq-eqb (bit_and (get_or a.masks.now c.before.before.wide.result 0) a.set) 0 h.0.left)) x)
@@ -57,9 +57,9 @@ meeting_spec =
     (λ c. (search rules, λ x. is_set-nought x ∙ sym (ap (λ (b : Bool). b && meets c.args.masks.now c.args.set x) (le-ltb x 0 (omega arith)))))
     (λ c κs. search rules)
     (λ c. search rules)
-    (λ c. omega (arith, few c.before, c.wide.ensures.0))
-    (λ c. omega (arith, few c.before.before.before))
-    (λ c. few c.before.before.before)
+    (λ c. omega (arith, few c.before.before, c.wide.ensures.0))
+    (λ c. omega (arith, few c.before.before.before.before))
+    (λ c. few c.before.before.before.before)
     (λ c. search rules)
     (λ c. search rules)
     (λ c. (search rules, asked c))

@@ -40,7 +40,7 @@ loop-again c =
       search rules,
       (
         length-set l.near r w ∙ l.invariant.1.0,
-        first-set (Of a.masks.now a.count) l.near r w (omega (arith, few turn, l.invariant.1.0)) l.invariant.1.1
+        first-set (Of a.masks.now a.count) l.near r w (omega (arith, few turn.before, l.invariant.1.0)) l.invariant.1.1
             (λ s. met.meeting.ensures s ∙ ap (λ (i : ℕ). ltb s a.count && meets a.masks.now (get_or a.masks.now i 0) s) met.before.before.wide.ensures.0),
       ),
     )
@@ -54,11 +54,11 @@ neighbours_spec =
     (λ c. (search rules, (refl, λ i h. absurd (omega arith))))
     (λ c κs. search rules)
     (λ c. search rules)
-    (λ c. omega (arith, few c.before, c.wide.ensures.0))
+    (λ c. omega (arith, few c.before.before, c.wide.ensures.0))
     (λ c κs. search rules)
     (λ c κs. search rules)
     (λ c. search rules)
-    (λ c. omega (arith, few c.before.before.before.before, c.wide-in-loop-r.ensures.0))
+    (λ c. omega (arith, few c.before.before.before.before.before, c.wide-in-loop-r.ensures.0))
     (λ c. search rules)
     (λ c. search rules)
     loop-again

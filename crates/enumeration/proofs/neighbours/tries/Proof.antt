@@ -48,7 +48,7 @@ loop-holds c =
 -- the neighbours of relation s are taken in, and no other one comes before the next
 module _ (c : tie.After-next_in-s-in-loop-s invariant-loop decreases-loop) where
   abbrev turn : tie.In-loop-s invariant-loop decreases-loop
-  turn = c.before.before.before
+  turn = c.before.before.before.before
 
   abbrev next : First (is_set (begun turn).args.all) (turn.before.loop-s.s + 1) (begun turn).args.count c.next_in-s-in-loop-s.result
   next = first (begun turn) (turn.before.loop-s.s + 1) c.next_in-s-in-loop-s.result (omega (arith, turn.loop-s-test.taken)) c.next_in-s-in-loop-s.ensures
@@ -91,9 +91,9 @@ tries_spec =
     loop-holds
     (λ c κs. search rules)
     (λ c. search rules)
-    (λ c. omega (arith, few c.before, c.wide.ensures.0))
-    (λ c. omega (arith, few c.before.before))
-    (λ c κs. let t = c.before.before in (omega (arith, t.loop-s-test.true), (begun t).requires.1))
+    (λ c. omega (arith, few c.before.before, c.wide.ensures.0))
+    (λ c. omega (arith, few c.before.before.before))
+    (λ c κs. let t = c.before.before in (omega (arith, t.loop-s-test.true), (begun t.before).requires.1))
     (λ c. omega (arith, (turn c).loop-s-test.true, (next c).from-i))
     loop-again
     (λ c r e. let k = c.before.loop-s.invariant.1.1.1 r e in (k.0, λ s h l. k.1 s h (omega (arith, c.loop-s-test.false)))))

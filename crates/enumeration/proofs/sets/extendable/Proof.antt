@@ -29,7 +29,7 @@ returns : tie.Need-returns-then-sets-j-eq0 invariant-loop decreases-loop
 returns c =
     let turn = c.before.before.before in
     let s = turn.before.before in
-    sym (split turn c.before.before.if-j-k.true ∙ ap (λ (b : Bool). b && extendable (drop (turn.before.loop-j.j + 1) (take s.args.k s.args.sets.now)) s.args.r) (ap not (eq-eqb _ 0 c.if-sets-j-eq0.true)))
+    sym (split turn.before c.before.before.if-j-k.true ∙ ap (λ (b : Bool). b && extendable (drop (turn.before.loop-j.j + 1) (take s.args.k s.args.sets.now)) s.args.r) (ap not (eq-eqb _ 0 c.if-sets-j-eq0.true)))
     ∙ turn.before.loop-j.invariant
 
 loop-again : tie.Need-loop-j-preserved invariant-loop decreases-loop

@@ -28,7 +28,7 @@ loop-again c =
       omega (arith, turn.loop-i-test.true),
       (
         length-set l.columns l.i n ∙ l.invariant.1.0,
-        first-set (λ (j k : ℕ). Found a.scope-b.now a.index.now a.s (get_or a.scope-a.now j 0) k) l.columns l.i n
+        first-set (λ (j k : ℕ). Found a.scope_b.now a.index.now a.s (get_or a.scope_a.now j 0) k) l.columns l.i n
             (omega (arith, turn.loop-i-test.true, l.invariant.1.0, s.requires.1.0)) l.invariant.1.1 c.column_rows.ensures,
       ),
     )

@@ -30,10 +30,10 @@ loop-again : tie.Need-loop-i-preserved invariant-loop decreases-loop
 loop-again c =
     let turn = c.before.before.before in
     let l = turn.before.loop-i in
-    let a = (start turn).args in
+    let a = (start turn.before.before).args in
     let test = in_rows a.index.now a.rows.now a.n in
-    joins-on test a.from.now (64 * a.first) (64 * l.i) (64 * (l.i + 1)) a.to.now l.to-1 _ l.invariant
-    (joins_part test a.from.now l.i (64 * l.i) (64 * (l.i + 1)) c.in_rows.result l.to-1 l.invariant.long (few turn) (omega arith) (omega arith) (λ j h _ _. c.in_rows.ensures j h))
+    joins-on test a.from.now (64 * a.first) (64 * l.i) (64 * (l.i + 1)) a.to.now l.to _ l.invariant
+    (joins_part test a.from.now l.i (64 * l.i) (64 * (l.i + 1)) c.in_rows.result l.to l.invariant.long (few turn) (omega arith) (omega arith) (λ j h _ _. c.in_rows.ensures j h))
 
 returns : tie.Need-returns invariant-loop decreases-loop
 returns c =
@@ -49,9 +49,9 @@ gather_all_spec =
     decreases-loop
     loop-holds
     (λ c. omega (arith, few c))
-    (λ c. few c)
-    (λ c. omega (arith, few c.before))
     (λ c. few c.before)
+    (λ c. omega (arith, few c.before.before))
+    (λ c. few c.before.before.before)
     (λ c κs. let turn = c.before.before in let s = start turn in (s.requires.1.0, omega (arith, turn.loop-i-test.true, s.requires.1.1.1)))
     (λ c. omega (arith, few c.before.before.before))
     (λ c. few c.before.before.before)

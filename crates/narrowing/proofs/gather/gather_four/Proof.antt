@@ -36,10 +36,10 @@ loop-again : tie.Need-loop-i-preserved invariant-loop decreases-loop
 loop-again c =
     let turn = c.before.before.before.before.before.before in
     let l = turn.before.loop-i in
-    let a = (start turn).args in
+    let a = (start turn.before.before.before).args in
     let test = in_rows a.index.now (four a.a a.b a.c a.d) 4 in
-    joins-on test a.from.now (64 * a.first) (64 * l.i) (64 * (l.i + 1)) a.to.now l.to-1 _ l.invariant
-    (joins_part test a.from.now l.i (64 * l.i) (64 * (l.i + 1)) _ l.to-1 l.invariant.long (few turn) (omega arith) (omega arith)
+    joins-on test a.from.now (64 * a.first) (64 * l.i) (64 * (l.i + 1)) a.to.now l.to _ l.invariant
+    (joins_part test a.from.now l.i (64 * l.i) (64 * (l.i + 1)) _ l.to l.invariant.long (few turn) (omega arith) (omega arith)
     (λ j h _ _. bits-four a.index.now a.a a.b a.c a.d l.i (get_or a.from.now l.i 0) j h))
 
 returns : tie.Need-returns invariant-loop decreases-loop
@@ -56,9 +56,9 @@ gather_four_spec =
     decreases-loop
     loop-holds
     (λ c. omega (arith, few c))
-    (λ c. few c)
-    (λ c. omega (arith, few c.before))
     (λ c. few c.before)
+    (λ c. omega (arith, few c.before.before))
+    (λ c. few c.before.before.before)
     (λ c. omega (arith, within c.before.before 0 (omega arith)))
     (λ c. omega (arith, within c.before.before 0 (omega arith)))
     (λ c. within c.before.before 0 (omega arith))

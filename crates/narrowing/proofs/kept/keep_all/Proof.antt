@@ -32,7 +32,7 @@ loop-again : tie.Need-loop-i-preserved invariant-loop decreases-loop
 loop-again c =
     let turn = c.before.before in
     let l = turn.before.loop-i in
-    let a = (start turn).args in
+    let a = (start turn.before).args in
     let now = l.invariant.1.1 in
     let on : 64 * a.from ≤ 64 * l.i = omega (arith, l.invariant.0) in
     let further : 64 * l.i ≤ 64 * (l.i + 1) = omega arith in
@@ -41,7 +41,7 @@ loop-again c =
       (
         omega (arith, turn.loop-i-test.true),
         keeps_on test (64 * a.from) (64 * l.i) (64 * (l.i + 1)) l.any _ a.words.now l.words _ on further now
-            (keeps-word test l.i l.words now.long (few turn) c.in_rows-w.result c.in_rows-w.ensures),
+            (keeps-word test l.i l.words now.long (few turn.before) c.in_rows-w.result c.in_rows-w.ensures),
       ),
     )
 
@@ -60,9 +60,9 @@ keep_all_spec =
     decreases-loop
     loop-holds
     (λ c. omega (arith, few c))
-    (λ c. few c)
-    (λ c κs. let s = start c.before in (s.requires.1.0, omega (arith, c.before.loop-i-test.true, s.requires.1.1.0.1)))
-    (λ c. omega (arith, few c.before.before))
+    (λ c. few c.before)
+    (λ c κs. let s = start c.before.before in (s.requires.1.0, omega (arith, c.before.loop-i-test.true, s.requires.1.1.0.1)))
+    (λ c. omega (arith, few c.before.before.before))
     (λ c. few c.before.before)
     (λ c. omega (arith, few c.before.before))
     (λ c. omega (arith, c.before.before.loop-i-test.true))

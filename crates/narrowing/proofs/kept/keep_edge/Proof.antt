@@ -21,7 +21,7 @@ returns c =
     let x = get_or ws a.i 0 in
     let w = found.in_rows-w.result in
     let test = in_rows a.index.now a.rows.now a.n in
-    keeps-edge test a.i ws s.requires.0 (few s) a.start a.end _ w
+    keeps-edge test a.i ws s.requires.0 (few s.before) a.start a.end _ w
     (mask-stays test a.i a.start a.end x mask.result w mask.ensures found.in_rows-w.ensures)
     (mask-passing test a.i a.start a.end x mask.result w mask.ensures found.in_rows-w.ensures)
 
@@ -31,10 +31,10 @@ keep_edge_spec =
     (tie.spec
     (λ c κs. few c)
     (λ c. omega (arith, few c.before))
-    (λ c. few c.before)
+    (λ c. few c.before.before)
     (λ c κs. let s = c.before.before in (s.requires.1.0, omega (arith, s.requires.1.1.1)))
-    (λ c. omega (arith, few c.before.before.before))
-    (λ c. few c.before.before.before)
+    (λ c. omega (arith, few c.before.before.before.before))
+    (λ c. few c.before.before.before.before)
     (λ c. omega (arith, few c.before.before.before.before))
     (λ c. few c.before.before.before.before)
     returns)

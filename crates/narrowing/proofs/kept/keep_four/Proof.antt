@@ -38,7 +38,7 @@ loop-again : tie.Need-loop-i-preserved invariant-loop decreases-loop
 loop-again c =
     let turn = c.before.before.before.before.before in
     let l = turn.before.loop-i in
-    let a = (start turn).args in
+    let a = (start turn.before.before).args in
     let now = l.invariant.1.1 in
     let on : 64 * a.from ≤ 64 * l.i = omega (arith, l.invariant.0) in
     let further : 64 * l.i ≤ 64 * (l.i + 1) = omega arith in
@@ -47,7 +47,7 @@ loop-again c =
       (
         omega (arith, turn.loop-i-test.true),
         keeps_on test (64 * a.from) (64 * l.i) (64 * (l.i + 1)) l.any _ a.words.now l.words _ on further now
-            (keeps-word test l.i l.words now.long (few turn) _ (bits-four a.index.now a.a a.b a.c a.d l.i (get_or l.words l.i 0))),
+            (keeps-word test l.i l.words now.long (few turn.before.before) _ (bits-four a.index.now a.a a.b a.c a.d l.i (get_or l.words l.i 0))),
       ),
     )
 
@@ -66,9 +66,9 @@ keep_four_spec =
     decreases-loop
     loop-holds
     (λ c. omega (arith, few c))
-    (λ c. few c)
-    (λ c. omega (arith, within c.before 0 (omega arith)))
-    (λ c. omega (arith, within c.before 0 (omega arith)))
+    (λ c. few c.before)
+    (λ c. omega (arith, within c.before.before 0 (omega arith)))
+    (λ c. omega (arith, within c.before.before 0 (omega arith)))
     (λ c. within c.before 0 (omega arith))
     (λ c. omega (arith, within c.before.before 1 (omega arith)))
     (λ c. omega (arith, within c.before.before 1 (omega arith)))

@@ -31,7 +31,7 @@ returns-3 c =
     record {
       own = i;
       inside = else.if-scope_a-i.false;
-      same = ap (λ (k : ℕ). get_or a.scope-a.now k 0) e ∙ column-found a.v a.scope-a.now (subst (λ (k : ℕ). k < length a.scope-a.now) e else.if-scope_a-i.false);
+      same = ap (λ (k : ℕ). get_or a.scope_a.now k 0) e ∙ column-found a.v a.scope_a.now (subst (λ (k : ℕ). k < length a.scope_a.now) e else.if-scope_a-i.false);
       row = subst (λ (n : ℕ). ValueRow a.index.now n (get_or a.a.now i 0) first) begun.column_start.ensures row;
     })
     c.add_value.ensures

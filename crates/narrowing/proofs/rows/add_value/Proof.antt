@@ -30,7 +30,7 @@ module _ (c : tie.In-loop-i invariant-loop decreases-loop) where
   start = chosen.before.before.before
 
   some : start.args.start ≡ 0 → ⊥
-  some = chosen.before.before.if-start-eq0.left
+  some = chosen.before.before.if-start-eq0.false
 
   reached : loop.loop.i < digit_count start.args.index.now
   reached = omega (arith, c.loop-i-test.true, c.before.digit_count.ensures)
@@ -62,8 +62,8 @@ loop-again : tie.Need-loop-i-preserved invariant-loop decreases-loop
 loop-again c =
     let r = c.before in
     let t = r.before in
-    let l = (loop t).loop-i in
-    let a = (start t).args in
+    let l = (loop t.before).loop-i in
+    let a = (start t.before).args in
     let index = a.index.now in (
       omega (arith, reached t),
       (

@@ -26,10 +26,10 @@ module _ (c : tie.In-loop-k invariant-loop decreases-loop) where
   few = omega (arith, c.loop-k-test.true, start.requires.0.few)
 
 -- the row reached
-within : (c : tie.After-wide invariant-loop decreases-loop) → c.wide.result + (start c.before.before).args.i < index_words
+within : (c : tie.After-wide invariant-loop decreases-loop) → c.wide.result + (start c.before.before.before).args.i < index_words
 within c =
     let turn = c.before.before in
-    omega (arith, c.wide.ensures.0, (start turn).requires.0.inside turn.before.loop-k.k turn.loop-k-test.true, (start turn).requires.1)
+    omega (arith, c.wide.ensures.0, (start turn.before).requires.0.inside turn.before.loop-k.k turn.loop-k-test.true, (start turn.before).requires.1)
 
 loop-holds : tie.Need-loop-k-init invariant-loop decreases-loop
 loop-holds c = let a = c.args in (omega arith, bits_none a.index.now a.rows.now a.i a.word)
@@ -38,10 +38,10 @@ loop-again : tie.Need-loop-k-preserved invariant-loop decreases-loop
 loop-again c =
     let turn = c.before.before.before in
     let l = turn.before.loop-k in
-    let a = (start turn).args in (
+    let a = (start turn.before.before).args in (
       omega (arith, turn.loop-k-test.true),
-      subst (λ (first : ℕ). BitsInRows a.index.now (l.k + 1) a.rows.now a.i a.word (bit_and l.w-1 (get_or a.index.now (first + a.i) 0))) (sym c.before.wide.ensures.0)
-          (bits-more a.index.now a.rows.now a.i l.k a.word l.w-1 l.invariant.1),
+      subst (λ (first : ℕ). BitsInRows a.index.now (l.k + 1) a.rows.now a.i a.word (bit_and l.w (get_or a.index.now (first + a.i) 0))) (sym c.before.wide.ensures.0)
+          (bits-more a.index.now a.rows.now a.i l.k a.word l.w l.invariant.1),
     )
 
 returns : tie.Need-returns invariant-loop decreases-loop
@@ -49,7 +49,7 @@ returns c =
     let l = c.before.loop-k in
     let a = c.before.before.args in
     let e : l.k ≡ a.n = omega (arith, c.loop-k-test.false, l.invariant.0) in
-    subst (λ (k : ℕ). BitsInRows a.index.now k a.rows.now a.i a.word l.w-1) e l.invariant.1
+    subst (λ (k : ℕ). BitsInRows a.index.now k a.rows.now a.i a.word l.w) e l.invariant.1
 
 pub in_rows_spec : {M : Type 1} → statement M
 in_rows_spec =
@@ -59,11 +59,11 @@ in_rows_spec =
     decreases-loop
     loop-holds
     (λ c. omega (arith, few c))
-    (λ c. few c)
+    (λ c. few c.before)
     (λ c κs. search rules)
     (λ c. omega (arith, within c))
     (λ c. omega (arith, within c))
-    (λ c. within c)
+    (λ c. within c.before)
     (λ c. search rules)
     (λ c. search rules)
     loop-again

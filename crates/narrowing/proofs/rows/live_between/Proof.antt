@@ -34,15 +34,15 @@ loop-again : tie.Need-loop-i-preserved invariant-loop decreases-loop
 loop-again c =
     let turn = c.before.before in
     let l = turn.before.loop-i in
-    let a = (start turn).args in
-    (omega (arith, l.invariant.0), filled_more (a.start / 64) a.start a.end a.words.now l.i c.between.result l.alive-1 l.invariant.0 (few turn) c.between.ensures l.invariant.1)
+    let a = (start turn.before).args in
+    (omega (arith, l.invariant.0), filled_more (a.start / 64) a.start a.end a.words.now l.i c.between.result l.alive l.invariant.0 (few turn.before) c.between.ensures l.invariant.1)
 
 returns : tie.Need-returns invariant-loop decreases-loop
 returns c =
     let l = c.before.loop-i in
     let counted = c.before.before.before in
     let a = counted.before.args in
-    filled-all (a.start / 64) a.start a.end a.words.now l.i l.alive-1 (omega arith) (omega (arith, c.loop-i-test.false, counted.words_for-last.ensures)) l.invariant.1
+    filled-all (a.start / 64) a.start a.end a.words.now l.i l.alive (omega arith) (omega (arith, c.loop-i-test.false, counted.words_for-last.ensures)) l.invariant.1
 
 pub live_between_spec : {M : Type 1} → statement M
 live_between_spec =
@@ -54,9 +54,9 @@ live_between_spec =
     (λ c κs. search rules)
     loop-holds
     (λ c. omega (arith, few c))
-    (λ c. few c)
-    (λ c κs. few c.before)
-    (λ c. omega (arith, few c.before.before))
+    (λ c. few c.before)
+    (λ c κs. few c.before.before)
+    (λ c. omega (arith, few c.before.before.before))
     (λ c. few c.before.before)
     (λ c. omega (arith, few c.before.before))
     (λ c. omega (arith, c.before.before.loop-i-test.true))

@@ -10,7 +10,7 @@ use Rattle.narrowing.proofs.rows.meet.Statement.{statement}
 use Rattle.narrowing.proofs.rows.meet.Tie as tie
 
 abbrev start : tie.After-wide-a → tie.Start
-start c = c.before.before.before
+start c = c.before.before.before.before
 
 -- ---- One row
 

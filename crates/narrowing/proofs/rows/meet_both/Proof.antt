@@ -35,9 +35,9 @@ module _ (c : tie.In-loop-i invariant-loop decreases-loop) where
 loop-again : tie.Need-loop-i-preserved invariant-loop decreases-loop
 loop-again c e =
     let turn = c.before.before.before in
-    let a = (start turn).args in
+    let a = (start turn.before.before).args in
     let l = turn.before.loop-i in
-    let none = or-none l.any-1 _ e in
+    let none = or-none l.any _ e in
     apart_more a.index.now (both a.a a.b) l.i 2 a.from a.words.now
     (subst (BitsInRows a.index.now 2 (both a.a a.b) l.i (get_or a.words.now l.i 0)) none.1 (bits-both a.index.now a.a a.b l.i (get_or a.words.now l.i 0)))
     (l.invariant none.0)
@@ -45,7 +45,7 @@ loop-again c e =
 returns : tie.Need-returns invariant-loop decreases-loop
 returns c e g l h =
     let w = c.before.loop-i in
-    w.invariant (eqb-true w.any-1 0 (not-false (eqb w.any-1 0) e)) g l (omega (arith, c.loop-i-test.false))
+    w.invariant (eqb-true w.any 0 (not-false (eqb w.any 0) e)) g l (omega (arith, c.loop-i-test.false))
 
 pub meet_both_spec : {M : Type 1} → statement M
 meet_both_spec =
@@ -55,9 +55,9 @@ meet_both_spec =
     decreases-loop
     (λ c e g l h p q. omega arith)
     (λ c. omega (arith, few c))
-    (λ c. few c)
-    (λ c. omega (arith, within_a c.before))
-    (λ c. omega (arith, within_a c.before))
+    (λ c. few c.before)
+    (λ c. omega (arith, within_a c.before.before))
+    (λ c. omega (arith, within_a c.before.before))
     (λ c. within_a c.before)
     (λ c. omega (arith, within_b c.before.before))
     (λ c. omega (arith, within_b c.before.before))

@@ -86,7 +86,7 @@ none_then index rows n words start at to f s h l b = go (dec_lt h at)
 
 module _ (c : tie.After-in_rows invariant-loop decreases-loop) where
   abbrev loop : tie.At-loop-at invariant-loop decreases-loop
-  loop = c.before.before.before.before
+  loop = c.before.before.before.before.before
 
   abbrev start : tie.Start invariant-loop decreases-loop
   start = loop.before
@@ -97,7 +97,7 @@ module _ (c : tie.After-in_rows invariant-loop decreases-loop) where
       c.in_rows.ensures
 
   fits : c.in_rows.result < 2 ^ 64
-  fits = c.in_rows.type-inv
+  fits = c.in_rows.type_inv
 
   inside : loop.loop.at < start.args.end
   inside = c.before.before.before.loop-at-test.true
@@ -163,7 +163,7 @@ next_in_rows_spec =
     (λ c. (omega arith, λ h a b. absurd (omega arith)))
     (λ c κs. search rules)
     (λ c. omega (arith, c.wide-i.ensures.1))
-    (λ c. let s = c.before.before.before in omega (arith, c.wide-i.ensures.0, few s, c.before.loop-at-test.true))
+    (λ c. let s = c.before.before.before in omega (arith, c.wide-i.ensures.0, few s.before, c.before.loop-at-test.true))
     in-rows-requires
     (λ c. search rules)
     (λ c. search rules)

@@ -21,7 +21,7 @@ module _ (c : tie.In-loop-rows invariant-loop decreases-loop) where
   abbrev start : tie.Start invariant-loop decreases-loop
   start = c.before.before.before.before.before.before
 
-  below : c.before.before.loop-rows.j < length start.args.scope-b.now
+  below : c.before.before.loop-rows.j < length start.args.scope_b.now
   below = omega (arith, c.before.wide.ensures.0, c.loop-rows-test.true)
 
   few : c.before.before.loop-rows.j < 8
@@ -45,10 +45,10 @@ loop-again c =
     let a = (start turn).args in
     let added = c.add_column-n.ensures in
     let h : c.add_column-n.result ≤ 32 = omega (arith, few turn, l.invariant.0, added.few) in
-    let v = ap (λ (k : ℕ). get_or a.scope-b.now k 0) read.wide-in-loop-rows.ensures.0 in (
+    let v = ap (λ (k : ℕ). get_or a.scope_b.now k 0) read.wide-in-loop-rows.ensures.0 in (
       omega (arith, l.invariant.0, added.few),
       rows_then
-          (λ first row. record { column = l.j; inside = below turn; row = subst (λ (n : ℕ). ColumnRow a.scope-a.now a.a.now a.index.now a.s l.j n first) v row })
+          (λ first row. record { column = l.j; inside = below turn; row = subst (λ (n : ℕ). ColumnRow a.scope_a.now a.a.now a.index.now a.s l.j n first) v row })
           added h l.invariant.1,
     )
 

@@ -28,16 +28,16 @@ loop-holds c = (omega arith, record { long = c.before.requires.0; few = omega ar
 add-value-requires : tie.Need-add_value-n-requires invariant-loop decreases-loop
 add-value-requires c κs =
     let turn = c.before.before.before in
-    let p = (start turn).requires in
+    let p = (start turn.before).requires in
     let l = turn.before.loop-c in
-    (l.invariant.1.long, (p.1.0, (omega (arith, few turn, l.invariant.0), p.1.1.1 l.c turn.loop-c-test.true)))
+    (l.invariant.1.long, (p.1.0, (omega (arith, few turn.before, l.invariant.0), p.1.1.1 l.c turn.loop-c-test.true)))
 
 loop-again : tie.Need-loop-c-preserved invariant-loop decreases-loop
 loop-again c =
     let turn = c.before.before.before.before in
     let l = turn.before.loop-c in
     let added = c.add_value-n.ensures in
-    let h : c.add_value-n.result ≤ 32 = omega (arith, few turn, l.invariant.0, added.few) in
+    let h : c.add_value-n.result ≤ 32 = omega (arith, few turn.before, l.invariant.0, added.few) in
     (omega (arith, l.invariant.0, added.few), rows_then (λ first row. record { column = l.c; inside = turn.loop-c-test.true; row = row }) added h l.invariant.1)
 
 pub rows_of_spec : {M : Type 1} → statement M

@@ -16,7 +16,7 @@ abbrev decreases-loop : tie.decreases-loop-x
 decreases-loop scope-a scope-b without i₀ i = length scope-a - i
 
 -- the column reached is one
-below : (c : tie.In-loop-x invariant-loop decreases-loop) → c.before.before.loop-x.i < length c.before.before.before.before.before.args.scope-a.now
+below : (c : tie.In-loop-x invariant-loop decreases-loop) → c.before.before.loop-x.i < length c.before.before.before.before.before.args.scope_a.now
 below c = omega (arith, c.before.wide.ensures.0, c.loop-x-test.true)
 
 -- scope b has its variable
@@ -26,15 +26,15 @@ returns c =
     let k = found.before.before.before.before in
     let here = k.before in
     let a = here.before.before.before.before.before.args in
-    let v = get_or a.scope-a.now k.wide-in-loop-x.result 0 in
+    let v = get_or a.scope_a.now k.wide-in-loop-x.result 0 in
     let e = found.column_of-j.ensures in
     let l = c.if-j-scope_b.true in
     record {
       same = λ h. (
         below here,
         l,
-        ap (λ (k : ℕ). get_or a.scope-a.now k 0) (sym k.wide-in-loop-x.ensures.0)
-            ∙ sym (subst (λ (k : ℕ). get_or a.scope-b.now k 0 ≡ v) (sym e) (column-found v a.scope-b.now (subst (λ (k : ℕ). k < length a.scope-b.now) e l))),
+        ap (λ (k : ℕ). get_or a.scope_a.now k 0) (sym k.wide-in-loop-x.ensures.0)
+            ∙ sym (subst (λ (k : ℕ). get_or a.scope_b.now k 0 ≡ v) (sym e) (column-found v a.scope_b.now (subst (λ (k : ℕ). k < length a.scope_b.now) e l))),
       );
       none = λ h. absurd (omega (arith, h, below here, here.before.before.before.before.before.requires.0));
     }

@@ -35,16 +35,16 @@ shared-again c =
 loop-again : tie.Need-loop-i-preserved invariant-shared decreases-shared invariant-loop decreases-loop
 loop-again c =
     let start = c.before.before.before.before.before.before.before.before in
-    let xs = start.args.scope-a.now in
+    let xs = start.args.scope_a.now in
     let vs = start.args.a.now in
-    let ys = start.args.scope-b.now in
+    let ys = start.args.scope_b.now in
     let ws = start.args.b.now in
     let i = c.before.before.before.loop-i.i in
     let j = c.before.shared.j in
     let inv = c.before.shared.invariant in (
       omega arith,
       ⊎_elim
-          (λ w. subst (Lowest xs vs ys ws (i + 1)) (sym w.1) (lowest-passes xs vs ys ws inv.1 (clash-unshared xs vs ys ws i (λ l h. inv.2 l (omega (arith, h, w.0))))))
+          (λ w. subst (Lowest xs vs ys ws (i + 1)) (sym w.lowest-is) (lowest-passes xs vs ys ws inv.1 (clash-unshared xs vs ys ws i (λ l h. inv.2 l (omega (arith, h, w.shared-test))))))
           (⊎_elim
           (λ w. subst (Lowest xs vs ys ws (i + 1)) (sym (w.10 ∙ w.9.ensures))
           (lowest-clash xs vs ys ws inv.1 j (clash-unfitting xs vs ys ws start.requires.1 i j (omega (arith, w.0)) w.3.taken (sym w.6.ensures ∙ not-true _ w.7.taken))))
@@ -56,9 +56,9 @@ loop-again c =
 returns : tie.Need-returns invariant-shared decreases-shared invariant-loop decreases-loop
 returns c =
     let start = c.before.before.before.before.before.before in
-    let end : c.before.loop-i.i ≡ length start.args.scope-a.now = omega (arith, c.before.loop-i.invariant.0, c.loop-i-test) in
-    lowest-end start.args.scope-a.now start.args.a.now start.args.scope-b.now start.args.b.now start.requires.0 start.requires.1
-    (subst (λ (i : ℕ). Lowest start.args.scope-a.now start.args.a.now start.args.scope-b.now start.args.b.now i c.before.loop-i.lowest) end c.before.loop-i.invariant.1)
+    let end : c.before.loop-i.i ≡ length start.args.scope_a.now = omega (arith, c.before.loop-i.invariant.0, c.loop-i-test) in
+    lowest-end start.args.scope_a.now start.args.a.now start.args.scope_b.now start.args.b.now start.requires.0 start.requires.1
+    (subst (λ (i : ℕ). Lowest start.args.scope_a.now start.args.a.now start.args.scope_b.now start.args.b.now i c.before.loop-i.lowest) end c.before.loop-i.invariant.1)
 
 pub first_clash_spec : {M : Type 1} → statement M
 first_clash_spec =

@@ -36,7 +36,7 @@ classes_by_spec =
     let l = t.before.loop-j in (
       omega (arith, t.loop-j-test.true),
       ⊎_elim
-          (λ w. omega (arith, w.3.ensures, w.4, l.invariant))
+          (λ w. omega (arith, w.classes_of-n.ensures, w.4, l.invariant))
           (λ w. omega (arith, w.1, l.invariant))
           c.if-j-place.branch-raw,
     ))

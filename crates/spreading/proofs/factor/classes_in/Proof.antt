@@ -82,7 +82,7 @@ classes_in_spec =
     (λ c κs. omega (arith, c.class_at.ensures.1, c.before.before.before.loop-g.invariant.0))
     (λ c κs. let t = c.before.before.before.before.before in (t.loop-g-test.true, omega arith))
     (λ c κs. let t = c.before.before.before.before.before.before in next-asks (known t) c.later.result c.later.ensures.1)
-    (λ c. let t = turn c in omega (arith, c.next-g-in-loop-g.ensures, (ahead c).from-i, c.before.later.ensures.0, t.loop-g-test.taken))
+    (λ c. let t = turn c in omega (arith, c.next-g-in-loop-g.ensures, (ahead c).from-i, c.before.later.ensures.0, t.loop-g-test.true))
     (λ c.
     let t = turn c in
     (ap length c.before.before.before.before.set.ensures ∙ raised-length _ t.before.loop-g.seen ∙ t.before.loop-g.inv.0, (omega (arith, c.next-g-in-loop-g.ensures, (ahead c).from-i, c.before.later.ensures.0, t.before.loop-g.inv.1.0), omega (arith, c.next-g-in-loop-g.ensures, (ahead c).to_end))))

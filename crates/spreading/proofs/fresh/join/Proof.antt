@@ -28,7 +28,7 @@ loop-again c =
     let l = turn.before.loop-i in
     let a = turn.before.before.args in
     let words = a.words.now in
-    joins-on whole words 0 (64 * l.i) (64 * (l.i + 1)) a.sum.now l.sum-1 _ l.invariant
+    joins-on whole words 0 (64 * l.i) (64 * (l.i + 1)) a.sum.now l.sum _ l.invariant
     (joins_part whole words l.i (64 * l.i) (64 * (l.i + 1)) (get_or words l.i 0) l.sum-1 l.invariant.long turn.loop-i-test.true (omega arith) (omega arith) (λ j h _ _. sym (and-true (is_set (get_or words l.i 0) j))))
 
 pub join_spec : {M : Type 1} → statement M

@@ -24,8 +24,8 @@ any_row_spec =
     (tie.spec
     (λ c. search rules)
     (λ c. search rules)
-    (λ c. omega (arith, many c.before.before))
+    (λ c. omega (arith, many c.before.before.before))
     (λ c. search rules)
-    (λ c. omega (arith, fits c.before.before.before))
-    (λ c. omega (arith, fits c.before.before.before))
+    (λ c. omega (arith, fits c.before.before.before.before))
+    (λ c. omega (arith, fits c.before.before.before.before))
     (λ c. search rules))

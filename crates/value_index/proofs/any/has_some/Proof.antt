@@ -43,8 +43,8 @@ has_some_spec =
     (λ c e g l h. absurd (omega arith))
     (λ c. omega (arith, within c))
     (λ c. omega (arith, within c))
-    (λ c. within c)
-    (λ c. omega (arith, within c.before))
+    (λ c. within c.before)
+    (λ c. omega (arith, within c.before.before))
     (λ c. omega (arith, c.before.loop-i-test.true))
     loop-again
     returns)

@@ -33,7 +33,7 @@ loop-again : tie.Need-loop-i-preserved invariant-loop decreases-loop
 loop-again c =
     let turn = c.before.before in
     let l = turn.before.loop-i in
-    let s = start turn in
+    let s = start turn.before in
     let a = s.args in
     let inside : a.other + l.i < length l.index-1 = omega (arith, within-other turn, l.invariant.0) in (
       length-set l.index-1 (a.other + l.i) _ ∙ l.invariant.0,
@@ -57,9 +57,9 @@ join_row_spec =
     (λ c. (c.requires.0, (grows_none c.args.index.now, λ g u h e. absurd (omega arith))))
     (λ c. omega (arith, within-other c))
     (λ c. omega (arith, within-other c))
-    (λ c. within-other c)
-    (λ c. omega (arith, within c.before))
-    (λ c. omega (arith, within c.before))
+    (λ c. within-other c.before)
+    (λ c. omega (arith, within c.before.before))
+    (λ c. omega (arith, within c.before.before))
     (λ c. within c.before)
     (λ c. omega (arith, within-other c.before.before))
     (λ c. omega (arith, within-other c.before.before))

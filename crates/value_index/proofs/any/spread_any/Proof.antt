@@ -47,7 +47,7 @@ module _ (c : tie.Else-start-eq0 invariant-loop decreases-loop) where
   row_fits k h = omega (arith, nth-within column k h, c.before.requires.1.1)
 
 abbrev entered : tie.At-loop-k invariant-loop decreases-loop → tie.Else-start-eq0 invariant-loop decreases-loop
-entered c = c.before.before.before.before.before.before.before.before.before
+entered c = c.before.before.before.before.before.before.before.before
 
 -- ---- The row reached
 
