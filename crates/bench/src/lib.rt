@@ -1,4 +1,6 @@
 // The functions that the benchmark times, exported as they are.
+#![tactic(auto)]
+
 ghost use Rattle.std.specs.Prelude.{◌*◌, ◌≤◌, length};
 ghost use Rattle.layout.specs.Setting.{setting, Sound};
 ghost use Rattle.network.specs.Tuples.{Columns};

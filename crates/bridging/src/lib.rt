@@ -1,6 +1,8 @@
 // A relation's candidates narrowed through two others at once: a tuple stays only if a candidate of the one and a candidate of the other, each of
 // which may agree with it, may agree with each other. For each of the two a table has, by the class of a value that it shares with the first,
 // the classes of the values that it shares with the other.
+#![tactic(auto)]
+
 ghost use Rattle.std.specs.Prelude.{◌≡◌, true, ◌≤◌, ◌<◌, length};
 ghost use Rattle.model.specs.Limits.{max_relations};
 ghost use Rattle.layout.specs.Loan.{entry};

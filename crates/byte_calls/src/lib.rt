@@ -1,4 +1,6 @@
 // The calls on lists of bytes: decode what is needed, make the call, and encode what it gives and leaves.
+#![tactic(auto)]
+
 pub mod change; // the change calls
 pub mod reading; // test and compare
 

@@ -1,5 +1,7 @@
 // The listing of connected combinations on lists of bytes that are whole: decode the book, find what there is to list, and write it in front
 // of the bytes lent.
+#![tactic(auto)]
+
 ghost use Rattle.layout.specs.Shape.{network_of};
 ghost use Rattle.encoding.specs.Call.{byte_network};
 ghost use Rattle.byte_combinations.specs.Listed.{Lists};

@@ -1,4 +1,6 @@
 // The moves on lists of bytes that are whole: decode, move to an array with room for every network, and encode the values moved.
+#![tactic(auto)]
+
 ghost use Rattle.std.specs.Prelude.{◌≡◌};
 ghost use Rattle.model.specs.Moves.{widen, narrow, moved_numbers};
 ghost use Rattle.encoding.specs.Packed.{packed_pair};

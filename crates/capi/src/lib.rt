@@ -1,4 +1,6 @@
 // The calls from C: numbers and lists of bytes. include/wakhvosi.h says what each byte means.
+#![tactic(auto)]
+
 ghost use Rattle.model.specs.Request.{filter, withdraw, choose, choose_several};
 ghost use Rattle.model.specs.Moves.{widen, narrow};
 ghost use Rattle.layout.specs.Loan.{entry};

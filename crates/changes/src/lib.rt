@@ -1,5 +1,7 @@
 // The change calls: filter, withdraw, choose and choose several. Each is planned, which finds its first fault or the ids that it removes; `change`
 // does the rest for all of them.
+#![tactic(auto)]
+
 ghost use Rattle.model.specs.Request.{filter, withdraw, choose, choose_several};
 ghost use Rattle.layout.specs.Loan.{entry};
 ghost use Rattle.layout.specs.Shape.{instance_of};

@@ -1,4 +1,6 @@
 // Combinations of relations: what is wrong with those listed, whether one is connected, and how many numbers their supports need.
+#![tactic(auto)]
+
 ghost use Rattle.std.specs.Prelude.{◌≡◌, true, ℕ, ◌≤◌, ltb};
 ghost use Rattle.model.specs.Limits.{max_relations, variable_count};
 ghost use Rattle.model.specs.Lists.{all, pairwise, elem};

@@ -1,5 +1,7 @@
 // The combinations program: reads m and a book's text from standard input and writes the connected combinations of m sheets to
 // standard output, or nothing where standard input cannot be read to its end.
+#![tactic(auto)]
+
 use libc::STDIN_FILENO;
 use streams::{at_end, write};
 

@@ -1,4 +1,6 @@
 // The call that tests whether the live tuples are consistent.
+#![tactic(auto)]
+
 ghost use Rattle.std.specs.Prelude.{◌≡◌};
 ghost use Rattle.model.specs.Reply.{verdict_numbers, Tested};
 ghost use Rattle.layout.specs.Loan.{entry};

@@ -1,4 +1,6 @@
 // What the desk's programs write: a text read, its network filtered or its combinations listed, and the reply written as a text.
+#![tactic(auto)]
+
 ghost use Rattle.std.specs.Prelude.{◌≡◌, true, ◌++◌, ◌≤◌, length, take, drop};
 ghost use Rattle.std.proofs.Math.Option.{none, some};
 ghost use Rattle.model.specs.Text.{max_field, text_of, small, writable};

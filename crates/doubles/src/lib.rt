@@ -1,4 +1,6 @@
 // Doubles: tuples of a relation with the same values under a set of variables. They are found by a table of tuples, at the hash of their values.
+#![tactic(auto)]
+
 ghost use Rattle.std.specs.Prelude.{◌≡◌, ◌<◌, length};
 ghost use Rattle.layout.specs.Loan.{entry};
 ghost use Rattle.layout.specs.Setting.{lists};

@@ -1,4 +1,6 @@
 // Filtering to the largest consistent set.
+#![tactic(auto)]
+
 pub mod rest; // the rest of a pair's tuples sought together
 pub mod visit; // a visit of one pair of combination and member
 pub mod blank; // the numbers of dead tuples

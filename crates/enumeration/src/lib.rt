@@ -1,5 +1,7 @@
 // Every connected combination of a network, listed in order. Relations are chosen one after the other, and of each member chosen the
 // neighbours of all that it reaches are kept: the last member is one that every such set holds.
+#![tactic(auto)]
+
 ghost use Rattle.std.specs.Prelude.{◌≡◌, ◌+◌, ◌≤◌, length};
 ghost use Rattle.std.proofs.Math.Seq.{paste};
 ghost use Rattle.model.specs.Limits.{max_members};

@@ -1,4 +1,6 @@
 // A network's lists as they are lent: where each relation begins in them, and where its scope and its tuples lie.
+#![tactic(auto)]
+
 ghost use Rattle.std.specs.Prelude.{◌≡◌, ◌<◌, set};
 ghost use Rattle.model.specs.Limits.{max_relations};
 ghost use Rattle.model.specs.Network.{total, relation_of};

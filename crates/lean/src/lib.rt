@@ -1,5 +1,7 @@
 // Lean words: the live words without the tuples of other members that have an earlier double. Such a tuple is in no first support: with the
 // double put in its place there is an earlier one.
+#![tactic(auto)]
+
 ghost use Rattle.std.specs.Prelude.{◌<◌};
 ghost use Rattle.model.specs.Limits.{max_relations};
 ghost use Rattle.layout.specs.Loan.{entry};

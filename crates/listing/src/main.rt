@@ -1,5 +1,7 @@
 // The listing program: reads a book's text from standard input and writes its listing to standard output, or nothing where standard
 // input cannot be read to its end.
+#![tactic(auto)]
+
 use libc::STDIN_FILENO;
 use streams::{at_end, write};
 

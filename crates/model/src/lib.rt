@@ -1,4 +1,5 @@
 // The types of the interface, and the papers' numbers.
+#![tactic(auto)]
 
 pub mod refusal; // the refusal numbers
 

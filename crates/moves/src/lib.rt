@@ -1,4 +1,6 @@
 // Moves of a network between the old form, of 16-bit values, and the new one, of 32-bit values (card 9).
+#![tactic(auto)]
+
 ghost use Rattle.std.specs.Prelude.{◌≡◌, false, ◌++◌, map, ◌≤◌, length, drop};
 ghost use Rattle.model.specs.Lists.{any};
 ghost use Rattle.model.specs.Moves.{widened, narrowed, too_wide, widen, narrow, KeepsMove};

@@ -1,4 +1,6 @@
 // Forward checking by words: the live tuples narrowed by the value index, to those that may agree with a tuple.
+#![tactic(auto)]
+
 ghost use Rattle.std.specs.Prelude.{◌≡◌, ℕ, ◌+◌, ◌^◌, ◌≤◌, ◌<◌, ltb, length};
 ghost use Rattle.model.specs.Limits.{max_relations, max_tuples};
 ghost use Rattle.model.specs.LiveWords.{is_set, words_for};

@@ -1,4 +1,6 @@
 // Reads the desk's text into the lists of a network and its combinations.
+#![tactic(auto)]
+
 ghost use Rattle.std.specs.Prelude.{◌≡◌, ◌≤◌};
 ghost use Rattle.std.proofs.Math.Option.{none};
 ghost use Rattle.model.specs.Limits.{max_relations, max_members, max_combinations};

@@ -1,5 +1,7 @@
 // The calls over a list of relation records, exported for C programs with typed arrays. include/wakhvosi.h says what each
 // means there. A change call takes the records apart, works on their parts, and writes the live counts back.
+#![tactic(auto)]
+
 ghost use Rattle.std.specs.Prelude.{◌≡◌, min, ◌<◌, get_or};
 ghost use Rattle.model.specs.Limits.{max_relations};
 ghost use Rattle.model.specs.Request.{filter, withdraw, choose, choose_several};

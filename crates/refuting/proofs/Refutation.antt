@@ -20,7 +20,7 @@ use Rattle.layout.specs.Setting.{Lists, network_in, SoundLists}
 use Rattle.narrowing.specs.Narrows.{Narrowed}
 use Rattle.spreading.specs.Spread.{Members}
 use Rattle.spreading.proofs.Kept.{member_below, agree-two, differ}
-use Rattle.refuting.specs.Refuted.{Without, Left, OthersLeft, BareLeft, Unmet, Completes, RefutedWith, RefutedBoth, Alone, Taken, TakenTwo}
+use Rattle.refuting.specs.Refuted.{Without, Left, OthersLeft, BareLeft, Unmet, Completes, Refuted, RefutedWith, Alone, Taken}
 
 -- ---- Places
 
@@ -29,23 +29,12 @@ apart : (left i j : ℕ) → is_set left i ≡ true → is_set left j ≡ false 
 apart left i j h d e = not-both h (ap (is_set left) e ∙ d)
 
 -- a place that is not in the set is not in it without another
-without-out : {left j rest : ℕ} → Without left j rest → (i : ℕ) → is_set left i ≡ false → is_set rest i ≡ false
+pub without-out : {left j rest : ℕ} → Without left j rest → (i : ℕ) → is_set left i ≡ false → is_set rest i ≡ false
 without-out {left} {j} {rest} D i d = go (is_set rest i) refl
   where
     go : (b : Bool) → is_set rest i ≡ b → is_set rest i ≡ false
     go true e = absurd (not-both (D.inside i e) d)
     go false e = e
-
--- one of the members left is taken, with its tuple x
-pub taken-two : {N : Network} → {c : Combination} → {place left by w i x rest : ℕ} → Taken N c place left by w → Without left i rest → Left c left i → x < size N (get_or c i 0) → TakenTwo N c place rest by w i x
-taken-two {N} {c} {place} {left} {by} {w} {i} T D l h =
-    let not_own = without-out D place T.not_own in
-    record {
-      earlier = record { inside = T.inside; index = T.index; gone = without-out D by T.gone; not_own = not_own };
-      latest = record { inside = l.inside; index = h; gone = D.gone; not_own = not_own };
-      other = apart left i by l.in-set T.gone;
-      not-seeking = apart left i place l.in-set T.not_own;
-    }
 
 -- the members left are other relations than that of the tuple taken
 pub others-left : {L : Lists} → SoundLists L → {c : Combination} → Members (network_in L) c → {place left i x : ℕ} → Taken (network_in L) c place left i x → OthersLeft c left (get_or c i 0)
@@ -60,37 +49,22 @@ module _ (N : Network) (c : Combination) (place own : ℕ) (words : List ℕ) wh
   abbrev at : List ℕ → ℕ → ℕ
   at t j = get_or (map (index_of N) t) j 0
 
-  -- ---- With one more tuple
+  -- ---- With one tuple
 
-  module _ (left by w i x : ℕ) (inside : place < length c) (T : TakenTwo N c place left by w i x) where
-    abbrev new : Taken N c place left i x
-    new = T.latest
-
+  module _ (left i x : ℕ) (inside : place < length c) (T : Taken N c place left i x) where
     -- it clashes with the seeking tuple
-    pub with-clash : agree N (first_id N (get_or c place 0) + own) (first_id N (get_or c i 0) + x) ≡ false → RefutedBoth N c place own words left by w i x
-    with-clash clash t C d e =
-        not-both (ap₂ (agree N) (sym C.seeking) (sym e) ∙ agree-two N c C.candidate C.agrees place i inside new.inside (λ q. T.not-seeking (sym q))) clash
+    pub with-clash : agree N (first_id N (get_or c place 0) + own) (first_id N (get_or c i 0) + x) ≡ false → RefutedWith N c place own words left i x
+    with-clash clash t C e =
+        not-both (ap₂ (agree N) (sym C.seeking) (sym e) ∙ agree-two N c C.candidate C.agrees place i inside T.inside (λ q. T.other (sym q))) clash
 
-    -- it clashes with the one before
-    pub with-clash-before : agree N (first_id N (get_or c by 0) + w) (first_id N (get_or c i 0) + x) ≡ false → RefutedBoth N c place own words left by w i x
-    with-clash-before clash t C d e =
-        not-both (ap₂ (agree N) (sym d) (sym e) ∙ agree-two N c C.candidate C.agrees by i T.earlier.inside new.inside (λ q. T.other (sym q))) clash
-
-    -- no live tuple of the member at j agrees with all three
-    pub with-unmet : (j : ℕ) → Left c left j → Unmet N (get_or c i 0) x (get_or c j 0) (get_or c place 0) own (get_or c by 0) w words → RefutedBoth N c place own words left by w i x
-    with-unmet j l none t C d e =
+    -- no live tuple of the member at j agrees with both
+    pub with-unmet : (j : ℕ) → Left c left j → Unmet N (get_or c i 0) x (get_or c j 0) (get_or c place 0) own words → RefutedWith N c place own words left i x
+    with-unmet j l none t C e =
+        let is-j = candidates-id N c C.candidate j l.inside in
         none (at t j) (candidates-index N c C.candidate j l.inside)
         (ap (is_live words) is-j ∙ C.lives j l)
-        (with-j i new.inside new.gone e)
-        (with-j place inside new.not_own C.seeking)
-        (with-j by T.earlier.inside T.earlier.gone d)
-      where
-        is-j : first_id N (get_or c j 0) + at t j ≡ get_or t j 0
-        is-j = candidates-id N c C.candidate j l.inside
-
-        -- the tuple at a place that is not left agrees with it
-        with-j : (k : ℕ) → k < length c → is_set left k ≡ false → {g : ℕ} → get_or t k 0 ≡ g → agree N g (first_id N (get_or c j 0) + at t j) ≡ true
-        with-j k h gone is = ap₂ (agree N) (sym is) is-j ∙ agree-two N c C.candidate C.agrees k j h l.inside (λ q. apart left j k l.in-set gone (sym q))
+        (ap₂ (agree N) (sym e) is-j ∙ agree-two N c C.candidate C.agrees i j T.inside l.inside (λ q. apart left j i l.in-set T.gone (sym q)))
+        (ap₂ (agree N) (sym C.seeking) is-j ∙ agree-two N c C.candidate C.agrees place j inside l.inside (λ q. apart left j place l.in-set T.not_own (sym q)))
 
     module _ (fewer : List ℕ) (W : Narrowed N (first_id N (get_or c i 0) + x) words fewer) where
       -- what completes it lives in the words narrowed for it
@@ -104,62 +78,61 @@ module _ (N : Network) (c : Combination) (place own : ℕ) (words : List ℕ) wh
                 let is-j = candidates-id N c C.candidate j l.inside in
                 subst (λ (g : ℕ). is_live fewer g ≡ true) is-j
                 (W.keeps (get_or c j 0) (at t j) (candidates-index N c C.candidate j l.inside)
-                (ap₂ (agree N) (sym e) is-j ∙ agree-two N c C.candidate C.agrees i j new.inside l.inside (λ q. apart left j i l.in-set new.gone (sym q)))
+                (ap₂ (agree N) (sym e) is-j ∙ agree-two N c C.candidate C.agrees i j T.inside l.inside (λ q. apart left j i l.in-set T.gone (sym q)))
                 (ap (is_live words) is-j ∙ C.lives j l));
           }
 
-      pub with-bare : BareLeft N c left fewer → RefutedBoth N c place own words left by w i x
-      with-bare B t C d e =
+      pub with-bare : BareLeft N c left fewer → RefutedWith N c place own words left i x
+      with-bare B t C e =
           let m = C.candidate in
           let l = B.at in
           not-both (ap (is_live fewer) (candidates-id N c m B.j l.inside) ∙ (narrowed t C e).lives B.j l)
           (B.dead (at t B.j) (candidates-index N c m B.j l.inside))
 
-      pub with-refuted : RefutedWith N c place own fewer left i x → RefutedBoth N c place own words left by w i x
-      with-refuted R t C d e = R t (narrowed t C e) e
+      pub with-refuted : Refuted N c place own fewer left → RefutedWith N c place own words left i x
+      with-refuted R t C e = R t (narrowed t C e)
 
   -- ---- All tuples of a member
 
-  module _ (by w : ℕ) where
-    -- with tuple w of the member at `by`, those of the member at `best` before id g lead to nothing
-    abbrev pub Past : ℕ → ℕ → ℕ → Type 0
-    Past left best g = (t : List ℕ) → Completes N c place own words left t → get_or t by 0 ≡ first_id N (get_or c by 0) + w → g ≤ get_or t best 0
+  -- those of the member at `best` before id g lead to nothing
+  abbrev pub Past : ℕ → ℕ → ℕ → Type 0
+  Past left best g = (t : List ℕ) → Completes N c place own words left t → g ≤ get_or t best 0
 
-    module _ (left best : ℕ) (l : Left c left best) where
-      abbrev first : ℕ
-      first = first_id N (get_or c best 0)
+  module _ (left best : ℕ) (l : Left c left best) where
+    abbrev first : ℕ
+    first = first_id N (get_or c best 0)
 
-      bounds : (t : List ℕ) → Completes N c place own words left t → (first ≤ get_or t best 0) × (get_or t best 0 < first + size N (get_or c best 0))
-      bounds t C = from-mem first (size N (get_or c best 0)) (get_or t best 0) (candidates-at N c C.candidate best l.inside).1
+    bounds : (t : List ℕ) → Completes N c place own words left t → (first ≤ get_or t best 0) × (get_or t best 0 < first + size N (get_or c best 0))
+    bounds t C = from-mem first (size N (get_or c best 0)) (get_or t best 0) (candidates-at N c C.candidate best l.inside).1
 
-      pub past-none : Past left best first
-      past-none t C d = (bounds t C).0
+    pub past-none : Past left best first
+    past-none t C = (bounds t C).0
 
-      -- on to the next live one
-      pub past_next : (i end g : ℕ) → Past left best i → First (is_live words) i end g → Past left best g
-      past_next i end g P f t C d = go (dec_lt (get_or t best 0) g)
-        where
-          go : Dec (get_or t best 0 < g) → g ≤ get_or t best 0
-          go (yes h) = absurd (not-both (C.lives best l) (f.none_before (get_or t best 0) (P t C d) h))
-          go (no h) = omega arith
+    -- on to the next live one
+    pub past_next : (i end g : ℕ) → Past left best i → First (is_live words) i end g → Past left best g
+    past_next i end g P f t C = go (dec_lt (get_or t best 0) g)
+      where
+        go : Dec (get_or t best 0 < g) → g ≤ get_or t best 0
+        go (yes h) = absurd (not-both (C.lives best l) (f.none_before (get_or t best 0) (P t C) h))
+        go (no h) = omega arith
 
-      -- one more
-      pub past_one : (rest x g : ℕ) → Without left best rest → first + x ≡ g → RefutedBoth N c place own words rest by w best x → Past left best g → Past left best (g + 1)
-      past_one rest x g D is R P t C d = go (ℕ_discrete (get_or t best 0) g)
-        where
-          fewer : Completes N c place own words rest t
-          fewer = record { candidate = C.candidate; agrees = C.agrees; seeking = C.seeking; lives = λ j k. C.lives j (record { inside = k.inside; in-set = D.inside j k.in-set }) }
+    -- one more
+    pub past_one : (rest x g : ℕ) → Without left best rest → first + x ≡ g → RefutedWith N c place own words rest best x → Past left best g → Past left best (g + 1)
+    past_one rest x g D is R P t C = go (ℕ_discrete (get_or t best 0) g)
+      where
+        fewer : Completes N c place own words rest t
+        fewer = record { candidate = C.candidate; agrees = C.agrees; seeking = C.seeking; lives = λ j k. C.lives j (record { inside = k.inside; in-set = D.inside j k.in-set }) }
 
-          go : Dec (get_or t best 0 ≡ g) → g + 1 ≤ get_or t best 0
-          go (yes e) = absurd (R t fewer d (e ∙ sym is))
-          go (no n) = omega (arith, P t C d, n)
+        go : Dec (get_or t best 0 ≡ g) → g + 1 ≤ get_or t best 0
+        go (yes e) = absurd (R t fewer (e ∙ sym is))
+        go (no d) = omega (arith, P t C, d)
 
-      pub past_all : (g : ℕ) → first + size N (get_or c best 0) ≤ g → Past left best g → RefutedWith N c place own words left by w
-      past_all g h P t C d = omega (arith, (bounds t C).1, P t C d, h)
+    pub past_all : (g : ℕ) → first + size N (get_or c best 0) ≤ g → Past left best g → Refuted N c place own words left
+    past_all g h P t C = omega (arith, (bounds t C).1, P t C, h)
 
   -- ---- The seeking tuple
 
-  pub alone : (left : ℕ) → is_set left place ≡ false → RefutedWith N c place own words left place own → Alone N c place own words
+  pub alone : (left : ℕ) → is_set left place ≡ false → Refuted N c place own words left → Alone N c place own words
   alone left d R P =
       R P.tuples
       (record {
@@ -170,4 +143,3 @@ module _ (N : Network) (c : Combination) (place own : ℕ) (words : List ℕ) wh
             sym (living-has (total N) words (get_or P.tuples j 0) (ids-below N (get_or c j 0) (candidates-at N c P.candidate j l.inside).1))
             ∙ P.living j l.inside (apart left j place l.in-set d);
       })
-      P.own

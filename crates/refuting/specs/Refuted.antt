@@ -9,7 +9,6 @@ use Rattle.model.specs.Combination.{Combination}
 use Rattle.model.specs.Support.{candidates, Partners}
 use Rattle.model.specs.LiveWords.{is_set, is_live, living}
 use Rattle.layout.specs.Setting.{Lists, network_in}
-use Rattle.network.specs.Tuples.{Two}
 use Rattle.narrowing.specs.Narrows.{Long, Dead, Narrowed}
 use Rattle.spreading.specs.Spread.{Spreadable}
 
@@ -42,21 +41,10 @@ NarrowsLeft L members left r x before after found =
     Long after
     × (Narrowed (network_in L) (first_id (network_in L) r + x) before after × (found ≡ false → BareLeft (network_in L) members left after))
 
--- Tuple x of relation r, tuple y of relation q and tuple w of relation b, each beside tuple z of relation s.
-pub record AllComparable (L : Lists) (r x q y b w s z : ℕ) : Type 0 where
-  pub with-x : Two L r x s z
-  pub with-y : Two L q y s z
-  pub with-w : Two L b w s z
-
--- true where it agrees with all three
-abbrev pub ShowsAgreeing : Network → ℕ → ℕ → ℕ → ℕ → ℕ → ℕ → ℕ → ℕ → Bool → Type 0
-ShowsAgreeing N r x q y b w s z found =
-    agree N (first_id N r + x) (first_id N s + z) ≡ true → agree N (first_id N q + y) (first_id N s + z) ≡ true → agree N (first_id N b + w) (first_id N s + z) ≡ true → found ≡ true
-
--- no live tuple of relation s agrees with tuple x of relation r, with tuple y of relation q and with tuple w of relation b
-abbrev pub Unmet : Network → ℕ → ℕ → ℕ → ℕ → ℕ → ℕ → ℕ → List ℕ → Type 0
-Unmet N r x s q y b w words =
-    (z : ℕ) → z < size N s → is_live words (first_id N s + z) ≡ true → agree N (first_id N r + x) (first_id N s + z) ≡ true → agree N (first_id N q + y) (first_id N s + z) ≡ true → agree N (first_id N b + w) (first_id N s + z) ≡ true → ⊥
+-- no live tuple of relation s agrees with tuple x of relation r and with tuple y of relation q
+abbrev pub Unmet : Network → ℕ → ℕ → ℕ → ℕ → ℕ → List ℕ → Type 0
+Unmet N r x s q y words =
+    (z : ℕ) → z < size N s → is_live words (first_id N s + z) ≡ true → agree N (first_id N r + x) (first_id N s + z) ≡ true → agree N (first_id N q + y) (first_id N s + z) ≡ true → ⊥
 
 -- ---- Refutation
 
@@ -67,15 +55,14 @@ pub record Completes (N : Network) (members : Combination) (place own : ℕ) (wo
   pub seeking : get_or t place 0 ≡ first_id N (get_or members place 0) + own
   pub lives : (j : ℕ) → Left members left j → is_live words (get_or t j 0) ≡ true
 
--- there are none such with tuple w of the member at `by`
-abbrev pub RefutedWith : Network → Combination → ℕ → ℕ → List ℕ → ℕ → ℕ → ℕ → Type 0
-RefutedWith N members place own words left by w =
-    (t : List ℕ) → Completes N members place own words left t → get_or t by 0 ≡ first_id N (get_or members by 0) + w → ⊥
+-- there are none such
+abbrev pub Refuted : Network → Combination → ℕ → ℕ → List ℕ → ℕ → Type 0
+Refuted N members place own words left = (t : List ℕ) → Completes N members place own words left t → ⊥
 
--- .. and tuple x of the member at i
-abbrev pub RefutedBoth : Network → Combination → ℕ → ℕ → List ℕ → ℕ → ℕ → ℕ → ℕ → ℕ → Type 0
-RefutedBoth N members place own words left by w i x =
-    (t : List ℕ) → Completes N members place own words left t → get_or t by 0 ≡ first_id N (get_or members by 0) + w → get_or t i 0 ≡ first_id N (get_or members i 0) + x → ⊥
+-- .. with tuple x of the member at i
+abbrev pub RefutedWith : Network → Combination → ℕ → ℕ → List ℕ → ℕ → ℕ → ℕ → Type 0
+RefutedWith N members place own words left i x =
+    (t : List ℕ) → Completes N members place own words left t → get_or t i 0 ≡ first_id N (get_or members i 0) + x → ⊥
 
 -- n steps are left of so many; any but 0 only where the claim holds
 abbrev pub Shows : Type 0 → ℕ → ℕ → Type 0
@@ -91,16 +78,10 @@ Alone N members place own words = Partners N (living (total N) words) members pl
 abbrev pub Refutable : Lists → List ℕ → Combination → ℕ → ℕ → Type 0
 Refutable L index members place own = Spreadable L index members place × (own < size (network_in L) (get_or members place 0))
 
--- Tuple w of the member at `by`; neither this place nor the seeking tuple's is left.
-pub record Taken (N : Network) (members : Combination) (place left by w : ℕ) : Type 0 where
-  pub inside : by < length members
-  pub index : w < size N (get_or members by 0)
-  pub gone : is_set left by ≡ false
+-- Tuple x of the member at i, which is not the seeking tuple's; neither place is left.
+pub record Taken (N : Network) (members : Combination) (place left i x : ℕ) : Type 0 where
+  pub inside : i < length members
+  pub other : i ≡ place → ⊥
+  pub index : x < size N (get_or members i 0)
+  pub gone : is_set left i ≡ false
   pub not_own : is_set left place ≡ false
-
--- .. and after it tuple x of the member at i, which is another one, and not the seeking tuple's.
-pub record TakenTwo (N : Network) (members : Combination) (place left by w i x : ℕ) : Type 0 where
-  pub earlier : Taken N members place left by w
-  pub latest : Taken N members place left i x
-  pub other : i ≡ by → ⊥
-  pub not-seeking : i ≡ place → ⊥

@@ -1,5 +1,7 @@
 // Refutation: that a tuple has no support at all may be seen much sooner than by a search for the first one, which takes the members in their
 // order. Here the member with the fewest candidates is taken first.
+#![tactic(auto)]
+
 ghost use Rattle.std.specs.Prelude.{◌≡◌, true, false, ◌≤◌, ◌<◌, length};
 ghost use Rattle.model.specs.Limits.{max_relations};
 ghost use Rattle.model.specs.Network.{size};
@@ -8,7 +10,7 @@ ghost use Rattle.layout.specs.Loan.{entry};
 ghost use Rattle.layout.specs.Setting.{lists, network_in};
 ghost use Rattle.narrowing.specs.Narrows.{Long, Seeks};
 ghost use Rattle.spreading.specs.Spread.{Counted};
-ghost use Rattle.refuting.specs.Refuted.{Without, OthersLeft, NarrowsLeft, AllComparable, ShowsAgreeing, Unmet, RefutedWith, RefutedBoth, Shows, Alone, Refutable, Taken, TakenTwo};
+ghost use Rattle.refuting.specs.Refuted.{Without, OthersLeft, NarrowsLeft, Unmet, Refuted, RefutedWith, Shows, Alone, Refutable, Taken};
 
 use layout::{Starts, tuple_start};
 use live::{Words, next};
@@ -44,30 +46,19 @@ fn without(left: u64, j: usize) -> u64
     left & !(1u64 << j)
 }
 
-// How many live tuples the member at j has, or as many as may be if that is the place `last`; MORE if the place is not in the set.
-fn count_left(
-    starts: &Starts,
-    words: &Words,
-    members: &[u16],
-    left: u64,
-    j: usize,
-    last: usize,
-) -> u16
+// How many live tuples the member at j has; MORE if that place is not in the set.
+fn count_left(starts: &Starts, words: &Words, members: &[u16], left: u64, j: usize) -> u16
     requires { Counted starts.now words.now members.now × (j < length members.now) }
     ensures { result < 65535 → is_set left j ≡ true }
 {
     if !is_in(left, j) {
         return MORE;
     }
-    if j == last {
-        return MORE - 1;
-    }
     live_count(starts, words, members[j])
 }
 
-// Of the members' places in the set, one whose member has the fewest live tuples, and `last` only if there is no other; the number of members if
-// there is none.
-fn fewest(starts: &Starts, words: &Words, members: &[u16], left: u64, last: usize) -> usize
+// Of the members' places in the set, one whose member has the fewest live tuples; the number of members if there is none.
+fn fewest(starts: &Starts, words: &Words, members: &[u16], left: u64) -> usize
     requires { Counted starts.now words.now members.now }
     ensures { result < length members.now → is_set left result ≡ true }
 {
@@ -75,7 +66,7 @@ fn fewest(starts: &Starts, words: &Words, members: &[u16], left: u64, last: usiz
     let mut least = MORE;
     let mut j = 0;
     while j < members.len() {
-        let n = count_left(starts, words, members, left, j, last);
+        let n = count_left(starts, words, members, left, j);
         if n < least {
             best = j;
             least = n;
@@ -85,33 +76,7 @@ fn fewest(starts: &Starts, words: &Words, members: &[u16], left: u64, last: usiz
     best
 }
 
-// Whether tuple z of relation s agrees with tuple y of relation q, with tuple x of relation r and with tuple w of relation b.
-fn agrees_with_all(
-    variables: &[u16],
-    values: &[Value],
-    starts: &Starts,
-    r: u16,
-    x: u16,
-    q: u16,
-    y: u16,
-    b: u16,
-    w: u16,
-    s: u16,
-    z: u16,
-) -> bool
-    requires { AllComparable (lists (λ x. x.now) variables values starts) r x q y b w s z }
-    ensures { ShowsAgreeing (network_in (lists entry variables values starts)) r x q y b w s z result }
-{
-    if !tuples_agree(variables, values, starts, q, y, s, z) {
-        return false;
-    }
-    if !tuples_agree(variables, values, starts, r, x, s, z) {
-        return false;
-    }
-    tuples_agree(variables, values, starts, b, w, s, z)
-}
-
-// Whether some live tuple of relation s agrees with tuple x of relation r, with tuple y of relation q and with tuple w of relation b.
+// Whether some live tuple of relation s may agree with tuple x of relation r, and agrees with tuple y of relation q.
 fn meets(
     variables: &[u16],
     values: &[Value],
@@ -123,12 +88,10 @@ fn meets(
     s: u16,
     q: u16,
     y: u16,
-    b: u16,
-    w: u16,
 ) -> bool
     requires long { Long words.now × (Seeks (lists (λ x. x.now) variables values starts) index.now r x × (s < max_relations)) }
-    requires y_bound { (y < size (network_in (lists (λ x. x.now) variables values starts)) q) × (w < size (network_in (lists (λ x. x.now) variables values starts)) b) }
-    ensures { result ≡ false → Unmet (network_in (lists entry variables values starts)) r x s q y b w words.now }
+    requires y_bound { y < size (network_in (lists (λ x. x.now) variables values starts)) q }
+    ensures { result ≡ false → Unmet (network_in (lists entry variables values starts)) r x s q y words.now }
 {
     let first = tuple_start(starts, s);
     let end = tuple_start(starts, s + 1);
@@ -136,7 +99,7 @@ fn meets(
     let n = rows_for(variables, values, starts, index, r, x, s, &mut rows);
     let mut g = next_in_rows(index, &rows, n, words, first, end);
     while g < end {
-        if agrees_with_all(variables, values, starts, r, x, q, y, b, w, s, g - first) {
+        if tuples_agree(variables, values, starts, q, y, s, g - first) {
             return true;
         }
         g = next_in_rows(index, &rows, n, words, g + 1, end);
@@ -172,8 +135,8 @@ fn narrow_left(
     true
 }
 
-// Whether nothing completes the members left, with tuple w of the member at `by` and tuple x of the member at i. Of so many steps, how many are
-// left if that is shown; 0 if it is not, or if they do not suffice.
+// Whether nothing completes the members left, with tuple x of the member at i. Of so many steps, how many are left if that is shown; 0 if it is
+// not, or if they do not suffice.
 #[cycle(refuted_refuted_with)]
 fn refuted_with(
     variables: &[u16],
@@ -185,15 +148,13 @@ fn refuted_with(
     place: usize,
     own: u16,
     left: u64,
-    by: usize,
-    w: u16,
     i: usize,
     x: u16,
     steps: u32,
 ) -> u32
     requires long { Long words.now × Refutable (lists (λ x. x.now) variables values starts) index.now members.now place own }
-    requires taken_two { TakenTwo (network_in (lists (λ x. x.now) variables values starts)) members.now place left by w i x }
-    ensures { Shows (RefutedBoth (network_in (lists entry variables values starts)) members.now place own words.now left by w i x) steps result }
+    requires taken { Taken (network_in (lists (λ x. x.now) variables values starts)) members.now place left i x }
+    ensures { Shows (RefutedWith (network_in (lists entry variables values starts)) members.now place own words.now left i x) steps result }
 {
     if steps <= COST {
         return 0;
@@ -201,10 +162,6 @@ fn refuted_with(
     let r = members[i];
     let q = members[place];
     if !tuples_agree(variables, values, starts, q, own, r, x) {
-        return steps - 1;
-    }
-    let b = members[by];
-    if !tuples_agree(variables, values, starts, b, w, r, x) {
         return steps - 1;
     }
     let last = u64::trailing_zeros(left) as usize;
@@ -223,8 +180,6 @@ fn refuted_with(
             members[last],
             q,
             own,
-            b,
-            w,
         ) {
             return 0;
         }
@@ -246,15 +201,11 @@ fn refuted_with(
         place,
         own,
         left,
-        i,
-        x,
         steps - COST,
-        i,
     )
 }
 
-// Whether nothing completes the members left, with tuple w of the member at `by`, for which the words were narrowed last. Of so many steps, how
-// many are left if that is shown; 0 if it is not, or if they do not suffice.
+// Whether nothing completes the members left. Of so many steps, how many are left if that is shown; 0 if it is not, or if they do not suffice.
 #[cycle(refuted_refuted_with)]
 fn refuted(
     variables: &[u16],
@@ -266,16 +217,13 @@ fn refuted(
     place: usize,
     own: u16,
     left: u64,
-    by: usize,
-    w: u16,
     steps: u32,
-    last: usize,
 ) -> u32
     requires long { Long words.now × Refutable (lists (λ x. x.now) variables values starts) index.now members.now place own }
-    requires taken { Taken (network_in (lists (λ x. x.now) variables values starts)) members.now place left by w }
-    ensures { Shows (RefutedWith (network_in (lists entry variables values starts)) members.now place own words.now left by w) steps result }
+    requires place_value { is_set left place ≡ false }
+    ensures { Shows (Refuted (network_in (lists entry variables values starts)) members.now place own words.now left) steps result }
 {
-    let best = fewest(starts, words, members, left, last);
+    let best = fewest(starts, words, members, left);
     if members.len() <= best {
         return 0;
     }
@@ -295,8 +243,6 @@ fn refuted(
             place,
             own,
             rest,
-            by,
-            w,
             best,
             g - first,
             over,
@@ -338,9 +284,6 @@ pub fn hopeless(
         place,
         own,
         left,
-        place,
-        own,
         STEPS * tried as u32,
-        k,
     ) != 0
 }

@@ -1,5 +1,7 @@
 // Before a search: members that share no variable with the seeking tuple's relation are narrowed through the candidates of a member
 // between, where those are few. The search would try them one by one.
+#![tactic(auto)]
+
 ghost use Rattle.std.specs.Prelude.{◌≡◌, ◌≤◌, ◌<◌, length};
 ghost use Rattle.layout.specs.Loan.{entry};
 ghost use Rattle.layout.specs.Setting.{lists, network_in};

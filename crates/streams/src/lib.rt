@@ -1,5 +1,7 @@
 // Standard input and output of a program. A failed read or write is told on standard error. A program of this language has no exit
 // status of its own, so that message is the only sign.
+#![tactic(auto)]
+
 use libc::{STDERR_FILENO, STDIN_FILENO, STDOUT_FILENO};
 
 // Standard input has ended; or says why it cannot be read to its end.

@@ -1,5 +1,7 @@
 // The first support of a tuple, sought member by member with forward checking: after each choice the members still to come are narrowed to
 // the tuples that may agree with it, but for the last one, whose tuples are tried at once.
+#![tactic(auto)]
+
 ghost use Rattle.std.specs.Prelude.{◌≡◌, true, ◌+◌, ◌≤◌, ◌<◌, length};
 ghost use Rattle.model.specs.Limits.{max_relations, max_members};
 ghost use Rattle.doubles.specs.Alike.{MembersIn};

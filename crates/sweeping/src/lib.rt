@@ -1,4 +1,6 @@
 // Sweeps before the visits: tuples fall that no live tuple of a relation beside theirs, another member of a combination, agrees with.
+#![tactic(auto)]
+
 ghost use Rattle.std.specs.Prelude.{◌≡◌, false, ◌*◌, ◌≤◌, ◌<◌, length};
 ghost use Rattle.model.specs.Limits.{max_relations, max_tuples};
 ghost use Rattle.model.specs.Combination.{combinations};

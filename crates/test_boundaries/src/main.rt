@@ -1,4 +1,6 @@
 // Document 01's boundaries: the last request that passes each limit, and the first that does not.
+#![tactic(auto)]
+
 use layout::Shape;
 use model::Value;
 use request::checks::checked;

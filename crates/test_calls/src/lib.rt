@@ -1,4 +1,6 @@
 // The calls on plain lists, exported for the test driver of tests/c.
+#![tactic(auto)]
+
 use changes::{choose, choose_several, filter, withdraw};
 use enumeration::combinations;
 use layout::Shape;

@@ -1,4 +1,6 @@
 // Document 01's examples P1 to P9, and S1 of card 7, test and compare beside them, through the calls on plain lists.
+#![tactic(auto)]
+
 use changes::{choose, choose_several, filter, withdraw};
 use consistency::test;
 use layout::Shape;

@@ -1,5 +1,7 @@
 // The first supports of many tuples of one member, sought together: the choices of the other members are gone through in their order, with the
 // tuples that still seek narrowed along, and whoever is left when the last member is reached takes the support.
+#![tactic(auto)]
+
 ghost use Rattle.std.specs.Prelude.{◌≡◌, true, ℕ, ◌<◌, length};
 ghost use Rattle.model.specs.LiveWords.{is_live};
 ghost use Rattle.layout.specs.Loan.{entry};

@@ -1,6 +1,8 @@
 // Twins in a visit of a pair: a tuple with the values of an earlier one of its relation, under all variables that the other members of the
 // combination have, takes that one's first support with itself put in, or falls where that one fell. Where the other members fall apart
 // into two sides, it takes one side's part from one earlier tuple and the other's from another.
+#![tactic(auto)]
+
 ghost use Rattle.std.specs.Prelude.{◌≡◌, true, ◌+◌, ◌*◌, ◌≤◌, ◌<◌, length};
 ghost use Rattle.model.specs.Limits.{max_members, max_tuples, word_bits};
 ghost use Rattle.layout.specs.Loan.{entry};

@@ -1,6 +1,8 @@
 // The value index: rows of bits by tuple, for each column whose variable another relation has too. A value has a few digits, each of which
 // names a row; a tuple is in the rows of its values, and in every row of a column where its value is any. So the tuples whose value in a
 // column fits a value are in all of its rows, and where the digits tell all values apart, no other tuple is.
+#![tactic(auto)]
+
 ghost use Rattle.std.specs.Prelude.{◌≡◌, true, ℕ, ◌+◌, ◌-◌, ◌*◌, ◌≤◌, ◌<◌, length};
 ghost use Rattle.model.specs.Limits.{max_relations, max_width, word_bits};
 ghost use Rattle.layout.specs.Loan.{entry};

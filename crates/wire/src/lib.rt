@@ -1,4 +1,6 @@
 // Lists of 16-bit, 32-bit and 64-bit numbers as little-endian bytes.
+#![tactic(auto)]
+
 ghost use Rattle.std.specs.Prelude.{◌≡◌, ◌+◌, ◌*◌, ◌≤◌, ◌<◌, min, ◌++◌, length, take, drop};
 ghost use Rattle.wire.specs.Entries.{entry_at, bytes, bytes_of, Filled};
 

@@ -12,13 +12,14 @@ use borrow.Fn.PlainCycle.{Measures, is, falls, and}
 use borrow.Author.Tests.{not-true}
 use Rattle.model.specs.Network.{Network, size, first_id}
 use Rattle.model.specs.LiveWords.{bit, is_set, is_live, next_live}
+use Rattle.model.proofs.Bools.{not-both}
 use Rattle.model.proofs.Lists.{First}
 use Rattle.model.proofs.LiveWords.{next_live-first}
 use Rattle.layout.specs.Setting.{Lists, network_in}
 use Rattle.layout.proofs.SoundStarts.{tuple-start, tuple-end, ids-few}
 use Rattle.spreading.proofs.Kept.{member_below}
-use Rattle.refuting.specs.Refuted.{Left, Refutable, Taken, TakenTwo}
-use Rattle.refuting.proofs.Refutation.{taken-two, others-left, with-clash, with-clash-before, with-unmet, with-bare, with-refuted, Past, past-none, past_next, past_one, past_all}
+use Rattle.refuting.specs.Refuted.{Left, Refutable, Taken}
+use Rattle.refuting.proofs.Refutation.{without-out, others-left, with-clash, with-unmet, with-bare, with-refuted, Past, past-none, past_next, past_one, past_all}
 use Rattle.refuting.proofs.refuted.Reads as refuted
 use Rattle.refuting.proofs.refuted.Kinds as refuted-kinds
 use Rattle.refuting.proofs.+refuted_refuted_with.Lts-refuted as refuted-lts
@@ -38,10 +39,10 @@ use Rattle.refuting.proofs.+refuted_refuted_with.Tie.{close}
 -- ---- The measures, the invariant and the callees
 
 abbrev μ-refuted : Measures 6 refuted-kinds.ps ℕ
-μ-refuted κs a = a.1.1.1.1.1.1.1.1.1.1.1.0 * 2 + 1
+μ-refuted κs a = a.1.1.1.1.1.1.1.1.1.0 * 2 + 1
 
 abbrev μ-refuted-with : Measures 6 refuted-with-kinds.ps ℕ
-μ-refuted-with κs a = a.1.1.1.1.1.1.1.1.1.1.1.1.1.0 * 2
+μ-refuted-with κs a = a.1.1.1.1.1.1.1.1.1.1.1.0 * 2
 
 abbrev refuted-at : ℕ → In 6 refuted-kinds.ps
 refuted-at t = and 6 refuted-kinds.ps (is 6 refuted-kinds.ps μ-refuted t) refuted.Pre
@@ -67,11 +68,11 @@ abbrev lists_of : List ℕ → List ℕ → List ℕ → Lists
 lists_of variables values starts = record { variables = variables; values = values; starts = starts }
 
 abbrev invariant-loop : refuted-lts.invariant-loop-g
-invariant-loop variables values starts index words members place own left by w steps last best rest first end over₀ g₀ over g =
-    ((first ≤ g) × (g ≤ end)) × ((over ≤ steps) × Past (network_in (lists_of variables values starts)) members place own words by w left best g)
+invariant-loop variables values starts index words members place own left steps best rest first end over₀ g₀ over g =
+    ((first ≤ g) × (g ≤ end)) × ((over ≤ steps) × Past (network_in (lists_of variables values starts)) members place own words left best g)
 
 abbrev decreases-loop : refuted-lts.decreases-loop-g
-decreases-loop variables values starts index words members place own left by w steps last best rest first end over₀ g₀ over g = end - g
+decreases-loop variables values starts index words members place own left steps best rest first end over₀ g₀ over g = end - g
 
 -- ---- refuted
 
@@ -85,9 +86,6 @@ module _ (t : ℕ) where
 
     abbrev asked : Refutable given s.args.index.now s.args.members.now s.args.place s.args.own
     asked = s.requires.1.0.1
-
-    abbrev narrowed-by : Taken (network_in given) s.args.members.now s.args.place s.args.left s.args.by s.args.w
-    narrowed-by = s.requires.1.1
 
     below : (j : ℕ) → j < length s.args.members.now → get_or s.args.members.now j 0 < 64
     below = member_below asked.0.0.0.laid asked.0.0.1
@@ -141,7 +139,7 @@ module _ (t : ℕ) where
 
     -- those before id g lead to nothing
     abbrev Passed : ℕ → Type 0
-    Passed = Past net start.args.members.now start.args.place start.args.own start.args.words.now start.args.by start.args.w start.args.left (best chosen)
+    Passed = Past net start.args.members.now start.args.place start.args.own start.args.words.now start.args.left (best chosen)
 
   abbrev read : refuted-lts.At-loop-g (refuted-callees t) (refuted-at t) refuted.Post invariant-loop decreases-loop → refuted-lts.After-tuple_start-end (refuted-callees t) (refuted-at t) refuted.Post invariant-loop decreases-loop
   read l = l.before.before.before
@@ -154,8 +152,8 @@ module _ (t : ℕ) where
         (f.from-i, f.to_end),
         (
           omega arith,
-          past_next (net b) s.args.members.now s.args.place s.args.own s.args.words.now s.args.by s.args.w s.args.left (best (chosen b)) (at (chosen b)) b.before.before.tuple_start-first.result b.tuple_start-end.result c.next-g.result
-              (subst (Passed b) (sym (first-is b)) (past-none (net b) s.args.members.now s.args.place s.args.own s.args.words.now s.args.by s.args.w s.args.left (best (chosen b)) (at (chosen b)))) f,
+          past_next (net b) s.args.members.now s.args.place s.args.own s.args.words.now s.args.left (best (chosen b)) (at (chosen b)) b.before.before.tuple_start-first.result b.tuple_start-end.result c.next-g.result
+              (subst (Passed b) (sym (first-is b)) (past-none (net b) s.args.members.now s.args.place s.args.own s.args.words.now s.args.left (best (chosen b)) (at (chosen b)))) f,
         ),
       )
 
@@ -167,10 +165,17 @@ module _ (t : ℕ) where
     is-g = omega (arith, first-is (read l.before), l.before.loop-g.inv.0.0)
 
     -- the tuple reached
-    taken : let b = read l.before in TakenTwo (net b) (start b).args.members.now (start b).args.place b.before.before.before.before.without-rest.result (start b).args.by (start b).args.w (best (chosen b)) x
+    taken : let b = read l.before in Taken (net b) (start b).args.members.now (start b).args.place b.before.before.before.before.without-rest.result (best (chosen b)) x
     taken =
         let b = read l.before in
-        taken-two (narrowed-by (start b)) b.before.before.before.before.without-rest.ensures (at (chosen b)) (omega (arith, is-g, end_is b, l.loop-g-test.taken))
+        let D = b.before.before.before.before.without-rest.ensures in
+        record {
+          inside = inside (chosen b);
+          other = λ e. not-both (at (chosen b)).in-set (ap (is_set (start b).args.left) e ∙ (start b).requires.1.1);
+          index = omega (arith, is-g, end_is b, l.loop-g-test.taken);
+          gone = D.gone;
+          not_own = without-out D (start b).args.place (start b).requires.1.1;
+        }
 
   refuted-refuted-with-requires : refuted-lts.Need-refuted_with-over-requires (refuted-callees t) (refuted-at t) refuted.Post invariant-loop decreases-loop
   refuted-refuted-with-requires c κs =
@@ -188,8 +193,8 @@ module _ (t : ℕ) where
         (omega (arith, f.from-i, i.0.0), f.to_end),
         (
           omega (arith, e.before.refuted_with-over.ensures.0, i.1.0),
-          past_next (net b) s.args.members.now s.args.place s.args.own s.args.words.now s.args.by s.args.w s.args.left (best (chosen b)) (at (chosen b)) (l.before.loop-g.g + 1) b.tuple_start-end.result c.next-g-in-loop-g.result
-              (past_one (net b) s.args.members.now s.args.place s.args.own s.args.words.now s.args.by s.args.w s.args.left (best (chosen b)) (at (chosen b)) b.before.before.before.before.without-rest.result (x l) l.before.loop-g.g b.before.before.before.before.without-rest.ensures (is-g l)
+          past_next (net b) s.args.members.now s.args.place s.args.own s.args.words.now s.args.left (best (chosen b)) (at (chosen b)) (l.before.loop-g.g + 1) b.tuple_start-end.result c.next-g-in-loop-g.result
+              (past_one (net b) s.args.members.now s.args.place s.args.own s.args.words.now s.args.left (best (chosen b)) (at (chosen b)) b.before.before.before.before.without-rest.result (x l) l.before.loop-g.g b.before.before.before.before.without-rest.ensures (is-g l)
               (e.before.refuted_with-over.ensures.1 e.if-over-eq0.false) i.1.1) f,
         ),
       )
@@ -200,7 +205,7 @@ module _ (t : ℕ) where
       let b = read l in
       let s = start b in (
         l.loop-g.invariant.1.0,
-        λ d. past_all (net b) s.args.members.now s.args.place s.args.own s.args.words.now s.args.by s.args.w s.args.left (best (chosen b)) (at (chosen b)) l.loop-g.g (omega (arith, c.loop-g-test.false, end_is b)) l.loop-g.invariant.1.1,
+        λ d. past_all (net b) s.args.members.now s.args.place s.args.own s.args.words.now s.args.left (best (chosen b)) (at (chosen b)) l.loop-g.g (omega (arith, c.loop-g-test.false, end_is b)) l.loop-g.invariant.1.1,
       )
 
 -- ---- refuted_with
@@ -219,7 +224,7 @@ module _ (t : ℕ) where
     abbrev ready : Refutable laid s.args.index.now s.args.members.now s.args.place s.args.own
     ready = s.requires.1.0.1
 
-    abbrev tried : TakenTwo network s.args.members.now s.args.place s.args.left s.args.by s.args.w s.args.i s.args.x
+    abbrev tried : Taken network s.args.members.now s.args.place s.args.left s.args.i s.args.x
     tried = s.requires.1.1
 
     members-few : length s.args.members.now ≤ 4
@@ -232,14 +237,10 @@ module _ (t : ℕ) where
   enough : (c : refuted-with-lts.After-tuples_agree (refuted-with-callees t) (refuted-with-at t) refuted-with.Post) → 4 < (begun c).args.steps
   enough c = omega (arith, c.before.before.before.if-members-best.false)
 
-  -- the comparison with the seeking tuple, before that with the tuple taken earlier
-  abbrev compared : refuted-with-lts.After-tuples_agree-2 (refuted-with-callees t) (refuted-with-at t) refuted-with.Post → refuted-with-lts.After-tuples_agree (refuted-with-callees t) (refuted-with-at t) refuted-with.Post
-  compared c = c.before.before.before
-
   -- the last member left
   module _ (c : refuted-with-lts.Then-left-last-eq1 (refuted-with-callees t) (refuted-with-at t) refuted-with.Post) where
     abbrev before_last : Begun
-    before_last = begun (compared c.before.before.before)
+    before_last = begun c.before.before.before
 
     abbrev last : ℕ
     last = count_trailing_zeros 64 before_last.args.left
@@ -252,22 +253,22 @@ module _ (t : ℕ) where
   refuted-with-meets-requires c κs =
       let l = c.before in
       let s = before_last l in
-      ((s.requires.1.0.0, (record { laid = (ready s).0.0.0.laid; indexed = (ready s).0.0.0.indexed; own = (tried s).latest.index }, member_below (ready s).0.0.0.laid (ready s).0.0.1 (last l) (last-left l).inside)), ((ready s).1, (tried s).earlier.index))
+      ((s.requires.1.0.0, (record { laid = (ready s).0.0.0.laid; indexed = (ready s).0.0.0.indexed; own = (tried s).index }, member_below (ready s).0.0.0.laid (ready s).0.0.1 (last l) (last-left l).inside)), (ready s).1)
 
-  refuted-with-returns-6 : refuted-with-lts.Need-returns-then-left-last-eq1 (refuted-with-callees t) (refuted-with-at t) refuted-with.Post
-  refuted-with-returns-6 c =
+  refuted-with-returns-5 : refuted-with-lts.Need-returns-then-left-last-eq1 (refuted-with-callees t) (refuted-with-at t) refuted-with.Post
+  refuted-with-returns-5 c =
       let l = c.before.before.before in
       let s = before_last l in
-      (omega arith, λ d. with-unmet (network s) s.args.members.now s.args.place s.args.own s.args.words.now s.args.left s.args.by s.args.w s.args.i s.args.x (ready s).0.1 (tried s) (last l) (last-left l) (c.before.meets.ensures c.if-meets.false))
+      (omega arith, λ d. with-unmet (network s) s.args.members.now s.args.place s.args.own s.args.words.now s.args.left s.args.i s.args.x (ready s).0.1 (tried s) (last l) (last-left l) (c.before.meets.ensures c.if-meets.false))
 
   -- .. or more than one
   abbrev several : refuted-with-lts.Else-left-last-eq1 (refuted-with-callees t) (refuted-with-at t) refuted-with.Post → Begun
-  several e = begun (compared e.before.before.before)
+  several e = begun e.before.before.before
 
   refuted-with-narrow-left-requires : refuted-with-lts.Need-narrow_left-requires (refuted-with-callees t) (refuted-with-at t) refuted-with.Post
   refuted-with-narrow-left-requires c κs =
       let s = several c.before.before in
-      (s.requires.1.0.0, (record { laid = (ready s).0.0.0.laid; indexed = (ready s).0.0.0.indexed; own = (tried s).latest.index }, (others-left (ready s).0.0.0.laid (ready s).0.0.1 (tried s).latest, omega (arith, members-few s))))
+      (s.requires.1.0.0, (record { laid = (ready s).0.0.0.laid; indexed = (ready s).0.0.0.indexed; own = (tried s).index }, (others-left (ready s).0.0.0.laid (ready s).0.0.1 (tried s), omega (arith, members-few s))))
 
   module _ (n : refuted-with-lts.After-narrow_left (refuted-with-callees t) (refuted-with-at t) refuted-with.Post) where
     abbrev narrowing : Begun
@@ -276,23 +277,23 @@ module _ (t : ℕ) where
     abbrev fewer : List ℕ
     fewer = n.narrow_left.last.1.1.1.1.0
 
-  refuted-with-returns-7 : refuted-with-lts.Need-returns-then-not-narrow_left (refuted-with-callees t) (refuted-with-at t) refuted-with.Post
-  refuted-with-returns-7 c =
+  refuted-with-returns-6 : refuted-with-lts.Need-returns-then-not-narrow_left (refuted-with-callees t) (refuted-with-at t) refuted-with.Post
+  refuted-with-returns-6 c =
       let n = c.before in
       let s = narrowing n in
-      (omega arith, λ d. with-bare (network s) s.args.members.now s.args.place s.args.own s.args.words.now s.args.left s.args.by s.args.w s.args.i s.args.x (ready s).0.1 (tried s) (fewer n) n.narrow_left.ensures.1.0 (n.narrow_left.ensures.1.1 (not-true _ c.if-not-narrow_left.true-raw)))
+      (omega arith, λ d. with-bare (network s) s.args.members.now s.args.place s.args.own s.args.words.now s.args.left s.args.i s.args.x (ready s).0.1 (tried s) (fewer n) n.narrow_left.ensures.1.0 (n.narrow_left.ensures.1.1 (not-true _ c.if-not-narrow_left.true-raw)))
 
   refuted-with-refuted-requires : refuted-with-lts.Need-refuted-requires (refuted-with-callees t) (refuted-with-at t) refuted-with.Post
   refuted-with-refuted-requires c κs =
       let n = c.before.before in
       let s = narrowing n in
-      (omega (arith, s.requires.0, enough (compared n.before.before.before.before.before.before)), ((n.narrow_left.ensures.0, ready s), (tried s).latest))
+      (omega (arith, s.requires.0, enough n.before.before.before.before.before.before), ((n.narrow_left.ensures.0, ready s), (tried s).not_own))
 
-  refuted-with-returns-8 : refuted-with-lts.Need-returns (refuted-with-callees t) (refuted-with-at t) refuted-with.Post
-  refuted-with-returns-8 c =
+  refuted-with-returns-7 : refuted-with-lts.Need-returns (refuted-with-callees t) (refuted-with-at t) refuted-with.Post
+  refuted-with-returns-7 c =
       let n = c.before.before.before in
       let s = narrowing n in
-      (omega (arith, c.refuted.ensures.0), λ d. with-refuted (network s) s.args.members.now s.args.place s.args.own s.args.words.now s.args.left s.args.by s.args.w s.args.i s.args.x (ready s).0.1 (tried s) (fewer n) n.narrow_left.ensures.1.0 (c.refuted.ensures.1 d))
+      (omega (arith, c.refuted.ensures.0), λ d. with-refuted (network s) s.args.members.now s.args.place s.args.own s.args.words.now s.args.left s.args.i s.args.x (ready s).0.1 (tried s) (fewer n) n.narrow_left.ensures.1.0 (c.refuted.ensures.1 d))
 
 pub +refuted_refuted_with_spec : {M : Type 1} → statement M
 +refuted_refuted_with_spec =
@@ -323,34 +324,27 @@ pub +refuted_refuted_with_spec : {M : Type 1} → statement M
     (refuted-returns-3 t))
     λ t. refuted-with-lts.spec (refuted-with-callees t) (refuted-with-at t) refuted-with.Post
     (λ c. (omega arith, λ d. absurd (d refl)))
-    (λ c. let s = c.before.before.before.before in omega (arith, members-few t s, (tried t s).latest.inside))
-    (λ c. (tried t c.before.before.before.before.before).latest.inside)
+    (λ c. let s = c.before.before.before.before in omega (arith, members-few t s, (tried t s).inside))
+    (λ c. (tried t c.before.before.before.before.before).inside)
     (λ c. let s = c.before.before.before.before.before in omega (arith, members-few t s, (ready t s).0.1))
     (λ c. (ready t c.before.before.before.before.before.before).0.1)
-    (λ c κs. let s = c.before.before.before.before.before.before in record { laid = (ready t s).0.0.0.laid; first = (ready t s).1; second = (tried t s).latest.index })
+    (λ c κs. let s = c.before.before.before.before.before.before in record { laid = (ready t s).0.0.0.laid; first = (ready t s).1; second = (tried t s).index })
     (λ c. omega (arith, enough t c.before))
     (λ c.
     let s = begun t c.before in
-    (omega arith, λ d. with-clash (network t s) s.args.members.now s.args.place s.args.own s.args.words.now s.args.left s.args.by s.args.w s.args.i s.args.x (ready t s).0.1 (tried t s) (sym c.before.tuples_agree.ensures ∙ not-true _ c.if-over-eq0.true)))
-    (λ c. let s = begun t c.before in omega (arith, members-few t s, (tried t s).earlier.inside))
-    (λ c. (tried t (begun t c.before.before)).earlier.inside)
-    (λ c κs. let s = begun t c.before.before in record { laid = (ready t s).0.0.0.laid; first = (tried t s).earlier.index; second = (tried t s).latest.index })
-    (λ c. omega (arith, enough t (compared t c.before)))
-    (λ c.
-    let s = begun t (compared t c.before) in
-    (omega arith, λ d. with-clash-before (network t s) s.args.members.now s.args.place s.args.own s.args.words.now s.args.left s.args.by s.args.w s.args.i s.args.x (ready t s).0.1 (tried t s) (sym c.before.tuples_agree-2.ensures ∙ not-true _ c.if-not-tuples_agree-2.true-raw)))
-    (λ c. omega (arith, trailing_le 64 (begun t (compared t c.before)).args.left))
+    (omega arith, λ d. with-clash (network t s) s.args.members.now s.args.place s.args.own s.args.words.now s.args.left s.args.i s.args.x (ready t s).0.1 (tried t s) (sym c.before.tuples_agree.ensures ∙ not-true _ c.if-over-eq0.true)))
+    (λ c. omega (arith, trailing_le 64 (begun t c.before).args.left))
     (λ c. (omega arith, λ d. absurd (d refl)))
-    (λ c. omega (arith, c.if-members-last.false, members-few t (begun t (compared t c.before.before))))
+    (λ c. omega (arith, c.if-members-last.false, members-few t (begun t c.before.before)))
     (λ c. omega (arith, (last-left t c).inside, members-few t (before_last t c)))
     (λ c. (last-left t c.before).inside)
     (refuted-with-meets-requires t)
     (λ c. (omega arith, λ d. absurd (d refl)))
-    (λ c. omega (arith, enough t (compared t c.before.before.before.before.before.before)))
-    (refuted-with-returns-6 t)
+    (λ c. omega (arith, enough t c.before.before.before.before.before.before))
+    (refuted-with-returns-5 t)
     (refuted-with-narrow-left-requires t)
-    (λ c. omega (arith, enough t (compared t c.before.before.before.before.before.before.before)))
-    (refuted-with-returns-7 t)
-    (λ c. omega (arith, enough t (compared t c.before.before.before.before.before.before.before.before)))
+    (λ c. omega (arith, enough t c.before.before.before.before.before.before.before))
+    (refuted-with-returns-6 t)
+    (λ c. omega (arith, enough t c.before.before.before.before.before.before.before.before))
     (refuted-with-refuted-requires t)
-    (refuted-with-returns-8 t)
+    (refuted-with-returns-7 t)

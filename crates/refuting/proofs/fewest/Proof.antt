@@ -12,11 +12,11 @@ use Rattle.refuting.proofs.fewest.Statement.{statement}
 use Rattle.refuting.proofs.fewest.Tie as tie
 
 abbrev invariant-loop : tie.invariant-loop-j
-invariant-loop starts words members left last best₀ least₀ j₀ best least j =
+invariant-loop starts words members left best₀ least₀ j₀ best least j =
     (best < length members → is_set left best ≡ true) × (least ≤ 65535)
 
 abbrev decreases-loop : tie.decreases-loop-j
-decreases-loop starts words members left last best₀ least₀ j₀ best least j = length members - j
+decreases-loop starts words members left best₀ least₀ j₀ best least j = length members - j
 
 loop-again : tie.Need-loop-j-preserved invariant-loop decreases-loop
 loop-again c =

@@ -1,7 +1,7 @@
--- `meets` goes through the live tuples in the rows of tuple x. The loop's invariant: none before the id reached agrees with the three tuples.
--- From what `agrees_with_all` and `next_in_rows` ensure, and the law that whatever agrees is in all rows.
-use mathlib.Core.Path.{◌≡◌, refl, sym, subst}
-use mathlib.Core.Bool.{Bool, true, false}
+-- `meets` goes through the live tuples in the rows of tuple x. The loop's invariant: none before the id reached agrees with both tuples.
+-- From what `tuples_agree` and `next_in_rows` ensure, and the law that whatever agrees is in all rows.
+use mathlib.Core.Path.{◌≡◌, refl, sym, ◌∙◌, ap, subst}
+use mathlib.Core.Bool.{true, false}
 use mathlib.Core.List.{List}
 use Prim.Native.Nat.{ℕ, ◌+◌, ◌-◌, ◌≤◌, ◌<◌}
 use native.Mathlib.Omega.{arith}
@@ -16,44 +16,43 @@ use Rattle.narrowing.specs.Narrows.{Seeks}
 use Rattle.narrowing.specs.TupleRows.{FirstRows, RowFor, Within, NextInRows}
 use Rattle.narrowing.proofs.Narrowing.{IdsOf, ids-of}
 use Rattle.narrowing.proofs.TupleRows.{rows-for-within, agreeing-rows}
-use Rattle.refuting.specs.Refuted.{ShowsAgreeing}
 use Rattle.refuting.proofs.meets.Statement.{statement}
 use Rattle.refuting.proofs.meets.Tie as tie
 
 -- ---- Tuples passed over
 
 -- none below id g
-abbrev UnmetBelow : Network → ℕ → ℕ → ℕ → ℕ → ℕ → ℕ → ℕ → List ℕ → ℕ → Type 0
-UnmetBelow N r x s q y b w words g =
-    (z : ℕ) → z < size N s → first_id N s + z < g → is_live words (first_id N s + z) ≡ true → agree N (first_id N r + x) (first_id N s + z) ≡ true → agree N (first_id N q + y) (first_id N s + z) ≡ true → agree N (first_id N b + w) (first_id N s + z) ≡ true → ⊥
+abbrev UnmetBelow : Network → ℕ → ℕ → ℕ → ℕ → ℕ → List ℕ → ℕ → Type 0
+UnmetBelow N r x s q y words g =
+    (z : ℕ) → z < size N s → first_id N s + z < g → is_live words (first_id N s + z) ≡ true → agree N (first_id N r + x) (first_id N s + z) ≡ true → agree N (first_id N q + y) (first_id N s + z) ≡ true → ⊥
 
-module _ {L : Lists} {index : List ℕ} {r x : ℕ} (P : Seeks L index r x) (s q y b w : ℕ) (rows words : List ℕ) (n : ℕ) (f : FirstRows (RowFor (network_in L) index r x s) n rows) (end : ℕ) where
+module _ {L : Lists} {index : List ℕ} {r x : ℕ} (P : Seeks L index r x) (s q y : ℕ) (rows words : List ℕ) (n : ℕ) (f : FirstRows (RowFor (network_in L) index r x s) n rows) (end : ℕ) where
   abbrev N : Network
   N = network_in L
 
   -- from id i on to the next in the rows
   passed_to : (i g : ℕ) → NextInRows index n rows words i end g → (z : ℕ) → z < size N s → i ≤ first_id N s + z → first_id N s + z < g → is_live words (first_id N s + z) ≡ true → agree N (first_id N r + x) (first_id N s + z) ≡ true → ⊥
-  passed_to i g k z h l u live a = k.none_before (first_id N s + z) l u live (agreeing-rows P.laid P.indexed r x s z P.own h a f)
+  passed_to i g k z h l b live a = k.none_before (first_id N s + z) l b live (agreeing-rows P.laid P.indexed r x s z P.own h a f)
 
-  unmet-first : (g : ℕ) → NextInRows index n rows words (first_id N s) end g → UnmetBelow N r x s q y b w words g
-  unmet-first g k z h u live a o d = passed_to (first_id N s) g k z h (omega arith) u live a
+  unmet-first : (g : ℕ) → NextInRows index n rows words (first_id N s) end g → UnmetBelow N r x s q y words g
+  unmet-first g k z h b live a o = passed_to (first_id N s) g k z h (omega arith) b live a
 
-  unmet-next : (i g g' : ℕ) → first_id N s + i ≡ g → UnmetBelow N r x s q y b w words g → {found : Bool} → ShowsAgreeing N r x q y b w s i found → found ≡ false → NextInRows index n rows words (g + 1) end g' → UnmetBelow N r x s q y b w words g'
-  unmet-next i g g' is U {found} shows none k z h u live a o d = go (dec_lt (first_id N s + z) g) (ℕ_discrete z i)
+  unmet-next : (i g g' : ℕ) → first_id N s + i ≡ g → UnmetBelow N r x s q y words g → agree N (first_id N q + y) (first_id N s + i) ≡ false → NextInRows index n rows words (g + 1) end g' → UnmetBelow N r x s q y words g'
+  unmet-next i g g' is U clash k z h b live a o = go (dec_lt (first_id N s + z) g) (ℕ_discrete z i)
     where
       go : Dec (first_id N s + z < g) → Dec (z ≡ i) → ⊥
-      go (yes l) _ = U z h l live a o d
-      go (no l) (yes e) = not-both (subst (λ (z : ℕ). ShowsAgreeing N r x q y b w s z found) (sym e) shows a o d) none
-      go (no l) (no n) = passed_to (g + 1) g' k z h (omega (arith, l, n, is)) u live a
+      go (yes l) _ = U z h l live a o
+      go (no l) (yes e) = not-both o (ap (λ (z : ℕ). agree N (first_id N q + y) (first_id N s + z)) e ∙ clash)
+      go (no l) (no d) = passed_to (g + 1) g' k z h (omega (arith, l, d, is)) b live a
 
 -- ---- The loop
 
 abbrev invariant-loop : tie.invariant-loop-g
-invariant-loop variables values starts index words r x s q y b w first end rows n g₀ g =
-    ((first ≤ g) × (g ≤ end)) × UnmetBelow (network_in (record { variables = variables; values = values; starts = starts })) r x s q y b w words g
+invariant-loop variables values starts index words r x s q y first end rows n g₀ g =
+    ((first ≤ g) × (g ≤ end)) × UnmetBelow (network_in (record { variables = variables; values = values; starts = starts })) r x s q y words g
 
 abbrev decreases-loop : tie.decreases-loop-g
-decreases-loop variables values starts index words r x s q y b w first end rows n g₀ g = end - g
+decreases-loop variables values starts index words r x s q y first end rows n g₀ g = end - g
 
 abbrev Entry : Type 0
 Entry = tie.Start invariant-loop decreases-loop
@@ -106,20 +105,15 @@ loop-holds c =
     let s = begun b in
     let k = c.next_in_rows-g.ensures in (
       (k.from_on, k.to_end),
-      unmet-first (asked s) s.args.s s.args.q s.args.y s.args.b s.args.w (rows w) s.args.words.now w.rows_for-n.result (found w) b.tuple_start-end.result c.next_in_rows-g.result
+      unmet-first (asked s) s.args.s s.args.q s.args.y (rows w) s.args.words.now w.rows_for-n.result (found w) b.tuple_start-end.result c.next_in_rows-g.result
           (subst (λ (i : ℕ). NextInRows s.args.index.now w.rows_for-n.result (rows w) s.args.words.now i b.tuple_start-end.result c.next_in_rows-g.result) (own-ids b).begin k),
     )
 
-agrees-with-all-requires : tie.Need-agrees_with_all-requires invariant-loop decreases-loop
-agrees-with-all-requires c κs =
-    let l = read (prepared c.before) in
-    let s = begun l in
-    let reached : c.before.loop-g.g - l.before.tuple_start-first.result < size (net l) s.args.s = omega (arith, c.loop-g-test.true, c.before.loop-g.invariant.0.0, (own-ids l).begin, (own-ids l).stop) in
-    record {
-      with-x = record { laid = (asked s).laid; first = (asked s).own; second = reached };
-      with-y = record { laid = (asked s).laid; first = s.requires.1.0; second = reached };
-      with-w = record { laid = (asked s).laid; first = s.requires.1.1; second = reached };
-    }
+tuples-agree-requires : tie.Need-tuples_agree-requires invariant-loop decreases-loop
+tuples-agree-requires c κs =
+    let b = read (prepared c.before) in
+    let s = begun b in
+    record { laid = (asked s).laid; first = s.requires.1; second = omega (arith, c.loop-g-test.true, c.before.loop-g.invariant.0.0, (own-ids b).begin, (own-ids b).stop) }
 
 next-in-rows-requires-2 : tie.Need-next_in_rows-g-requires-in-loop-g invariant-loop decreases-loop
 next-in-rows-requires-2 c κs =
@@ -143,9 +137,9 @@ loop-again c =
     let k = c.next_in_rows-g-in-loop-g.ensures in
     let i = l.loop-g.inv in (
       (omega (arith, k.from_on, i.0.0), k.to_end),
-      unmet-next (asked s) s.args.s s.args.q s.args.y s.args.b s.args.w (rows w) s.args.words.now w.rows_for-n.result (found w) b.tuple_start-end.result
+      unmet-next (asked s) s.args.s s.args.q s.args.y (rows w) s.args.words.now w.rows_for-n.result (found w) b.tuple_start-end.result
           (l.loop-g.g - b.before.tuple_start-first.result) l.loop-g.g c.next_in_rows-g-in-loop-g.result
-          (omega (arith, (own-ids b).begin, i.0.0)) i.1 c.before.before.before.agrees_with_all.ensures c.before.before.if-agrees_with_all.false k,
+          (omega (arith, (own-ids b).begin, i.0.0)) i.1 (sym c.before.before.before.tuples_agree.ensures ∙ c.before.before.if-tuples_agree.false) k,
     )
 
 returns-2 : tie.Need-returns invariant-loop decreases-loop
@@ -166,7 +160,7 @@ meets_spec =
     next-in-rows-requires
     loop-holds
     (λ c. omega (arith, c.before.loop-g.invariant.0.0))
-    agrees-with-all-requires
+    tuples-agree-requires
     (λ c e. absurd (not-both refl e))
     (λ c. let l = c.before.before.before in omega (arith, l.loop-g-test.true, (own-ids (read (prepared l.before))).bits.1))
     next-in-rows-requires-2
