@@ -1,4 +1,6 @@
 // Live words: sixty-four ids to a word, id g at bit g mod 64 of word g / 64, and live where the bit is 1.
+#![tactic(auto)]
+
 ghost use Rattle.std.specs.Prelude.{◌≡◌, ◌++◌, ◌-◌, ◌*◌, ◌/◌, ◌%◌, ◌≤◌, ◌<◌, length, take, drop};
 ghost use Rattle.model.specs.TupleSet.{count};
 ghost use Rattle.model.specs.LiveWords.{words_for, is_live, living_from, next_live, cleared, raised};
