@@ -157,7 +157,7 @@ module _ {G : Setting} (sound : Sound G) where
 -- the first pair's numbers begin at nought
 pub pair-first : (xs : List ℕ) (m : ℕ) (members : List ℕ) → support_start (outline xs) m members 0 ≡ 0
 unfolding support_start
-pair-first xs m members = zero-mul m
+pair-first xs m _ = zero-mul m
 
 -- behind the last pair stands how many numbers there are
 pub pairs_end : {xs : List ℕ} {m : ℕ} {members : List ℕ} → SoundPairs xs m members → support_start (outline xs) m members (length members) ≡ needed (outline xs) (combinations m members)

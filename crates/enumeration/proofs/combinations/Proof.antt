@@ -26,7 +26,7 @@ module _ (c : tie.After-wide) where
   network = network_of start.args.shape start.args.variables.now start.args.values.now
 
   abbrev found : List ℕ
-  found = asked.enumerate-a.last.1.1.1.1.1.0
+  found = asked.enumerate-a.new.list
 
   -- so many numbers are copied
   numbers : c.before.listed.result * c.wide.result ≡ listed_in asked.enumerate-a.result * start.args.m

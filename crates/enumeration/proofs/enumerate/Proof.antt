@@ -47,7 +47,7 @@ abbrev begun : tie.After-list_all-n → tie.Start
 begun c = start (passed c).before.before.before.before
 
 -- what is listed is of the network given
-listed : (c : tie.After-list_all-n) → let s = begun c in Adds s.args.m (connected_combinations (network s) s.args.m) 0 s.args.list.now c.list_all-n.result c.list_all-n.new.1.1.1.1.0
+listed : (c : tie.After-list_all-n) → let s = begun c in Adds s.args.m (connected_combinations (network s) s.args.m) 0 s.args.list.now c.list_all-n.result c.list_all-n.new.list
 listed c =
     let o = c.before.before.before in
     let s = begun c in

@@ -64,12 +64,12 @@ summed c =
     λ f h. before-end S f c.before.before.loop-r.r h ∙ sym (before-end S f (c.before.before.loop-r.r + 1) (omega arith)) in
     ⊎_elim
     {C = Summed (relations_of S) c.if-r-shape.variable c.if-r-shape.tuple c.if-r-shape.value (c.before.before.loop-r.r + 1)}
-    (λ w. let turn : tie.Then-r-shape invariant-loop decreases-loop = record { before = c.before; if1 = w.0 } in
-    (w.3 ∙ next-variable turn, w.4 ∙ next-tuple turn, w.5 ∙ next-value turn))
+    (λ w. let turn : tie.Then-r-shape invariant-loop decreases-loop = record { before = c.before; if-r-shape = w.if-r-shape } in
+    (w.variable-is ∙ next-variable turn, w.tuple-is ∙ next-tuple turn, w.value-is ∙ next-value turn))
     (λ w. (
-      w.1 ∙ inv.1.0 ∙ stays variables_in w.0.left,
-      w.2 ∙ inv.1.1 ∙ stays tuples_in w.0.left,
-      w.3 ∙ inv.1.2 ∙ stays values_in w.0.left,
+      w.variable-is ∙ inv.1.0 ∙ stays variables_in w.if-r-shape.false,
+      w.tuple-is ∙ inv.1.1 ∙ stays tuples_in w.if-r-shape.false,
+      w.value-is ∙ inv.1.2 ∙ stays values_in w.if-r-shape.false,
     ))
     c.if-r-shape.branch-raw
 

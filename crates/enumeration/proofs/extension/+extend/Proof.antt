@@ -75,29 +75,29 @@ module _ (t : ℕ) where
   few c = omega (arith, c.loop-r-test.true, (begun c).requires.1.choice.relations)
 
   -- with relation r, and without it
-  ahead : (c : extend-lts.After-joined-more (callees t) (extend-at t) extend.Post invariant-loop decreases-loop) → let turn = c.before.before.before.before.before in let a = begun turn in let l = turn.before.loop-r in Going a.args.m (extensions a.args.near.now c.joined-more.result (set a.args.members a.args.k l.r) a.args.m (a.args.k + 1) (l.r + 1) a.args.count ++ es a (l.r + 1)) (es a a.args.from) a.args.found a.args.list.now l.n l.list-1
+  ahead : (c : extend-lts.After-joined-more (callees t) (extend-at t) extend.Post invariant-loop decreases-loop) → let turn = c.before.before.before.before.before.before in let a = begun turn in let l = turn.before.loop-r in Going a.args.m (extensions a.args.near.now c.joined-more.result (set a.args.members a.args.k l.r) a.args.m (a.args.k + 1) (l.r + 1) a.args.count ++ es a (l.r + 1)) (es a a.args.from) a.args.found a.args.list.now l.n l.list
   ahead c =
-      let turn = c.before.before.before.before.before in
+      let turn = c.before.before.before.before.before.before in
       let a = begun turn in
       let l = turn.before.loop-r in
-      subst (λ (todo : List Combination). Going a.args.m todo (es a a.args.from) a.args.found a.args.list.now l.n l.list-1)
+      subst (λ (todo : List Combination). Going a.args.m todo (es a a.args.from) a.args.found a.args.list.now l.n l.list)
       (extensions-next a.args.near.now a.args.sets.now a.args.members a.args.m a.args.k a.args.count l.r c.joined-more.result (omega (arith, some_left turn)) (omega (arith, sized a, a.requires.1.choice.few)) turn.loop-r-test.true
       (c.joined-more.ensures ∙ ap (λ (i : ℕ). joined l.r (get_or a.args.near.now i 0) (take a.args.k a.args.sets.now)) c.before.before.wide.ensures.0))
       l.invariant.1
 
   -- what was added
-  added : (c : extend-lts.After-extend-n (callees t) (extend-at t) extend.Post invariant-loop decreases-loop) → let j = c.before.before.before.before in let turn = j.before.before.before.before.before in let a = begun turn in let l = turn.before.loop-r in Adds a.args.m (extensions a.args.near.now j.joined-more.result (set a.args.members a.args.k l.r) a.args.m (a.args.k + 1) (l.r + 1) a.args.count) l.n l.list-1 c.extend-n.result c.extend-n.new.1.1.1.1.1.1.1.0
+  added : (c : extend-lts.After-extend-n (callees t) (extend-at t) extend.Post invariant-loop decreases-loop) → let j = c.before.before.before.before in let turn = j.before.before.before.before.before.before in let a = begun turn in let l = turn.before.loop-r in Adds a.args.m (extensions a.args.near.now j.joined-more.result (set a.args.members a.args.k l.r) a.args.m (a.args.k + 1) (l.r + 1) a.args.count) l.n l.list c.extend-n.result c.extend-n.new.list
   added c =
       let p = c.before.before.before in
       let j = p.before in
-      let turn = j.before.before.before.before.before in
+      let turn = j.before.before.before.before.before.before in
       let a = begun turn in
       let l = turn.before.loop-r in
-      subst (λ (xs : List ℕ). Adds a.args.m (extensions a.args.near.now j.joined-more.result xs a.args.m (a.args.k + 1) (l.r + 1) a.args.count) l.n l.list-1 c.extend-n.result c.extend-n.new.1.1.1.1.1.1.1.0) p.put.ensures c.extend-n.ensures
+      subst (λ (xs : List ℕ). Adds a.args.m (extensions a.args.near.now j.joined-more.result xs a.args.m (a.args.k + 1) (l.r + 1) a.args.count) l.n l.list c.extend-n.result c.extend-n.new.list) p.put.ensures c.extend-n.ensures
 
   extend-requires : extend-lts.Need-extend-n-requires (callees t) (extend-at t) extend.Post invariant-loop decreases-loop
   extend-requires c κs =
-      let turn = c.before.before.before.before.before.before.before.before in
+      let turn = c.before.before.before.before.before.before.before.before.before in
       let a = begun turn in
       let l = turn.before.loop-r in
       let p = a.requires.1.choice in (
@@ -121,7 +121,7 @@ module _ (t : ℕ) where
   loop-again c =
       let e = c.before.before.before.before in
       let j = e.before.before.before.before in
-      let turn = j.before.before.before.before.before in
+      let turn = j.before.before.before.before.before.before in
       let a = begun turn in
       let l = turn.before.loop-r in (
         omega (arith, turn.loop-r-test.true),
@@ -133,7 +133,7 @@ module _ (t : ℕ) where
   returns-over c =
       let e = c.before.before.before.before in
       let j = e.before.before.before.before in
-      let turn = j.before.before.before.before.before in
+      let turn = j.before.before.before.before.before.before in
       let a = begun turn in
       let l = turn.before.loop-r in
       going-over a.args.m (extensions a.args.near.now j.joined-more.result (set a.args.members a.args.k l.r) a.args.m (a.args.k + 1) (l.r + 1) a.args.count) (es a (l.r + 1)) (ahead j)
@@ -147,7 +147,7 @@ module _ (t : ℕ) where
       let a = begun turn in
       let l = turn.before.loop-r in
       going_end a.args.m
-      (subst (λ (todo : List Combination). Going a.args.m todo (es a a.args.from) a.args.found a.args.list.now l.n l.list-1)
+      (subst (λ (todo : List Combination). Going a.args.m todo (es a a.args.from) a.args.found a.args.list.now l.n l.list)
       (extensions-shut a.args.near.now a.args.sets.now a.args.members a.args.m a.args.k a.args.count (omega (arith, a.requires.1.two)) l.r
       (sym x.extendable.ensures ∙ not-true _ c.if-not-extendable.true-raw)) l.invariant.1)
 
@@ -156,7 +156,7 @@ module _ (t : ℕ) where
       let a = c.before.before.before.before in
       let l = c.before.loop-r in
       going_end a.args.m
-      (subst (λ (todo : List Combination). Going a.args.m todo (es a a.args.from) a.args.found a.args.list.now l.n l.list-1)
+      (subst (λ (todo : List Combination). Going a.args.m todo (es a a.args.from) a.args.found a.args.list.now l.n l.list)
       (extensions-end a.args.near.now a.args.sets.now a.args.members a.args.m a.args.k a.args.count (omega (arith, a.requires.1.two)) l.r c.loop-r-test.false) l.invariant.1)
 
 pub +extend_spec : {M : Type 1} → statement M
@@ -171,17 +171,17 @@ pub +extend_spec : {M : Type 1} → statement M
     (returns-shut t)
     (λ c κs. search rules)
     (λ c. search rules)
-    (λ c. omega (arith, few t c.before.before.before, c.wide.ensures.0))
-    (λ c κs. let turn = c.before.before.before.before in let a = begun t turn in (a.requires.1.sized, (omega (arith, some_left t turn, a.requires.1.most), few t turn)))
+    (λ c. omega (arith, few t c.before.before.before.before, c.wide.ensures.0))
+    (λ c κs. let turn = c.before.before.before.before.before in let a = begun t turn in (a.requires.1.sized, (omega (arith, some_left t turn, a.requires.1.most), few t turn)))
     (λ c κs. search rules)
-    (λ c. let turn = c.before.before.before.before.before.before in omega (arith, (begun t turn).requires.1.choice.few))
-    (λ c. let turn = c.before.before.before.before.before.before.before in omega (arith, few t turn))
+    (λ c. let turn = c.before.before.before.before.before.before.before in omega (arith, (begun t turn).requires.1.choice.few))
+    (λ c. let turn = c.before.before.before.before.before.before.before.before in omega (arith, few t turn))
     (extend-requires t)
     (λ c κs. search rules)
     (λ c. (returns-over t c).long)
     (returns-over t)
-    (λ c. let turn = c.before.before.before.before.before.before.before.before.before.before.before.before.before in omega (arith, few t turn))
-    (λ c. let turn = c.before.before.before.before.before.before.before.before.before.before.before.before.before in omega (arith, turn.loop-r-test.true))
+    (λ c. let turn = c.before.before.before.before.before.before.before.before.before.before.before.before.before.before in omega (arith, few t turn))
+    (λ c. let turn = c.before.before.before.before.before.before.before.before.before.before.before.before.before.before in omega (arith, turn.loop-r-test.true))
     (loop-again t)
     (λ c. c.before.loop-r.invariant.1.long)
     (returns-end t)

@@ -15,7 +15,7 @@ use Rattle.enumeration.proofs.extension.add.Statement.{statement}
 use Rattle.enumeration.proofs.extension.add.Tie as tie
 
 sized : (c : tie.Start) → length c.args.members ≡ 4
-sized c = good_length (e_int w16) 4 c.args.members _ c.well-formed.1.1.0
+sized c = good_length (e_int w16) 4 c.args.members _ c.well_formed.1.1.0
 
 -- there is room for it
 place : (c : tie.After-wide) → let a = c.before.before.before.before.args in c.wide.result * (a.k + 1) + max_members ≤ max_member_list

@@ -27,7 +27,7 @@ returns-2 c =
     let x = c.before.before in
     let p = x.before.before in
     let a = p.before.before.before.args in
-    let after = x.extend_last.new.1.1.1.1.1.0 in
+    let after = x.extend_last.new.list in
     let e : suc (a.k + 1) ≡ a.k + 2 = omega arith in
     subst (λ (m : ℕ). Adds m (last_extensions a.last (set a.members a.k a.r) (a.k + 1) (a.r + 1) a.count) a.found a.list.now x.extend_last.result after) e
     (subst (λ (xs : List ℕ). Adds (suc (a.k + 1)) (last_extensions a.last xs (a.k + 1) (a.r + 1) a.count) a.found a.list.now x.extend_last.result after) p.put.ensures x.extend_last.ensures)

@@ -48,12 +48,12 @@ module _ (s : tie.Start invariant-loop decreases-loop) where
         )
 
 -- relation r, and those behind it
-ahead : (c : tie.In-loop-r invariant-loop decreases-loop) → let s = called c in let l = c.before.loop-r in Going (suc s.args.k) ((take s.args.k s.args.members ++ (l.r ∷ [])) ∷ cs (called c) (l.r + 1)) (cs (called c) s.args.from) s.args.found s.args.list.now l.n l.list-1
+ahead : (c : tie.In-loop-r invariant-loop decreases-loop) → let s = called c in let l = c.before.loop-r in Going (suc s.args.k) ((take s.args.k s.args.members ++ (l.r ∷ [])) ∷ cs (called c) (l.r + 1)) (cs (called c) s.args.from) s.args.found s.args.list.now l.n l.list
 ahead c =
     let s = called c in
     let a = s.args in
     let l = c.before.loop-r in
-    subst (λ (todo : List Combination). Going (suc a.k) todo (cs (called c) a.from) a.found a.list.now l.n l.list-1)
+    subst (λ (todo : List Combination). Going (suc a.k) todo (cs (called c) a.from) a.found a.list.now l.n l.list)
     (last-here a.set a.members a.k a.count l.r l.r l.invariant.0 c.loop-r-test.true) l.invariant.1
 
 loop-holds : tie.Need-loop-r-init invariant-loop decreases-loop
@@ -91,7 +91,7 @@ returns-2 c =
     let a = s.args in
     let l = c.before.loop-r in
     going_end (suc a.k)
-    (subst (λ (todo : List Combination). Going (suc a.k) todo (cs s a.from) a.found a.list.now l.n l.list-1)
+    (subst (λ (todo : List Combination). Going (suc a.k) todo (cs s a.from) a.found a.list.now l.n l.list)
     (last-past a.set a.members a.k a.count l.r c.loop-r-test.false) l.invariant.1)
 
 pub extend_last_spec : {M : Type 1} → statement M

@@ -89,24 +89,24 @@ here c =
     last_extensions c.candidates-last.result (set s.args.members s.args.k r) (s.args.k + 1) (r + 1) s.args.count
 
 -- .. and those without it
-ahead : (c : tie.After-candidates-last invariant-loop decreases-loop) → let turn = c.before.before.before in let s = begun turn.before in let l = turn.before.loop-r in Going s.args.m (here c ++ es s (l.r + 1)) (es s s.args.from) s.args.found s.args.list.now l.n l.list-1
+ahead : (c : tie.After-candidates-last invariant-loop decreases-loop) → let turn = c.before.before.before in let s = begun turn.before in let l = turn.before.loop-r in Going s.args.m (here c ++ es s (l.r + 1)) (es s s.args.from) s.args.found s.args.list.now l.n l.list
 ahead c =
     let w = c.before.before in
     let turn = w.before in
-    let s = begun turn in
+    let s = begun turn.before in
     let l = turn.before.loop-r in
-    subst (λ (todo : List Combination). Going s.args.m todo (es s s.args.from) s.args.found s.args.list.now l.n l.list-1)
+    subst (λ (todo : List Combination). Going s.args.m todo (es s s.args.from) s.args.found s.args.list.now l.n l.list)
     (two-next s.args.near.now s.args.sets.now s.args.members s.args.m s.args.k s.args.count s.requires.1 s.requires.0.choice.relations (sized s) (long s) l.r c.candidates-last.result turn.loop-r-test.true
     (subst (λ (i : ℕ). Joining c.candidates-last.result l.r (get_or s.args.near.now i 0) (take s.args.k s.args.sets.now)) w.wide.ensures.0 c.candidates-last.ensures))
     l.invariant.1.1
 
 -- what was added
-added : (c : tie.After-extend_by-n invariant-loop decreases-loop) → let j = c.before.before in let turn = j.before.before.before in let s = begun turn.before in let l = turn.before.loop-r in Adds s.args.m (here j) l.n l.list-1 c.extend_by-n.result c.extend_by-n.new.1.1.1.1.1.0
+added : (c : tie.After-extend_by-n invariant-loop decreases-loop) → let j = c.before.before in let turn = j.before.before.before in let s = begun turn.before in let l = turn.before.loop-r in Adds s.args.m (here j) l.n l.list c.extend_by-n.result c.extend_by-n.new.list
 added c =
     let j = c.before.before in
     let turn = j.before.before.before in
     let l = turn.before.loop-r in
-    subst (λ (m : ℕ). Adds m (here j) l.n l.list-1 c.extend_by-n.result c.extend_by-n.new.1.1.1.1.1.0) (begun turn).requires.1 c.extend_by-n.ensures
+    subst (λ (m : ℕ). Adds m (here j) l.n l.list c.extend_by-n.result c.extend_by-n.new.list) (begun turn.before).requires.1 c.extend_by-n.ensures
 
 loop-again : tie.Need-loop-r-preserved invariant-loop decreases-loop
 loop-again c =
@@ -133,7 +133,7 @@ returns-2 c =
     let s = c.before.before.before.before.before.before.before in
     let l = c.before.loop-r in
     going_end s.args.m
-    (subst (λ (todo : List Combination). Going s.args.m todo (es s s.args.from) s.args.found s.args.list.now l.n l.list-1)
+    (subst (λ (todo : List Combination). Going s.args.m todo (es s s.args.from) s.args.found s.args.list.now l.n l.list)
     (extensions-end s.args.near.now s.args.sets.now s.args.members s.args.m s.args.k s.args.count (omega (arith, s.requires.1)) l.r c.loop-r-test.false) l.invariant.1.1)
 
 pub extend_two_spec : {M : Type 1} → statement M
@@ -152,15 +152,15 @@ extend_two_spec =
     arrived t s.args.from c.next_in-r.result (omega arith) s.requires.0.choice.low c.next_in-r.ensures (going_start s.args.m s.requires.0.choice.under))
     (λ c κs. search rules)
     (λ c. search rules)
-    (λ c. omega (arith, few c.before, c.wide.ensures.0))
+    (λ c. omega (arith, few c.before.before, c.wide.ensures.0))
     (λ c κs.
     let turn = c.before.before in
     let o = turn.before.before.before.before in
-    let s = begun turn in
-    ((s.requires.0.sized, (omega (arith, s.requires.0.most, s.requires.1), few turn)), (o.before.union-some.ensures, o.common-all.ensures)))
+    let s = begun turn.before in
+    ((s.requires.0.sized, (omega (arith, s.requires.0.most, s.requires.1), few turn.before)), (o.before.union-some.ensures, o.common-all.ensures)))
     (λ c κs.
     let turn = c.before.before.before.before in
-    let p = (begun turn).requires.0 in
+    let p = (begun turn.before).requires.0 in
     let l = turn.before.loop-r in
     record {
       few = omega (arith, p.two, p.most);
@@ -177,8 +177,8 @@ extend_two_spec =
     (λ c.
     let turn = turned c.before in
     let l = turn.before.loop-r in
-    let f = first turn.before.before.before (l.r + 1) c.next_in-r-in-loop-r.result (omega (arith, l.inv.0)) (omega (arith, turn.loop-r-test.taken)) c.next_in-r-in-loop-r.ensures in
-    omega (arith, turn.loop-r-test.taken, f.from-i))
+    let f = first turn.before.before.before (l.r + 1) c.next_in-r-in-loop-r.result (omega (arith, l.invariant.0)) (omega (arith, turn.loop-r-test.true)) c.next_in-r-in-loop-r.ensures in
+    omega (arith, turn.loop-r-test.true, f.from-i))
     loop-again
     (λ c. c.before.loop-r.invariant.1.1.long)
     returns-2)

@@ -35,10 +35,10 @@ asked c x =
     let p = meets a.masks.now a.set in
     let e = c.before.before.wide.ensures.0 in
     ⊎_elim
-    (λ h. ap (λ (w : ℕ). is_set w x) h.1 ∙ bits-with p l.found l.s l.invariant.1 (few turn.before)
-    (ap (λ (i : ℕ). meets a.masks.now a.set i) (sym e) ∙ ap not (ne_eqb (bit_and (get_or a.masks.now c.before.before.wide.result 0) a.set) 0 h.0.taken)) x)
-    (λ h. ap (λ (w : ℕ). is_set w x) h.1 ∙ bits-without p l.found l.s l.invariant.1
-    (ap (λ (i : ℕ). meets a.masks.now a.set i) (sym e) ∙ ap not (eq-eqb (bit_and (get_or a.masks.now c.before.before.wide.result 0) a.set) 0 h.0.left)) x)
+    (λ h. ap (λ (w : ℕ). is_set w x) h.found-is ∙ bits-with p l.found l.s l.invariant.1 (few turn.before)
+    (ap (λ (i : ℕ). meets a.masks.now a.set i) (sym e) ∙ ap not (ne_eqb (bit_and (get_or a.masks.now c.before.before.wide.result 0) a.set) 0 h.if-masks-wide-ne0.true)) x)
+    (λ h. ap (λ (w : ℕ). is_set w x) h.found-is ∙ bits-without p l.found l.s l.invariant.1
+    (ap (λ (i : ℕ). meets a.masks.now a.set i) (sym e) ∙ ap not (eq-eqb (bit_and (get_or a.masks.now c.before.before.wide.result 0) a.set) 0 h.if-masks-wide-ne0.false)) x)
     c.if-masks-wide-ne0.branch-raw
 
 returns : tie.Need-returns invariant-loop decreases-loop

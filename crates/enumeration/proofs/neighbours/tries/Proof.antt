@@ -51,7 +51,7 @@ module _ (c : tie.After-next_in-s-in-loop-s invariant-loop decreases-loop) where
   turn = c.before.before.before.before
 
   abbrev next : First (is_set (begun turn).args.all) (turn.before.loop-s.s + 1) (begun turn).args.count c.next_in-s-in-loop-s.result
-  next = first (begun turn) (turn.before.loop-s.s + 1) c.next_in-s-in-loop-s.result (omega (arith, turn.loop-s-test.taken)) c.next_in-s-in-loop-s.ensures
+  next = first (begun turn) (turn.before.loop-s.s + 1) c.next_in-s-in-loop-s.result (omega (arith, turn.loop-s-test.true)) c.next_in-s-in-loop-s.ensures
 
   taken : (r : ℕ) → is_set (bit_or turn.before.loop-s.word (get_or (begun turn).args.near.now turn.before.loop-s.s 0)) r ≡ false → (is_set turn.before.loop-s.word r ≡ false) × (is_set (get_or (begun turn).args.near.now turn.before.loop-s.s 0) r ≡ false)
   taken r e =
@@ -61,7 +61,7 @@ module _ (c : tie.After-next_in-s-in-loop-s invariant-loop decreases-loop) where
       (or-false-left (is_set w r) (is_set n r) either, or-false-right (is_set w r) (is_set n r) either)
 
   behind : (r : ℕ) → is_set (bit_or turn.before.loop-s.word (get_or (begun turn).args.near.now turn.before.loop-s.s 0)) r ≡ false → (t : ℕ) → (begun turn).args.from ≤ t → t < c.next_in-s-in-loop-s.result → is_set (begun turn).args.all t ≡ true → Dec (t < turn.before.loop-s.s) → Dec (t ≡ turn.before.loop-s.s) → is_set (get_or (begun turn).args.near.now t 0) r ≡ false
-  behind r e t h l b (yes g) d = (turn.before.loop-s.inv.1.1.1 r (taken r e).0).1 t h g b
+  behind r e t h l b (yes g) d = (turn.before.loop-s.invariant.1.1.1 r (taken r e).0).1 t h g b
   behind r e t h l b (no g) (yes q) = ap (λ (i : ℕ). is_set (get_or (begun turn).args.near.now i 0) r) q ∙ (taken r e).1
   behind r e t h l b (no g) (no d) = absurd (not-both b (next.none_before t (omega arith) l))
 
@@ -69,14 +69,14 @@ loop-again : tie.Need-loop-s-preserved invariant-loop decreases-loop
 loop-again c =
     let l = (turn c).before.loop-s in
     let f = next c in (
-      omega (arith, l.inv.0, f.from-i),
+      omega (arith, l.invariant.0, f.from-i),
       (
         f.to_end,
         (
           f.passes,
           λ r e.
-              let e' = sym (ap (λ (i : ℕ). is_set (bit_or l.word-1 (get_or (begun (turn c)).args.near.now i 0)) r) c.before.before.wide.ensures.0) ∙ e in
-              ((l.inv.1.1.1 r (taken c r e').0).0, λ t h g b. behind c r e' t h g b (dec_lt t l.s) (ℕ_discrete t l.s)),
+              let e' = sym (ap (λ (i : ℕ). is_set (bit_or l.word (get_or (begun (turn c)).args.near.now i 0)) r) c.before.before.wide.ensures.0) ∙ e in
+              ((l.invariant.1.1.1 r (taken c r e').0).0, λ t h g b. behind c r e' t h g b (dec_lt t l.s) (ℕ_discrete t l.s)),
         ),
       ),
     )

@@ -35,11 +35,11 @@ loop-again c r h =
     let fits : k ≤ length sets = omega (arith, s.requires.0, s.requires.1) in
     ⊎_elim
     (λ t.
-    ap (λ (w : ℕ). is_set w r && common rest r) t.2
-    ∙ ap (λ (b : Bool). b && common rest r) (is_set-and l.all-1 n r)
-    ∙ and_assoc (is_set l.all-1 r) (is_set n r) (common rest r)
-    ∙ sym (ap (λ (ns : List ℕ). is_set l.all-1 r && common ns r) (front-next sets k l.j fits t.0.taken)))
-    (λ e. ap₂ (λ (w : ℕ) (ns : List ℕ). is_set w r && common ns r) e.1 (front-past sets k l.j fits e.0.left))
+    ap (λ (w : ℕ). is_set w r && common rest r) t.all-is
+    ∙ ap (λ (b : Bool). b && common rest r) (is_set-and l.all n r)
+    ∙ and_assoc (is_set l.all r) (is_set n r) (common rest r)
+    ∙ sym (ap (λ (ns : List ℕ). is_set l.all r && common ns r) (front-next sets k l.j fits t.if-j-k.true)))
+    (λ e. ap₂ (λ (w : ℕ) (ns : List ℕ). is_set w r && common ns r) e.all-is (front-past sets k l.j fits e.if-j-k.false))
     c.if-j-k.branch-raw
     ∙ l.invariant r h
 
@@ -48,8 +48,8 @@ returns c =
     let l = c.before.loop-j in
     let s = c.before.before in
     λ r h.
-    sym (and-true (is_set l.all-1 r))
-    ∙ sym (ap (λ (ns : List ℕ). is_set l.all-1 r && common ns r) (front-end s.args.sets.now s.args.k l.j (omega (arith, s.requires.0, s.requires.1)) (omega (arith, s.requires.1, c.loop-j-test.false))))
+    sym (and-true (is_set l.all r))
+    ∙ sym (ap (λ (ns : List ℕ). is_set l.all r && common ns r) (front-end s.args.sets.now s.args.k l.j (omega (arith, s.requires.0, s.requires.1)) (omega (arith, s.requires.1, c.loop-j-test.false))))
     ∙ l.invariant r h
 
 pub common_spec : {M : Type 1} → statement M

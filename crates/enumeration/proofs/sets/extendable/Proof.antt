@@ -38,8 +38,8 @@ loop-again c =
     let s = turn.before.before in
     let a = s.args in
     ⊎_elim
-    (λ t. sym (split turn t.0.taken ∙ ap (λ (b : Bool). b && extendable (drop (turn.before.loop-j.j + 1) (take a.k a.sets.now)) a.r) (ap not (ne_eqb _ 0 t.2.left))))
-    (λ e. ap (λ ns. extendable ns a.r) (front-past a.sets.now a.k turn.before.loop-j.j (omega (arith, s.requires.0, s.requires.1.0)) e.left))
+    (λ t. sym (split turn t.if-j-k.true ∙ ap (λ (b : Bool). b && extendable (drop (turn.before.loop-j.j + 1) (take a.k a.sets.now)) a.r) (ap not (ne_eqb _ 0 t.if-sets-j-eq0.false))))
+    (λ e. ap (λ ns. extendable ns a.r) (front-past a.sets.now a.k turn.before.loop-j.j (omega (arith, s.requires.0, s.requires.1.0)) e.if-j-k.false))
     c.if-j-k.branch-raw
     ∙ turn.before.loop-j.invariant
 

@@ -35,18 +35,18 @@ loop-again c =
     let fits : a.k ≤ length a.sets.now = omega (arith, st.requires.0, st.requires.1.0) in
     ⊎_elim
     (λ t.
-    let split = front-next a.sets.now a.k l.j fits t.0.taken in (
-      ap (λ (w : ℕ). reach a.r w rest) (t.5 ∙ t.2.ensures) ∙ sym (ap (reach a.r l.all) split) ∙ l.invariant.0,
+    let split = front-next a.sets.now a.k l.j fits t.if-j-k.true in (
+      ap (λ (w : ℕ). reach a.r w rest) (t.all-is ∙ t.grown-all.ensures) ∙ sym (ap (reach a.r l.all) split) ∙ l.invariant.0,
       λ s h.
-          ap (λ (w : ℕ). is_set w s && others a.r s rest) (t.6 ∙ t.4.ensures)
+          ap (λ (w : ℕ). is_set w s && others a.r s rest) (t.rest-is ∙ t.kept-rest.ensures)
           ∙ others-next (is_set n a.r) l.rest n s (others a.r s rest)
           ∙ sym (ap (λ (xs : List ℕ). is_set l.rest s && others a.r s xs) split)
           ∙ l.invariant.1 s h,
     ))
     (λ e.
-    let same = front-past a.sets.now a.k l.j fits e.0.left in (
-      ap₂ (reach a.r) e.1 same ∙ l.invariant.0,
-      λ s h. ap₂ (λ (w : ℕ) (xs : List ℕ). is_set w s && others a.r s xs) e.2 same ∙ l.invariant.1 s h,
+    let same = front-past a.sets.now a.k l.j fits e.if-j-k.false in (
+      ap₂ (reach a.r) e.all-is same ∙ l.invariant.0,
+      λ s h. ap₂ (λ (w : ℕ) (xs : List ℕ). is_set w s && others a.r s xs) e.rest-is same ∙ l.invariant.1 s h,
     ))
     c.if-j-k.branch-raw
 

@@ -26,9 +26,9 @@ loop-again c =
     let fits : a.k ≤ length a.sets.now = omega (arith, s.requires.0, s.requires.1.0) in
     ⊎_elim
     (λ t.
-    ap (λ (w : ℕ). reach a.r w rest) (t.3 ∙ t.2.ensures)
-    ∙ sym (ap (reach a.r l.all) (front-next a.sets.now a.k l.j fits t.0.taken)))
-    (λ e. ap₂ (reach a.r) e.1 (front-past a.sets.now a.k l.j fits e.0.left))
+    ap (λ (w : ℕ). reach a.r w rest) (t.all-is ∙ t.grown-all.ensures)
+    ∙ sym (ap (reach a.r l.all) (front-next a.sets.now a.k l.j fits t.if-j-k.true)))
+    (λ e. ap₂ (reach a.r) e.all-is (front-past a.sets.now a.k l.j fits e.if-j-k.false))
     c.if-j-k.branch-raw
     ∙ l.invariant
 

@@ -38,11 +38,11 @@ loop-again c r h =
     let fits : k ≤ length sets = omega (arith, s.requires.0, s.requires.1) in
     ⊎_elim
     (λ t.
-    ap (λ (w : ℕ). is_set w r || is_in rest r) t.2
-    ∙ ap (λ (b : Bool). b || is_in rest r) (is_set-or l.some-1 n r)
-    ∙ or_assoc (is_set l.some-1 r) (is_set n r) (is_in rest r)
-    ∙ sym (ap (λ (ns : List ℕ). is_set l.some-1 r || is_in ns r) (front-next sets k l.j fits t.0.taken)))
-    (λ e. ap₂ (λ (w : ℕ) (ns : List ℕ). is_set w r || is_in ns r) e.1 (front-past sets k l.j fits e.0.left))
+    ap (λ (w : ℕ). is_set w r || is_in rest r) t.some-is
+    ∙ ap (λ (b : Bool). b || is_in rest r) (is_set-or l.some n r)
+    ∙ or_assoc (is_set l.some r) (is_set n r) (is_in rest r)
+    ∙ sym (ap (λ (ns : List ℕ). is_set l.some r || is_in ns r) (front-next sets k l.j fits t.if-j-k.true)))
+    (λ e. ap₂ (λ (w : ℕ) (ns : List ℕ). is_set w r || is_in ns r) e.some-is (front-past sets k l.j fits e.if-j-k.false))
     c.if-j-k.branch-raw
     ∙ l.invariant r h
 
@@ -51,8 +51,8 @@ returns c =
     let l = c.before.loop-j in
     let s = c.before.before in
     λ r h.
-    sym (or-false (is_set l.some-1 r))
-    ∙ sym (ap (λ (ns : List ℕ). is_set l.some-1 r || is_in ns r) (front-end s.args.sets.now s.args.k l.j (omega (arith, s.requires.0, s.requires.1)) (omega (arith, s.requires.1, c.loop-j-test.false))))
+    sym (or-false (is_set l.some r))
+    ∙ sym (ap (λ (ns : List ℕ). is_set l.some r || is_in ns r) (front-end s.args.sets.now s.args.k l.j (omega (arith, s.requires.0, s.requires.1)) (omega (arith, s.requires.1, c.loop-j-test.false))))
     ∙ l.invariant r h
 
 pub union_spec : {M : Type 1} → statement M

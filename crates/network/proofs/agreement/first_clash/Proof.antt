@@ -6,7 +6,6 @@ use Prim.Native.Nat.{ℕ, ◌+◌, ◌≤◌, ◌<◌, ◌-◌}
 use native.Mathlib.Omega.{arith}
 use borrow.Author.Rules.{rules}
 use borrow.Author.Count.{below_more}
-use borrow.Author.Tests.{not-true, not-false}
 use lib.ListN.{length, get_or}
 use Rattle.network.proofs.Clash.{Lowest, lowest_start, lowest-passes, lowest-clash, lowest-end, clash-unshared, clash-fitting, clash-unfitting}
 use Rattle.network.proofs.agreement.first_clash.Statement.{statement}
@@ -46,10 +45,10 @@ loop-again c =
       ⊎_elim
           (λ w. subst (Lowest xs vs ys ws (i + 1)) (sym w.lowest-is) (lowest-passes xs vs ys ws inv.1 (clash-unshared xs vs ys ws i (λ l h. inv.2 l (omega (arith, h, w.shared-test))))))
           (⊎_elim
-          (λ w. subst (Lowest xs vs ys ws (i + 1)) (sym (w.10 ∙ w.9.ensures))
-          (lowest-clash xs vs ys ws inv.1 j (clash-unfitting xs vs ys ws start.requires.1 i j (omega (arith, w.0)) w.3.taken (sym w.6.ensures ∙ not-true _ w.7.taken))))
-          (λ w. subst (Lowest xs vs ys ws (i + 1)) (sym w.8)
-          (lowest-passes xs vs ys ws inv.1 (clash-fitting xs vs ys ws start.requires.1 i j (omega (arith, w.0)) w.3.taken (sym w.6.ensures ∙ not-false _ w.7.left)))))
+          (λ w. subst (Lowest xs vs ys ws (i + 1)) (sym (w.lowest-is ∙ w.lesser-lowest.ensures))
+          (lowest-clash xs vs ys ws inv.1 j (clash-unfitting xs vs ys ws start.requires.1 i j (omega (arith, w.shared-test)) w.if-scope_a-i.true (sym w.fit.ensures ∙ w.if-not-fit.true))))
+          (λ w. subst (Lowest xs vs ys ws (i + 1)) (sym w.lowest-is)
+          (lowest-passes xs vs ys ws inv.1 (clash-fitting xs vs ys ws start.requires.1 i j (omega (arith, w.shared-test)) w.if-scope_a-i.true (sym w.fit.ensures ∙ w.if-not-fit.false)))))
           c.shared-test.branch-raw,
     )
 
