@@ -1,10 +1,12 @@
 // The calls from C: numbers and lists of bytes. include/wakhvosi.h says what each byte means.
 #![tactic(auto)]
 
+ghost use Rattle.std.specs.Prelude.{List, ℕ};
 ghost use Rattle.model.specs.Request.{filter, withdraw, choose, choose_several};
 ghost use Rattle.model.specs.Moves.{widen, narrow};
 ghost use Rattle.layout.specs.Loan.{entry};
-ghost use Rattle.encoding.specs.Call.{byte_book, byte_request, left, KeepsBytes, TestedBytes, ComparedBytes, listing, EnumeratesBytes};
+ghost use Rattle.encoding.specs.Packed.{outcome};
+ghost use Rattle.encoding.specs.Call.{byte_book, byte_request, KeepsBytes, TestedBytes, ComparedBytes, listing, EnumeratesBytes};
 ghost use Rattle.byte_moves.specs.Moves.{KeepsMoveBytes};
 
 use byte_calls::NOT_WHOLE;
@@ -16,8 +18,7 @@ use encoding::lengths::{cells_whole, instance_whole, network_whole};
 use model::Value;
 
 // Filters what lives.
-#[unsafe(no_mangle)]
-pub extern "C" fn wakhvosi_filter(
+pub fn wakhvosi_filter(
     sheets: &mut [u8],
     questions: &[u8],
     codes: &[u8],
@@ -26,7 +27,7 @@ pub extern "C" fn wakhvosi_filter(
     marks: &mut [u8],
     supports: &mut [u8],
 ) -> u64
-    ensures { KeepsBytes (byte_request (byte_book entry sheets questions codes m combinations) marks.old supports.old filter) (left result sheets marks supports) }
+    ensures { KeepsBytes (byte_request (byte_book (λ (l : List ℕ). l) sheets.old questions.now codes.now m combinations.now) marks.old supports.old filter) (outcome result sheets.new marks.new supports.new) }
 {
     change_call(
         Call::Filter,
@@ -43,8 +44,7 @@ pub extern "C" fn wakhvosi_filter(
 }
 
 // Withdraws the tuples whose ids are listed, live or dead, and filters what then lives.
-#[unsafe(no_mangle)]
-pub extern "C" fn wakhvosi_withdraw(
+pub fn wakhvosi_withdraw(
     sheets: &mut [u8],
     questions: &[u8],
     codes: &[u8],
@@ -54,7 +54,7 @@ pub extern "C" fn wakhvosi_withdraw(
     supports: &mut [u8],
     ids: &[u8],
 ) -> u64
-    ensures { KeepsBytes (byte_request (byte_book entry sheets questions codes m combinations) marks.old supports.old (withdraw ids.now)) (left result sheets marks supports) }
+    ensures { KeepsBytes (byte_request (byte_book (λ (l : List ℕ). l) sheets.old questions.now codes.now m combinations.now) marks.old supports.old (withdraw ids.now)) (outcome result sheets.new marks.new supports.new) }
 {
     if ids.len() % 2 != 0 {
         return NOT_WHOLE;
@@ -74,8 +74,7 @@ pub extern "C" fn wakhvosi_withdraw(
 }
 
 // Withdraws every tuple that has another value than `code` under variable `question`, and filters what then lives.
-#[unsafe(no_mangle)]
-pub extern "C" fn wakhvosi_choose(
+pub fn wakhvosi_choose(
     sheets: &mut [u8],
     questions: &[u8],
     codes: &[u8],
@@ -86,7 +85,7 @@ pub extern "C" fn wakhvosi_choose(
     question: u16,
     code: Value,
 ) -> u64
-    ensures { KeepsBytes (byte_request (byte_book entry sheets questions codes m combinations) marks.old supports.old (choose question code)) (left result sheets marks supports) }
+    ensures { KeepsBytes (byte_request (byte_book (λ (l : List ℕ). l) sheets.old questions.now codes.now m combinations.now) marks.old supports.old (choose question code)) (outcome result sheets.new marks.new supports.new) }
 {
     change_call(
         Call::Choose(question, code),
@@ -104,8 +103,7 @@ pub extern "C" fn wakhvosi_choose(
 
 // Withdraws every tuple that has, under a variable of `chosen_questions`, another value than `chosen_codes` has in the same place, and
 // filters what then lives.
-#[unsafe(no_mangle)]
-pub extern "C" fn wakhvosi_choose_several(
+pub fn wakhvosi_choose_several(
     sheets: &mut [u8],
     questions: &[u8],
     codes: &[u8],
@@ -116,7 +114,7 @@ pub extern "C" fn wakhvosi_choose_several(
     chosen_questions: &[u8],
     chosen_codes: &[u8],
 ) -> u64
-    ensures { KeepsBytes (byte_request (byte_book entry sheets questions codes m combinations) marks.old supports.old (choose_several chosen_questions.now chosen_codes.now)) (left result sheets marks supports) }
+    ensures { KeepsBytes (byte_request (byte_book (λ (l : List ℕ). l) sheets.old questions.now codes.now m combinations.now) marks.old supports.old (choose_several chosen_questions.now chosen_codes.now)) (outcome result sheets.new marks.new supports.new) }
 {
     if !cells_whole(chosen_questions.len(), chosen_codes.len()) {
         return NOT_WHOLE;
@@ -136,8 +134,7 @@ pub extern "C" fn wakhvosi_choose_several(
 }
 
 // Whether the live tuples are consistent.
-#[unsafe(no_mangle)]
-pub extern "C" fn wakhvosi_test(
+pub fn wakhvosi_test(
     sheets: &[u8],
     questions: &[u8],
     codes: &[u8],
@@ -162,14 +159,7 @@ pub extern "C" fn wakhvosi_test(
 }
 
 // Whether the tuples with ids a and b agree.
-#[unsafe(no_mangle)]
-pub extern "C" fn wakhvosi_compare(
-    sheets: &[u8],
-    questions: &[u8],
-    codes: &[u8],
-    a: u16,
-    b: u16,
-) -> u64
+pub fn wakhvosi_compare(sheets: &[u8], questions: &[u8], codes: &[u8], a: u16, b: u16) -> u64
     ensures { ComparedBytes sheets.now questions.now codes.now a b result }
 {
     if !network_whole(sheets.len(), questions.len(), codes.len()) {
@@ -179,15 +169,14 @@ pub extern "C" fn wakhvosi_compare(
 }
 
 // Lists every connected combination of m members, in order, in front of the bytes lent.
-#[unsafe(no_mangle)]
-pub extern "C" fn wakhvosi_combinations(
+pub fn wakhvosi_combinations(
     sheets: &[u8],
     questions: &[u8],
     codes: &[u8],
     m: u16,
     combinations: &mut [u8],
 ) -> u64
-    ensures { EnumeratesBytes (byte_book entry sheets questions codes m combinations) (listing result combinations.new) }
+    ensures { EnumeratesBytes (byte_book (λ (l : List ℕ). l) sheets.now questions.now codes.now m combinations.old) (listing result combinations.new) }
 {
     if !instance_whole(
         sheets.len(),
@@ -201,13 +190,7 @@ pub extern "C" fn wakhvosi_combinations(
 }
 
 // Moves values of two bytes to values of four, to the front of the target.
-#[unsafe(no_mangle)]
-pub extern "C" fn wakhvosi_widen(
-    sheets: &[u8],
-    questions: &[u8],
-    codes: &[u8],
-    target: &mut [u8],
-) -> u64
+pub fn wakhvosi_widen(sheets: &[u8], questions: &[u8], codes: &[u8], target: &mut [u8]) -> u64
     ensures { KeepsMoveBytes widen sheets.now questions.now codes.now target.old result target.new }
 {
     if !instance_whole(sheets.len(), questions.len(), target.len(), codes.len()) {
@@ -217,13 +200,7 @@ pub extern "C" fn wakhvosi_widen(
 }
 
 // Moves values of four bytes back to values of two.
-#[unsafe(no_mangle)]
-pub extern "C" fn wakhvosi_narrow(
-    sheets: &[u8],
-    questions: &[u8],
-    codes: &[u8],
-    target: &mut [u8],
-) -> u64
+pub fn wakhvosi_narrow(sheets: &[u8], questions: &[u8], codes: &[u8], target: &mut [u8]) -> u64
     ensures { KeepsMoveBytes narrow sheets.now questions.now codes.now target.old result target.new }
 {
     if !instance_whole(sheets.len(), questions.len(), codes.len(), target.len()) {

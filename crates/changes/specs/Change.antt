@@ -9,7 +9,6 @@ use Rattle.model.specs.Request.{Change, Instance, combinations_of}
 use Rattle.model.specs.Fault.{untrue}
 use Rattle.model.specs.Reply.{Reply, leaving, request, replied, Keeps}
 use Rattle.layout.specs.declared.Shape.{Shape}
-use Rattle.layout.specs.Loan.{Loan, entry, exit}
 use Rattle.layout.specs.Shape.{instance_of}
 use Rattle.layout.specs.Setting.{Setting, network, instance_in, Sound}
 use Rattle.engine.specs.Work as engine
@@ -32,14 +31,15 @@ pub record Ready (G : Setting) (words supports counts removed : List ℕ) : Type
   pub tally : length counts ≡ length (network G).relations
   pub removal : request'.Room words removed (total (network G))
 
-abbrev pub Changes : Answer → Setting → Loan → Loan → Loan → List ℕ → Type 0
-Changes a G words supports counts removed =
-    replied a (exit words) (exit supports) (exit counts) ≡ changed (instance_in G) (is_live removed) (entry words) (entry supports)
+-- of each list lent, what it is at entry and what is left of it
+abbrev pub Changes : Answer → Setting → List ℕ → List ℕ → List ℕ → List ℕ → List ℕ → List ℕ → List ℕ → Type 0
+Changes a G words words' supports supports' counts counts' removed =
+    replied a words' supports' counts' ≡ changed (instance_in G) (is_live removed) words supports
 
 -- A change call keeps its contract.
-abbrev pub Replies : Answer → Instance → Loan → Loan → Loan → Change → Type 0
-Replies a I words supports counts change =
-    Keeps (request I (entry words) (entry supports) (entry counts) change) (replied a (exit words) (exit supports) (exit counts))
+abbrev pub Replies : Answer → Instance → List ℕ → List ℕ → List ℕ → List ℕ → List ℕ → List ℕ → Change → Type 0
+Replies a I words words' supports supports' counts counts' change =
+    Keeps (request I words supports counts change) (replied a words' supports' counts')
 
 -- p is the plan of this change on these lists
 abbrev pub PlannedOn : Plan → Instance → List ℕ → List ℕ → List ℕ → Change → Type 0
@@ -53,7 +53,7 @@ pub record Plans (p : Plan) (variables values : List ℕ) (m : ℕ) (members wor
   pub planned : PlannedOn p (instance_of shape variables values m members) words supports counts change
 
 -- .. and for every change that it is one for, the call keeps its contract
-abbrev pub RepliesPlanned : Answer → Plan → List ℕ → List ℕ → ℕ → List ℕ → Loan → Loan → Loan → Type 0
-RepliesPlanned a p variables values m members words supports counts =
+abbrev pub RepliesPlanned : Answer → Plan → List ℕ → List ℕ → ℕ → List ℕ → List ℕ → List ℕ → List ℕ → List ℕ → List ℕ → List ℕ → Type 0
+RepliesPlanned a p variables values m members words words' supports supports' counts counts' =
     (S : Shape) (change : Change) → (let I = instance_of S variables values m members in
-    PlannedOn p I (entry words) (entry supports) (entry counts) change → Replies a I words supports counts change)
+    PlannedOn p I words supports counts change → Replies a I words words' supports supports' counts counts' change)

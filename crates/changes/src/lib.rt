@@ -30,7 +30,7 @@ pub fn change(
     removed: &Words,
 ) -> Answer
     requires { Ready (setting (λ x. x.now) variables values starts members m) words.old supports.old counts.old removed.now }
-    ensures { Changes result (setting entry variables values starts members m) words supports counts removed.now }
+    ensures { Changes result (setting entry variables values starts members m) words.old words.new supports.old supports.new counts.old counts.new removed.now }
 {
     let total = tuple_count(starts);
     let before = count(words, 0, total);
@@ -53,7 +53,7 @@ fn make(
     plan: Plan,
 ) -> Answer
     requires { Plans plan variables.now values.now m members.now words.old supports.old counts.old }
-    ensures { RepliesPlanned result plan variables.now values.now m members.now words supports counts }
+    ensures { RepliesPlanned result plan variables.now values.now m members.now words.old words.new supports.old supports.new counts.old counts.new }
 {
     let fault = plan.fault;
     if fault != 0 {
@@ -77,7 +77,7 @@ pub fn filter(
     supports: &mut [u16],
     counts: &mut [u16],
 ) -> Answer
-    ensures { Replies result (instance_of shape variables.now values.now m members.now) words supports counts filter }
+    ensures { Replies result (instance_of shape variables.now values.now m members.now) words.old words.new supports.old supports.new counts.old counts.new filter }
 {
     let opening = opened(
         shape,
@@ -105,7 +105,7 @@ pub fn withdraw(
     counts: &mut [u16],
     ids: &[u16],
 ) -> Answer
-    ensures { Replies result (instance_of shape variables.now values.now m members.now) words supports counts (withdraw ids.now) }
+    ensures { Replies result (instance_of shape variables.now values.now m members.now) words.old words.new supports.old supports.new counts.old counts.new (withdraw ids.now) }
 {
     let opening = opened(
         shape,
@@ -134,7 +134,7 @@ pub fn choose(
     x: u16,
     v: Value,
 ) -> Answer
-    ensures { Replies result (instance_of shape variables.now values.now m members.now) words supports counts (choose x v) }
+    ensures { Replies result (instance_of shape variables.now values.now m members.now) words.old words.new supports.old supports.new counts.old counts.new (choose x v) }
 {
     let opening = opened(
         shape,
@@ -163,7 +163,7 @@ pub fn choose_several(
     xs: &[u16],
     vs: &[Value],
 ) -> Answer
-    ensures { Replies result (instance_of shape variables.now values.now m members.now) words supports counts (choose_several xs.now vs.now) }
+    ensures { Replies result (instance_of shape variables.now values.now m members.now) words.old words.new supports.old supports.new counts.old counts.new (choose_several xs.now vs.now) }
 {
     let opening = opened(
         shape,

@@ -19,7 +19,6 @@ use Rattle.worklist.specs.Supports.{SupportsFit, PairsBegin, Supported, Done}
 use Rattle.twins.specs.declared.sides.Sides.{Sides}
 use Rattle.twins.specs.Sides.{Sided}
 use Rattle.twins.specs.Twins.{Noted}
-use Rattle.layout.specs.Loan.{Loan, entry, exit}
 use Rattle.layout.specs.Setting.{Setting, network, listed, live_in, Sound}
 use Rattle.layout.specs.Pairs.{combination_of, size_of, tuple_id, place_of, held}
 
@@ -134,6 +133,3 @@ Filtered G words numbers words' numbers' =
     let L = filtered (network G) (listed G) (live_in G words) in
     (words' ≡ written (total (network G)) L words)
     × (numbers' ≡ support_list (network G) (listed G) L ++ drop (needed (network G) (listed G)) numbers)
-
-abbrev pub Filters : Setting → Loan → Loan → Type 0
-Filters G words numbers = Filtered G (entry words) (entry numbers) (exit words) (exit numbers)

@@ -285,7 +285,7 @@ module _ {L : Lists} (laid : SoundLists L) {index : List ℕ} (indexed : Indexed
     agreeing-row first f =
         let a = values_at N r x in
         let b = values_at N s z in
-        let i = f.row.own_val in
+        let i = f.row.own in
         let j = f.column in
         let g = first_id N s + z in
         let row = f.row.row in

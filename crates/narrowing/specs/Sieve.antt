@@ -42,14 +42,19 @@ Sieves N r s words sieve =
 
 -- ---- Its parts
 
+-- the columns have the same variable, if the first is one of scope a's
+abbrev pub Shares : List ℕ → List ℕ → Shared → Type 0
+Shares scope_a scope_b shared =
+    shared.own < length scope_a → (shared.other < length scope_b) × (get_or scope_a shared.own 0 ≡ get_or scope_b shared.other 0)
+
 -- The columns are of these scopes and have the same variable, or both are past all columns.
-pub record Shares (scope_a scope_b : List ℕ) (shared : Shared) : Type 0 where
+pub record CommonColumns (scope_a scope_b : List ℕ) (shared : Shared) : Type 0 where
   pub same : (shared.own ≡ max_width → ⊥) → (shared.own < length scope_a) × (shared.other < length scope_b) × (get_or scope_a shared.own 0 ≡ get_or scope_b shared.other 0)
   pub none : shared.own ≡ max_width → shared.other ≡ max_width
 
 -- .. of the scopes of relations r and s
 abbrev pub SharedIn : Network → ℕ → ℕ → Shared → Type 0
-SharedIn N r s shared = Shares (scope_of N r) (scope_of N s) shared
+SharedIn N r s shared = CommonColumns (scope_of N r) (scope_of N s) shared
 
 -- the bits of the values that live tuples of relation s have in the column are there
 abbrev pub Masks : Network → ℕ → ℕ → List ℕ → ℕ → Type 0

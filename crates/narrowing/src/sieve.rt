@@ -6,7 +6,7 @@ ghost use Rattle.model.specs.Network.{width};
 ghost use Rattle.layout.specs.Loan.{entry};
 ghost use Rattle.layout.specs.Setting.{lists, network_in, SoundLists};
 ghost use Rattle.narrowing.specs.Narrows.{Long};
-ghost use Rattle.narrowing.specs.Sieve.{bits_of, value_in, bits_at, passes_sieve, Sieves, Shares, SharedIn, Masks, TupleIn, ColumnIn};
+ghost use Rattle.narrowing.specs.Sieve.{bits_of, value_in, bits_at, passes_sieve, Sieves, Shares, CommonColumns, SharedIn, Masks, TupleIn, ColumnIn};
 
 use layout::{Starts, column_of, is_any, place_of, tuple_start, variable_start, wide};
 use live::{Words, next};
@@ -76,7 +76,8 @@ pub fn is_in(set: u64, x: u16) -> bool {
 // A column of scope a and one of scope b that have the same variable, none of the set; past all columns where they share none.
 fn shared_columns(scope_a: &[u16], scope_b: &[u16], without: u64) -> Shared
     requires { (length scope_a.now ≤ max_width) × (length scope_b.now ≤ max_width) }
-    ensures { Shares scope_a.now scope_b.now result }
+    ensures shares { Shares scope_a.now scope_b.now result }
+    ensures common { CommonColumns scope_a.now scope_b.now result }
 {
     let mut i: u16 = 0;
     while wide(i) < scope_a.len() {

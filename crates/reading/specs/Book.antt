@@ -3,7 +3,6 @@ use Rattle.std.specs.Prelude.{◌≡◌, Bool, true, false, cond, List, ℕ, ◌
 use Rattle.std.proofs.Math.Option.{Option, none, some}
 use Rattle.model.specs.Request.{Instance}
 use Rattle.model.specs.Reading.{read}
-use Rattle.layout.specs.Loan.{Loan, entry, exit}
 use Rattle.layout.specs.Shape.{shape_of, instance_of}
 use Rattle.reading.specs.declared.Book.{Book}
 use Rattle.reading.specs.Parts.{blank_shape}
@@ -43,8 +42,3 @@ pub record Standing (text : List ℕ) (b : Book) (variables₀ variables values�
   pub variables-filled : Filled b.ok b.variables variables₀ variables
   pub values-filled : Filled b.ok b.values values₀ values
   pub members-filled : Filled b.ok b.members members₀ members
-
--- .. of the lists lent
-abbrev pub Stands : Loan → Book → Loan → Loan → Loan → Type 0
-Stands text b variables values members =
-    Standing (entry text) b (entry variables) (exit variables) (entry values) (exit values) (entry members) (exit members)

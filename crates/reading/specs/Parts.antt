@@ -7,7 +7,6 @@ use Rattle.model.specs.Network.{Network}
 use Rattle.model.specs.Fault.{within}
 use Rattle.model.specs.Text.{max_field, max_code}
 use Rattle.model.specs.Reading.{Read, and_then, read_line, read_lines}
-use Rattle.layout.specs.Loan.{Loan, entry, exit}
 use Rattle.layout.specs.declared.Shape.{Shape}
 use Rattle.layout.specs.Shape.{shape_of, relations_of, network_of}
 use Rattle.reading.specs.declared.Heading.{Heading}
@@ -27,8 +26,8 @@ abbrev pub behind : List ℕ → Read (List ℕ) → Read (List ℕ)
 behind us R = map_read (λ (vs : List ℕ). us ++ vs) R
 
 -- from entry n on the list is as lent
-abbrev pub KeptFrom : ℕ → Loan → Type 0
-KeptFrom n xs = drop n (exit xs) ≡ drop n (entry xs)
+abbrev pub KeptFrom : ℕ → List ℕ → List ℕ → Type 0
+KeptFrom n lent left = drop n left ≡ drop n lent
 
 -- the relations of N, and behind them those of M
 abbrev pub append : Network → Network → Network
@@ -70,11 +69,11 @@ record_of r = record { width = r.width; tuples = r.tuples }
 
 -- r is the relation at a position of the text: its scope now stands in the one list behind the first `variable` entries, and its
 -- values in the other behind the first `value` entries
-abbrev pub RelationRead : Loan → ℕ → ℕ → Loan → ℕ → Loan → ℕ → Record → Type 0
-RelationRead text at room variables variable values value r =
-    let before = unlisted (take variable (entry variables)) (take value (entry values)) in
-    let after = single (record_of r) (take (variable + r.width) (exit variables)) (take (value + r.tuples * r.width) (exit values)) in
-    found_at r.next after (entry text) ≡ map_read (append before) (read_relation room (drop at (entry text)))
+abbrev pub RelationRead : List ℕ → ℕ → ℕ → List ℕ → List ℕ → ℕ → List ℕ → List ℕ → ℕ → Record → Type 0
+RelationRead text at room variables₀ variables variable values₀ values value r =
+    let before = unlisted (take variable variables₀) (take value values₀) in
+    let after = single (record_of r) (take (variable + r.width) variables) (take (value + r.tuples * r.width) values) in
+    found_at r.next after text ≡ map_read (append before) (read_relation room (drop at text))
 
 -- so many records, all noughts
 abbrev pub blank_shape : ℕ → Shape
@@ -89,8 +88,8 @@ abbrev pub listed : Listed → List ℕ → List ℕ → Network
 listed r variables values = network_of r.shape (take r.variables variables) (take r.values values)
 
 -- once all relations are read: behind their records there are noughts, and behind their scopes and values the lists are as lent
-abbrev pub RestKept : Listed → Loan → Loan → Type 0
-RestKept r variables values = 0 < r.next → IsBlankBehind r.shape × KeptFrom r.variables variables × KeptFrom r.values values
+abbrev pub RestKept : Listed → List ℕ → List ℕ → List ℕ → List ℕ → Type 0
+RestKept r variables₀ variables values₀ values = 0 < r.next → IsBlankBehind r.shape × KeptFrom r.variables variables₀ variables × KeptFrom r.values values₀ values
 
 -- ---- The first line
 

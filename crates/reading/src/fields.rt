@@ -79,7 +79,7 @@ pub fn field(text: &[u8], at: usize, top: u32, end: u8) -> Decimal
 pub fn line(text: &[u8], at: usize, top: u32, n: usize, into: &mut [u32], start: usize) -> usize
     requires { (0 < n) × (start + n ≤ length into.old) }
     ensures read { found_at result (take (start + n) into.new) text.now ≡ behind (take start into.old) (read_line top n (drop at text.now)) }
-    ensures kept { KeptFrom (start + n) into }
+    ensures kept { KeptFrom (start + n) into.old into.new }
 {
     let last = start + n - 1;
     let mut from = at;
@@ -110,7 +110,7 @@ pub fn lines(
 ) -> usize
     requires { (0 < at) × (0 < n) × (start + k * n ≤ length into.old) }
     ensures read { found_at result (take (start + k * n) into.new) text.now ≡ behind (take start into.old) (read_lines top k n (drop at text.now)) }
-    ensures kept { KeptFrom (start + k * n) into }
+    ensures kept { KeptFrom (start + k * n) into.old into.new }
 {
     let mut from = at;
     let mut to = start;

@@ -58,8 +58,8 @@ fn relation_at(
     value: usize,
 ) -> Record
     requires { (variable + max_width ≤ length variables.old) × (value + max_width * room ≤ length values.old) }
-    ensures read { RelationRead text at room variables variable values value result }
-    ensures rest { (result.width ≤ max_width) × (result.tuples ≤ room) × KeptFrom (variable + result.width) variables × KeptFrom (value + result.tuples * result.width) values }
+    ensures read { RelationRead text.now at room variables.old variables.new variable values.old values.new value result }
+    ensures rest { (result.width ≤ max_width) × (result.tuples ≤ room) × KeptFrom (variable + result.width) variables.old variables.new × KeptFrom (value + result.tuples * result.width) values.old values.new }
 {
     let r = record_at(text, at, room);
     let record_end = r.next;
@@ -114,7 +114,7 @@ pub fn relations_at(
 ) -> Listed
     requires { (0 < at) × (count ≤ max_relations) × (max_variables ≤ length variables.old) × (max_values ≤ length values.old) }
     ensures read { found_at result.next (listed result variables.new values.new) text.now ≡ read_relations count max_tuples (drop at text.now) }
-    ensures rest { (result.variables ≤ max_variables) × (result.values ≤ max_values) × RestKept result variables values }
+    ensures rest { (result.variables ≤ max_variables) × (result.values ≤ max_values) × RestKept result variables.old variables.new values.old values.new }
 {
     let mut shape = blank(count);
     let mut room = MAX_TUPLES;

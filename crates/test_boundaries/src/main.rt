@@ -5,6 +5,7 @@ use layout::Shape;
 use model::Value;
 use request::checks::checked;
 use request::counts::opened;
+use std::io;
 
 // So many relations, all with this width and tuple count.
 fn uniform(count: usize, width: u16, tuples: u16) -> Shape {
@@ -74,28 +75,26 @@ fn counts(counts: &[u16]) -> u8 {
 }
 
 // A line with the refusal number, 0 where there is none.
-fn say(what: &[u8], fault: u8) {
-    io::write_all(1, what);
-    io::print_decimal(1, fault as u64);
-    io::write_all(1, b"\n");
+fn say(rt: &impl Print, what: &str, fault: u8) -> io::Result<()> {
+    println!(rt; "{what}{fault}")
 }
 
-fn main() {
-    say(b"no sheet: ", sheets(&[0u16; 0]));
-    say(b"64 sheets: ", sheets(&[0u16; 64]));
-    say(b"65 sheets: ", sheets(&[0u16; 65]));
-    say(b"question 63: ", sheets(&[63u16]));
-    say(b"question 64: ", sheets(&[64u16]));
-    say(b"4,096 rows: ", rows(4096, &[0u32; 4096], 64));
-    say(b"4,097 rows: ", rows(4097, &[0u32; 4097], 65));
-    say(b"4,096 rows, 63 words: ", rows(4096, &[0u32; 4096], 63));
-    say(b"m = 1: ", combination(1, &[0u16]));
-    say(b"m = 4: ", combination(4, &[0u16, 1, 2, 3]));
-    say(b"m = 5: ", combination(5, &[0u16, 1, 2, 3, 4]));
-    say(b"2 and 1 living, counted 2 and 1: ", counts(&[2u16, 1]));
-    say(b"2 and 1 living, counted 2 and 0: ", counts(&[2u16, 0]));
-    say(b"2 and 1 living, counted 2 and 2: ", counts(&[2u16, 2]));
-    say(b"2 and 1 living, counted 1 and 2: ", counts(&[1u16, 2]));
-    say(b"2 and 1 living, one count: ", counts(&[2u16]));
-    say(b"2 and 1 living, three counts: ", counts(&[2u16, 1, 0]));
+fn main(rt: HostRuntime) -> io::Result<()> {
+    say(&rt, "no sheet: ", sheets(&[0u16; 0]))?;
+    say(&rt, "64 sheets: ", sheets(&[0u16; 64]))?;
+    say(&rt, "65 sheets: ", sheets(&[0u16; 65]))?;
+    say(&rt, "question 63: ", sheets(&[63u16]))?;
+    say(&rt, "question 64: ", sheets(&[64u16]))?;
+    say(&rt, "4,096 rows: ", rows(4096, &[0u32; 4096], 64))?;
+    say(&rt, "4,097 rows: ", rows(4097, &[0u32; 4097], 65))?;
+    say(&rt, "4,096 rows, 63 words: ", rows(4096, &[0u32; 4096], 63))?;
+    say(&rt, "m = 1: ", combination(1, &[0u16]))?;
+    say(&rt, "m = 4: ", combination(4, &[0u16, 1, 2, 3]))?;
+    say(&rt, "m = 5: ", combination(5, &[0u16, 1, 2, 3, 4]))?;
+    say(&rt, "2 and 1 living, counted 2 and 1: ", counts(&[2u16, 1]))?;
+    say(&rt, "2 and 1 living, counted 2 and 0: ", counts(&[2u16, 0]))?;
+    say(&rt, "2 and 1 living, counted 2 and 2: ", counts(&[2u16, 2]))?;
+    say(&rt, "2 and 1 living, counted 1 and 2: ", counts(&[1u16, 2]))?;
+    say(&rt, "2 and 1 living, one count: ", counts(&[2u16]))?;
+    say(&rt, "2 and 1 living, three counts: ", counts(&[2u16, 1, 0]))
 }

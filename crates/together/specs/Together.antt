@@ -42,8 +42,8 @@ abbrev pub own_size : Joint → ℕ
 own_size Q = size_at Q Q.place
 
 -- the id of its tuple x
-abbrev pub field_own : Joint → ℕ → ℕ
-field_own Q x = tuple_at Q Q.place x
+abbrev pub own_at : Joint → ℕ → ℕ
+own_at Q x = tuple_at Q Q.place x
 
 -- where the numbers of its tuple x begin, if those of tuple 0 begin at `start`
 abbrev pub numbers_at : Joint → ℕ → ℕ → ℕ
@@ -127,11 +127,11 @@ pub record Completes (Q : Joint) (k : ℕ) (chosen words : List ℕ) (x : ℕ) (
 -- the tuples that are live and still seek have none
 abbrev pub NoneLeft : Joint → ℕ → List ℕ → List ℕ → List ℕ → Type 0
 NoneLeft Q k chosen words pending =
-    (x : ℕ) (is : List ℕ) → x < own_size Q → is_live words (field_own Q x) ≡ true → is_live pending (field_own Q x) ≡ true → Completes Q k chosen words x is → ⊥
+    (x : ℕ) (is : List ℕ) → x < own_size Q → is_live words (own_at Q x) ≡ true → is_live pending (own_at Q x) ≡ true → Completes Q k chosen words x is → ⊥
 
 -- Tuple x, which is live, has the first as its numbers.
 pub record Taken (Q : Joint) (start k : ℕ) (chosen words : List ℕ) (x : ℕ) (numbers : List ℕ) : Type 0 where
-  pub lives : is_live words (field_own Q x) ≡ true
+  pub lives : is_live words (own_at Q x) ≡ true
   pub support : List ℕ
   pub completes : Completes Q k chosen words x support
   pub lowest : (us : List ℕ) → Completes Q k chosen words x us → earlier us support ≡ false
@@ -143,20 +143,20 @@ pub record Taken (Q : Joint) (start k : ℕ) (chosen words : List ℕ) (x : ℕ)
 pub record Frames (Q : Joint) (start : ℕ) (before after numbers numbers_after : List ℕ) : Type 0 where
   pub long : Long after
   pub inside : (g : ℕ) → is_live after g ≡ true → is_live before g ≡ true
-  pub outside : (g : ℕ) → (g < field_own Q 0) ⊎ (field_own Q (own_size Q) ≤ g) → is_live after g ≡ is_live before g
+  pub outside : (g : ℕ) → (g < own_at Q 0) ⊎ (own_at Q (own_size Q) ≤ g) → is_live after g ≡ is_live before g
   pub room : length numbers_after ≡ length numbers
   pub elsewhere : (b n : ℕ) → (b + n ≤ start) ⊎ (numbers_at Q start (own_size Q) ≤ b) → take n (drop b numbers_after) ≡ take n (drop b numbers)
-  pub same : (x : ℕ) → x < own_size Q → is_live after (field_own Q x) ≡ is_live before (field_own Q x) → held_at Q start numbers_after x ≡ held_at Q start numbers x
+  pub same : (x : ℕ) → x < own_size Q → is_live after (own_at Q x) ≡ is_live before (own_at Q x) → held_at Q start numbers_after x ≡ held_at Q start numbers x
 
 -- .. and each of these has taken the first support with the tuples chosen.
 pub record Takes (Q : Joint) (start k : ℕ) (chosen words before after numbers numbers_after : List ℕ) : Type 0 where
   pub frames : Frames Q start before after numbers numbers_after
-  pub taken : (x : ℕ) → x < own_size Q → is_live before (field_own Q x) ≡ true → is_live after (field_own Q x) ≡ false → Taken Q start k chosen words x numbers_after
+  pub taken : (x : ℕ) → x < own_size Q → is_live before (own_at Q x) ≡ true → is_live after (own_at Q x) ≡ false → Taken Q start k chosen words x numbers_after
 
 -- .. of which x may be one: if it still seeks, it has none.
 pub record TakesOne (Q : Joint) (start k : ℕ) (chosen words : List ℕ) (x : ℕ) (before after numbers numbers_after : List ℕ) : Type 0 where
   pub takes : Takes Q start k chosen words before after numbers numbers_after
-  pub none : is_live after (field_own Q x) ≡ true → (is : List ℕ) → Completes Q k chosen words x is → ⊥
+  pub none : is_live after (own_at Q x) ≡ true → (is : List ℕ) → Completes Q k chosen words x is → ⊥
 
 -- .. and if steps are left, none of those that still seek has one.
 pub record Seeks (Q : Joint) (start k : ℕ) (chosen words before after numbers numbers_after : List ℕ) (left : ℕ) : Type 0 where
@@ -184,16 +184,16 @@ live_of Q words = living (total (net_of Q)) words
 
 -- tuple x has a support
 abbrev pub Supported : Joint → List ℕ → ℕ → Type 0
-Supported Q words x = (t : List ℕ) × Memᴰ t (candidates (net_of Q) Q.members) × (is_support (net_of Q) (live_of Q words) (field_own Q x) t ≡ true)
+Supported Q words x = (t : List ℕ) × Memᴰ t (candidates (net_of Q) Q.members) × (is_support (net_of Q) (live_of Q words) (own_at Q x) t ≡ true)
 
 -- Tuple x, which is live, has a support, and the first as its numbers.
 pub record HasFirst (Q : Joint) (start : ℕ) (words : List ℕ) (x : ℕ) (numbers : List ℕ) : Type 0 where
-  pub lives : is_live words (field_own Q x) ≡ true
+  pub lives : is_live words (own_at Q x) ≡ true
   pub supported : Supported Q words x
-  pub held : held_at Q start numbers x ≡ first_support (net_of Q) (live_of Q words) Q.members (field_own Q x)
+  pub held : held_at Q start numbers x ≡ first_support (net_of Q) (live_of Q words) Q.members (own_at Q x)
 
 -- Each tuple that seeks no more has its first support; if steps are left, each that is live and still seeks has none.
 pub record Together (Q : Joint) (start : ℕ) (words before after numbers numbers_after : List ℕ) (left : ℕ) : Type 0 where
   pub frames : Frames Q start before after numbers numbers_after
-  pub taken : (x : ℕ) → x < own_size Q → is_live before (field_own Q x) ≡ true → is_live after (field_own Q x) ≡ false → HasFirst Q start words x numbers_after
-  pub none : (left ≡ 0 → ⊥) → (x : ℕ) → x < own_size Q → is_live words (field_own Q x) ≡ true → is_live after (field_own Q x) ≡ true → Supported Q words x → ⊥
+  pub taken : (x : ℕ) → x < own_size Q → is_live before (own_at Q x) ≡ true → is_live after (own_at Q x) ≡ false → HasFirst Q start words x numbers_after
+  pub none : (left ≡ 0 → ⊥) → (x : ℕ) → x < own_size Q → is_live words (own_at Q x) ≡ true → is_live after (own_at Q x) ≡ true → Supported Q words x → ⊥

@@ -55,23 +55,23 @@ bridge_spec =
     (λ c κs. let s = c.before.before.before.before.before in (s.requires.1.0, (s.requires.1.1.0, s.requires.1.1.1.0)))
     (λ c κs. let s = c.before.before.before.before.before.before in (s.requires.1.0, (s.requires.1.1.0, s.requires.1.1.1.1)))
     (λ c κs.
-    let h = c.before in
+    let h = c in
     let s = start h in
     ((s.requires.0, (laid h, s.requires.1.1.1.0)), (other-column (laid h) s.args.r s.args.s _ (second h).shared_of-a.ensures s.requires.1.1.1.0, own-column (laid h) s.args.s s.args.t _ (over h).shared_of-over.ensures s.requires.1.1.1.0)))
     (λ c κs.
-    let h = c.before.before.before in
+    let h = c.before in
     let s = start h in
     ((s.requires.0, (laid h, s.requires.1.1.1.1)), (other-column (laid h) s.args.r s.args.t _ h.shared_of-b.ensures s.requires.1.1.1.1, other-column (laid h) s.args.s s.args.t _ (over h).shared_of-over.ensures s.requires.1.1.1.1)))
     (λ c κs.
     let far = c.before.before.before in
-    let near = far.before.before in
-    let h = near.before.before in
+    let near = far.before in
+    let h = near.before in
     let s = start h in
     ((s.requires.0, (laid h, s.requires.1.1.0)), ((own-column (laid h) s.args.r s.args.s _ (second h).shared_of-a.ensures s.requires.1.1.0, own-column (laid h) s.args.r s.args.t _ h.shared_of-b.ensures s.requires.1.1.0), (near.reached_by-near.ensures.long, far.reached_by-far.ensures.long))))
     (λ c.
     let far = c.before.before.before.before in
-    let near = far.before.before in
-    let h = near.before.before in
+    let near = far.before in
+    let h = near.before in
     let s = start h in
     let a = s.args in (
       narrowing-by (network s) a.r _ (Between (network s) a.r a.s a.t a.words.now)

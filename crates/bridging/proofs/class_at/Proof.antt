@@ -29,4 +29,4 @@ class_at_spec =
     let e = c.before.before in
     let s = e.before.before.before in
     let a = s.args in
-    (c.class_of.ensures.0 ∙ ap (class_of a.factor) c.before.value_at.ensures ∙ sym (ap (λ (b : Bool). cond b 256 (class_of a.factor (value_in (network_in (given s)) a.r a.x a.column))) (ne_eqb a.column 8 e.if-column.false)), c.class_of.ensures.1)))
+    (c.class_of.ensures.0 ∙ ap (class_of a.factor) c.value_at.ensures ∙ sym (ap (λ (b : Bool). cond b 256 (class_of a.factor (value_in (network_in (given s)) a.r a.x a.column))) (ne_eqb a.column 8 e.if-column.false)), c.class_of.ensures.1)))

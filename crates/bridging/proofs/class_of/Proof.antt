@@ -14,16 +14,16 @@ class_of_spec =
     tie.close
     (tie.spec
     (λ c κs. search rules)
-    (λ c. let a = c.before.before.args in (sym (class-any a.factor a.value (sym c.before.is_any.ensures ∙ c.if-is_any.true)), omega arith))
+    (λ c. let a = c.args in (sym (class-any a.factor a.value (sym c.is_any.ensures ∙ c.if-is_any.true)), omega arith))
     (λ c.
-    let a = c.before.before.args in
+    let a = c.args in
     let v : a.value ≤ 4294967295 = search rules in
     let f : a.factor % 65536 ≤ 65535 = omega arith in
     let p = mul-le-mul v f in
     omega (arith, p))
     (λ c κs. search rules)
     (λ c.
-    let a = c.before.before.before.args in
-    let e = sym c.before.before.is_any.ensures ∙ c.before.if-is_any.false in
+    let a = c.args in
+    let e = sym c.is_any.ensures ∙ c.if-is_any.false in
     let q = ap (λ (h : ℕ). h / 16777216) c.mix.ensures ∙ sym (class-is a.factor a.value e) in
     (q, omega (arith, q, class-below a.factor a.value e))))

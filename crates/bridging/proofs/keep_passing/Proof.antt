@@ -40,13 +40,13 @@ module _ (c : tie.After-tuple_start-end invariant-loop decreases-loop) where
   test = Passes network start.args.r start.args.a start.args.b start.args.factor start.args.near.now start.args.far.now
 
   abbrev first : ℕ
-  first = c.before.tuple_start-first.result
+  first = c.tuple_start-first.result
 
   abbrev end : ℕ
   end = c.tuple_start-end.result
 
   first-is : first ≡ first_id network start.args.r
-  first-is = c.before.tuple_start-first.ensures ∙ tuple-start start.requires.0.1.0.framed start.args.r (omega (arith, start.requires.0.1.1))
+  first-is = c.tuple_start-first.ensures ∙ tuple-start start.requires.0.1.0.framed start.args.r (omega (arith, start.requires.0.1.1))
 
   end_is : end ≡ first_id network start.args.r + size network start.args.r
   end_is = c.tuple_start-end.ensures ∙ tuple-end start.requires.0.1.0.framed start.args.r start.requires.0.1.1
@@ -63,17 +63,17 @@ module _ (c : tie.In-loop-g invariant-loop decreases-loop) where
   known = c.before.before.before.before.before
 
   abbrev g : ℕ
-  g = c.before.loop-g.g
+  g = c.loop-g.g
 
   -- the tuple's index
   abbrev x : ℕ
   x = g - first known
 
   index : x < size (network known) (start known).args.r
-  index = omega (arith, first-is known, end_is known, c.loop-g-test.true, c.before.loop-g.invariant.0.0)
+  index = omega (arith, first-is known, end_is known, c.loop-g-test.true, c.loop-g.invariant.0.0)
 
   id : g ≡ first_id (network known) (start known).args.r + x
-  id = omega (arith, first-is known, c.before.loop-g.invariant.0.0)
+  id = omega (arith, first-is known, c.loop-g.invariant.0.0)
 
 loop-holds : tie.Need-loop-g-init invariant-loop decreases-loop
 loop-holds c =
@@ -90,15 +90,15 @@ more c =
     let t = c.before.before in
     let k = known t in
     let s = start k in
-    let l = t.before.loop-g in
+    let l = t.loop-g in
     let Reached : List ℕ → Type 0 = Narrowing (network k) s.args.r (test k) s.args.words.now in
     ⊎_elim
     {C = Reached c.if-not-passes.words}
     (λ w.
     subst Reached (sym (w.words-is ∙ w.clear.ensures ∙ ap (λ (h : ℕ). cleared h l.words) (id t)))
     (narrowing-more (network k) s.args.r (test k) l.invariant.1 (x t) (index t) (omega (arith, id t, few k, t.loop-g-test.true))
-    (λ p. not-both (c.before.passes.ensures p) (not-true _ w.if-not-passes.taken))))
-    (λ w. subst Reached (sym w.1) l.invariant.1)
+    (λ p. not-both (c.passes.ensures p) (not-true _ w.if-not-passes.true-raw))))
+    (λ w. subst Reached (sym w.words-is) l.invariant.1)
     c.if-not-passes.branch-raw
 
 abbrev turned : tie.After-next-g-in-loop-g invariant-loop decreases-loop → tie.Joined-not-passes invariant-loop decreases-loop
@@ -110,14 +110,14 @@ keep_passing_spec =
     (tie.spec
     invariant-loop
     decreases-loop
-    (λ c κs. omega (arith, c.before.before.requires.0.1.1))
+    (λ c κs. omega (arith, c.requires.0.1.1))
     (λ c. search rules)
-    (λ c κs. omega (arith, c.before.before.before.requires.0.1.1))
+    (λ c κs. omega (arith, c.requires.0.1.1))
     (λ c κs. let k = c.before.before in next-asks k (start k).args.words.now (start k).requires.0.0 (first k) (omega (arith, first-is k, end_is k)))
     loop-holds
-    (λ c. c.before.loop-g.invariant.0.0)
+    (λ c. c.loop-g.invariant.0.0)
     (λ c κs. let s = start (known c) in (record { laid = s.requires.0.1.0; own = index c }, s.requires.1))
-    (λ c κs. let t = c.before.before.before in omega (arith, t.before.loop-g.invariant.1.long, few (known t), t.loop-g-test.true))
+    (λ c κs. let t = c.before.before.before in omega (arith, t.loop-g.invariant.1.long, few (known t), t.loop-g-test.true))
     (λ c. let t = c.before.before.before.before in omega (arith, few (known t), t.loop-g-test.true))
     (λ c κs.
     let j = c.before.before in
@@ -132,7 +132,7 @@ keep_passing_spec =
     let j = turned c in
     let t = j.before.before in
     let f = next_live-first j.if-not-passes.words (g t + 1) (end (known t)) (omega (arith, t.loop-g-test.true)) in
-    ((omega (arith, c.next-g-in-loop-g.ensures, f.from-i, t.before.loop-g.inv.0.0), omega (arith, c.next-g-in-loop-g.ensures, f.to_end)), more j))
+    ((omega (arith, c.next-g-in-loop-g.ensures, f.from-i, t.loop-g.invariant.0.0), omega (arith, c.next-g-in-loop-g.ensures, f.to_end)), more j))
     (λ c κs.
     let l = c.before.before.before in
     let k = l.before.before.before.before in

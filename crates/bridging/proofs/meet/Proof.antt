@@ -41,18 +41,18 @@ turn c = c.before.before.before.before.before.before.before
 loop-again : tie.Need-loop-i-preserved invariant-loop decreases-loop
 loop-again c =
     let t = turn c in
-    let l = t.before.loop-i in
-    let a = t.before.before.args in (
+    let l = t.loop-i in
+    let a = t.args in (
       omega (arith, t.loop-i-test.true),
       λ d h n f. go d n f h (ℕ_discrete (d / 64) l.i),
     )
   where
-    go : (d : ℕ) → Reached (turn c).before.before.args.near.now (turn c).before.before.args.a d → Reached (turn c).before.before.args.far.now (turn c).before.before.args.b d → d / 64 < (turn c).before.loop-i.i + 1 → Dec (d / 64 ≡ (turn c).before.loop-i.i) → ⊥
+    go : (d : ℕ) → Reached (turn c).args.near.now (turn c).args.a d → Reached (turn c).args.far.now (turn c).args.b d → d / 64 < (turn c).loop-i.i + 1 → Dec (d / 64 ≡ (turn c).loop-i.i) → ⊥
     go d n f h (yes e) =
         let t = turn c in
-        let a = t.before.before.args in
-        and_none _ _ (d % 64) (reached-bit a.near.now a.a t.before.loop-i.i d e n) (reached-bit a.far.now a.b t.before.loop-i.i d e f) c.if-reached-far-ne0.false
-    go d n f h (no o) = (turn c).before.loop-i.invariant.1 d (omega (arith, h, o)) n f
+        let a = t.args in
+        and_none _ _ (d % 64) (reached-bit a.near.now a.a t.loop-i.i d e n) (reached-bit a.far.now a.b t.loop-i.i d e f) c.if-reached-far-ne0.false
+    go d n f h (no o) = (turn c).loop-i.invariant.1 d (omega (arith, h, o)) n f
 
 pub meet_spec : {M : Type 1} → statement M
 meet_spec =
@@ -61,24 +61,24 @@ meet_spec =
     invariant-loop
     decreases-loop
     (λ c. (omega arith, λ c h. absurd (omega (arith, h))))
-    (λ c. omega (arith, c.before.before.requires.1))
-    (λ c. omega (arith, c.before.before.requires.1, c.loop-i-test.true))
-    (λ c. omega (arith, c.before.before.requires.1, c.loop-i-test.true))
-    (λ c. omega (arith, c.before.before.requires.1, c.loop-i-test.true))
+    (λ c. omega (arith, c.requires.1))
+    (λ c. omega (arith, c.requires.1, c.loop-i-test.true))
+    (λ c. omega (arith, c.requires.1, c.loop-i-test.true))
+    (λ c. omega (arith, c.requires.1, c.loop-i-test.true))
     (λ c. omega arith)
-    (λ c. omega (arith, c.before.loop-i-test.true))
-    (λ c. omega (arith, c.before.loop-i-test.true))
-    (λ c. omega (arith, c.before.loop-i-test.true))
-    (λ c. omega (arith, c.before.before.before.before.requires.1))
-    (λ c. omega (arith, c.before.before.before.before.requires.1, c.before.before.loop-i-test.true))
-    (λ c. omega (arith, c.before.before.before.before.requires.1, c.before.before.loop-i-test.true))
-    (λ c. omega (arith, c.before.before.before.before.requires.1, c.before.before.loop-i-test.true))
+    (λ c. omega (arith, c.loop-i-test.true))
+    (λ c. omega (arith, c.loop-i-test.true))
+    (λ c. omega (arith, c.loop-i-test.true))
+    (λ c. omega (arith, c.requires.1))
+    (λ c. omega (arith, c.requires.1, c.loop-i-test.true))
+    (λ c. omega (arith, c.requires.1, c.loop-i-test.true))
+    (λ c. omega (arith, c.requires.1, c.loop-i-test.true))
     (λ c. omega arith)
-    (λ c. omega (arith, c.before.before.before.loop-i-test.true))
-    (λ c. omega (arith, c.before.before.before.loop-i-test.true))
-    (λ c. omega (arith, c.before.before.before.loop-i-test.true))
+    (λ c. omega (arith, c.loop-i-test.true))
+    (λ c. omega (arith, c.loop-i-test.true))
+    (λ c. omega (arith, c.loop-i-test.true))
     (λ c d h n f. refl)
     (λ c. omega (arith, (turn c).loop-i-test.true))
     (λ c. omega (arith, (turn c).loop-i-test.true))
     loop-again
-    (λ c d h n f. absurd (c.before.loop-i.invariant.1 d (omega (arith, h, c.loop-i-test.false)) n f)))
+    (λ c d h n f. absurd (c.loop-i.invariant.1 d (omega (arith, h, c.loop-i-test.false)) n f)))

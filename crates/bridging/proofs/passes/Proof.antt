@@ -15,11 +15,11 @@ passes_spec =
     (λ c κs. c.class_at.ensures.1)
     (λ c κs. let s = c.before.before.before.before in (s.requires.0, s.requires.1.0.1))
     (λ c κs. c.class_at-2.ensures.1)
-    (λ c κs. let s = c.before.before.before.before.before.before in (s.requires.1.1, (c.before.before.sought_row-first.ensures.1, c.sought_row-second.ensures.1)))
+    (λ c κs. let s = c.before.before.before.before.before.before in (s.requires.1.1, (c.sought_row-first.ensures.1, c.sought_row-second.ensures.1)))
     (λ c P.
     let second = c.before in
     let first = second.before.before in
     let s = first.before.before.before.before in
     c.meet.ensures P.c P.below
-    (subst (λ (n : ℕ). Reached s.args.near.now n P.c) (sym (first.sought_row-first.ensures.0 ∙ ap sought_row first.before.class_at.ensures.0)) P.in_near)
-    (subst (λ (n : ℕ). Reached s.args.far.now n P.c) (sym (second.sought_row-second.ensures.0 ∙ ap sought_row second.before.class_at-2.ensures.0)) P.in-far)))
+    (subst (λ (n : ℕ). Reached s.args.near.now n P.c) (sym (first.sought_row-first.ensures.0 ∙ ap sought_row first.class_at.ensures.0)) P.in_near)
+    (subst (λ (n : ℕ). Reached s.args.far.now n P.c) (sym (second.sought_row-second.ensures.0 ∙ ap sought_row second.class_at-2.ensures.0)) P.in-far)))

@@ -35,13 +35,13 @@ module _ (c : tie.After-tuple_start-end invariant-loop decreases-loop) where
   words = start.args.words.now
 
   abbrev first : ℕ
-  first = c.before.tuple_start-first.result
+  first = c.tuple_start-first.result
 
   abbrev end : ℕ
   end = c.tuple_start-end.result
 
   first-is : first ≡ first_id network start.args.s
-  first-is = c.before.tuple_start-first.ensures ∙ tuple-start start.requires.0.1.0.framed start.args.s (omega (arith, start.requires.0.1.1))
+  first-is = c.tuple_start-first.ensures ∙ tuple-start start.requires.0.1.0.framed start.args.s (omega (arith, start.requires.0.1.1))
 
   end_is : end ≡ first_id network start.args.s + size network start.args.s
   end_is = c.tuple_start-end.ensures ∙ tuple-end start.requires.0.1.0.framed start.args.s start.requires.0.1.1
@@ -61,17 +61,17 @@ module _ (c : tie.In-loop-g invariant-loop decreases-loop) where
   known = c.before.before.before.before
 
   abbrev g : ℕ
-  g = c.before.loop-g.g
+  g = c.loop-g.g
 
   -- the tuple's index
   abbrev y : ℕ
   y = g - first known
 
   index : y < size (network known) (start known).args.s
-  index = omega (arith, first-is known, end_is known, c.loop-g-test.true, c.before.loop-g.invariant.0.0)
+  index = omega (arith, first-is known, end_is known, c.loop-g-test.true, c.loop-g.invariant.0.0)
 
   id : first_id (network known) (start known).args.s + y ≡ g
-  id = omega (arith, first-is known, c.before.loop-g.invariant.0.0)
+  id = omega (arith, first-is known, c.loop-g.invariant.0.0)
 
   ahead : First (is_live (words known)) (g + 1) (end known) (next_live (words known) (g + 1) (end known))
   ahead = next-is known (g + 1) (omega (arith, c.loop-g-test.true))
@@ -102,13 +102,13 @@ loop-again c =
     let t = turn c in
     let k = known t in
     let a = (start k).args in
-    let l = t.before.loop-g in
+    let l = t.loop-g in
     let f = ahead t in
     let e = c.next-g-in-loop-g.ensures in (
-      (omega (arith, e, f.from-i, l.inv.0.0), omega (arith, e, f.to_end)),
+      (omega (arith, e, f.from-i, l.invariant.0.0), omega (arith, e, f.to_end)),
       reaches_more (network k) a.s a.key a.over a.factor (words k) (y t) c.next-g-in-loop-g.result
-          (subst (ReachesBelow (network k) a.s a.key a.over a.factor (words k) l.reached) (sym (id t)) l.inv.1)
-          classes.before.class_at-row.result classes.class_at-class.result classes.before.class_at-row.ensures.0 classes.class_at-class.ensures.0
+          (subst (ReachesBelow (network k) a.s a.key a.over a.factor (words k) l.reached) (sym (id t)) l.invariant.1)
+          classes.class_at-row.result classes.class_at-class.result classes.class_at-row.ensures.0 classes.class_at-class.ensures.0
           once.add.ensures second.add-in-loop-g.ensures
           (λ i h b live. not-both live (f.none_before i (omega (arith, h, id t)) (omega (arith, b, e)))),
     )
@@ -119,22 +119,22 @@ reached_by_spec =
     (tie.spec
     invariant-loop
     decreases-loop
-    (λ c κs. omega (arith, c.before.before.requires.0.1.1))
+    (λ c κs. omega (arith, c.requires.0.1.1))
     (λ c. search rules)
-    (λ c κs. omega (arith, c.before.before.before.requires.0.1.1))
+    (λ c κs. omega (arith, c.requires.0.1.1))
     (λ c κs. let k = c.before in next-asks k (first k) (omega (arith, first-is k, end_is k)))
     loop-holds
-    (λ c. c.before.loop-g.invariant.0.0)
+    (λ c. c.loop-g.invariant.0.0)
     (λ c κs. let s = start (known c) in (record { laid = s.requires.0.1.0; own = index c }, s.requires.1.0))
-    (λ c. c.before.before.loop-g.invariant.0.0)
+    (λ c. c.loop-g.invariant.0.0)
     (λ c κs. let s = start (known c.before) in (record { laid = s.requires.0.1.0; own = index c.before }, s.requires.1.1))
-    (λ c κs. (c.before.before.before.before.loop-g.invariant.1.long, (omega (arith, c.before.before.class_at-row.ensures.1), c.before.class_at-class.ensures.1)))
-    (λ c κs. (c.before.add.ensures.long, (omega arith, c.before.before.before.class_at-class.ensures.1)))
+    (λ c κs. (c.loop-g.invariant.1.long, (omega (arith, c.class_at-row.ensures.1), c.class_at-class.ensures.1)))
+    (λ c κs. (c.add.ensures.long, (omega arith, c.class_at-class.ensures.1)))
     (λ c. let t = c.before.before.before.before.before.before.before in omega (arith, few (known t), t.loop-g-test.true))
     (λ c κs. let t = c.before.before.before.before.before.before.before in next-asks (known t) (g t + 1) (omega (arith, t.loop-g-test.true)))
-    (λ c. let t = turn c in omega (arith, c.next-g-in-loop-g.ensures, (ahead t).from-i, t.loop-g-test.taken))
+    (λ c. let t = turn c in omega (arith, c.next-g-in-loop-g.ensures, (ahead t).from-i, t.loop-g-test.true))
     loop-again
     (λ c.
     let k = c.before.before.before.before in
     let a = (start k).args in
-    reaches_end (network k) a.s a.key a.over a.factor (words k) c.before.loop-g.reached c.before.loop-g.g (omega (arith, end_is k, c.loop-g-test.false)) c.before.loop-g.invariant.1))
+    reaches_end (network k) a.s a.key a.over a.factor (words k) c.loop-g.reached c.loop-g.g (omega (arith, end_is k, c.loop-g-test.false)) c.loop-g.invariant.1))

@@ -10,5 +10,5 @@ pub sought_row_spec : {M : Type 1} → statement M
 sought_row_spec =
     tie.close
     (tie.spec
-    (λ c. let n = c.before.args.class in (sym (ap (λ (b : Bool). cond b 257 n) (eq-eqb n 256 c.if-class-eq-OF_ANY.true)), omega arith))
-    (λ c. let n = c.before.args.class in (sym (ap (λ (b : Bool). cond b 257 n) (ne_eqb n 256 c.if-class-eq-OF_ANY.false)), omega (arith, c.before.requires))))
+    (λ c. let n = c.args.class in (sym (ap (λ (b : Bool). cond b 257 n) (eq-eqb n 256 c.if-class-eq-OF_ANY.true)), omega arith))
+    (λ c. let n = c.args.class in (sym (ap (λ (b : Bool). cond b 257 n) (ne_eqb n 256 c.if-class-eq-OF_ANY.false)), omega (arith, c.requires))))

@@ -16,11 +16,11 @@ unfolding byte_reply
 returns c =
     let a = c.before.before.before.before.before.before.before.before.before.before.args in
     let others = whole_lists (byte_book (λ (l : List ℕ). l) a.sheets.now a.questions.now a.codes.now a.m a.combinations.now) a.marks.now a.supports.now in
-    cond-not _ _ _ (ap (λ (b : Bool). others && b) (sym c.before.cells_Whole.ensures ∙ not-true _ c.if-not-cells_whole.true-raw) ∙ and-false others)
+    cond-not _ _ _ (ap (λ (b : Bool). others && b) (sym c.before.cells_whole.ensures ∙ not-true _ c.if-not-cells_whole.true-raw) ∙ and-false others)
 
 change-call-requires : tie.Need-change_call-requires
 unfolding change_in
-change-call-requires c κs = let passed = c.before.before.before in sym passed.before.cells_Whole.ensures ∙ not-false _ passed.if-not-cells_whole.false-raw
+change-call-requires c κs = let passed = c.before.before.before in sym passed.before.cells_whole.ensures ∙ not-false _ passed.if-not-cells_whole.false-raw
 
 returns-2 : tie.Need-returns
 unfolding change_in

@@ -20,7 +20,7 @@ returns c =
 
 change-call-requires : tie.Need-change_call-requires
 unfolding change_in
-change-call-requires c κs = eq-eqb _ _ c.before.before.before.before.if-ids-ne0.false
+change-call-requires c κs = eq-eqb _ _ c.if-ids-ne0.false
 
 returns-2 : tie.Need-returns
 unfolding change_in

@@ -44,13 +44,13 @@ counts c words enough = (omega arith, omega (arith, all c), omega (arith, all c,
 
 module _ (c : tie.After-remove) where
   abbrev first : tie.After-tuple_count-total
-  first = c.before.before.before.before
+  first = c.before.before.before
 
   abbrev entry : tie.Start
   entry = start first
 
   abbrev cut : List ℕ
-  cut = c.remove.new.0
+  cut = c.remove.new.words
 
   cuts : cut ≡ without_ids (total (network (given entry))) (is_live entry.args.removed.now) entry.args.words.now
   cuts = c.remove.ensures ∙ ap (λ (n : ℕ). without_ids n (is_live entry.args.removed.now) entry.args.words.now) (all first)
@@ -62,13 +62,13 @@ module _ (c : tie.After-remove) where
 
 module _ (c : tie.After-filter) where
   abbrev removed : tie.After-remove
-  removed = c.before.before.before.before.before.before.before
+  removed = c.before.before.before.before.before.before
 
   abbrev final : List ℕ
-  final = c.filter.new.1.1.1.1.1.0
+  final = c.filter.new.words
 
   abbrev numbers : List ℕ
-  numbers = c.filter.new.1.1.1.1.1.1.0
+  numbers = c.filter.new.numbers
 
   after : c.before.before.before.count-kept.result ≡ count (living (total (network (given (entry removed)))) (cut removed))
   after = counted-all _ _ _ _ (all (first removed)) c.before.before.before.count-kept.ensures
@@ -76,34 +76,34 @@ module _ (c : tie.After-filter) where
 -- ---- The needs
 
 count-requires : tie.Need-count-before-requires
-count-requires c κs = let t = c.before in counts t (start t).args.words.now (start t).requires.space.enough
+count-requires c κs = let t = c in counts t (start t).args.words.now (start t).requires.space.enough
 
 remove-requires : tie.Need-remove-requires
-remove-requires c κs = let t = c.before.before.before in subst (Room (start t).args.words.now (start t).args.removed.now) (sym (all t)) (start t).requires.removal
+remove-requires c κs = let t = c.before.before in subst (Room (start t).args.words.now (start t).args.removed.now) (sym (all t)) (start t).requires.removal
 
 count-requires-2 : tie.Need-count-kept-requires
-count-requires-2 c κs = let r = c.before.before.before in counts (first r) (cut r) (cut-enough _ _ _ _ _ (entry r).requires (cut r) (cuts r))
+count-requires-2 c κs = let r = c.before.before in counts (first r) (cut r) (cut-enough _ _ _ _ _ (entry r).requires (cut r) (cuts r))
 
 filter-requires : tie.Need-filter-requires
-filter-requires c κs = let r = c.before.before.before.before.before.before in ((entry r).requires.sound, cut-room _ _ _ _ _ (entry r).requires (cut r) (cuts r))
+filter-requires c κs = let r = c.before.before.before.before.before in ((entry r).requires.sound, cut-room _ _ _ _ _ (entry r).requires (cut r) (cuts r))
 
 count-all-requires : tie.Need-count_all-requires
 count-all-requires c κs =
-    let f = c.before.before.before.before.before.before in
+    let f = c.before.before.before.before.before in
     let r = removed f in
     (final-covered _ _ _ _ _ (entry r).requires (cut r) (cuts r) (final f) (numbers f) f.filter.ensures, (entry r).requires.tally)
 
 answer-for-requires : tie.Need-answer_for-requires
 answer-for-requires c κs =
-    let f = c.before.before.before.before.before.before.before.before.before.before in
+    let f = c.before.before.before.before.before.before.before.before in
     let r = removed f in
     let fewer = final-fewer _ _ _ _ _ (entry r).requires (cut r) (cuts r) (final f) (numbers f) f.filter.ensures _ _ (before r) (after f) in
     (final-covered _ _ _ _ _ (entry r).requires (cut r) (cuts r) (final f) (numbers f) f.filter.ensures, fewer.0, fewer.1)
 
 returns : tie.Need-returns
 returns c =
-    let counted = c.before.before.before.before in
-    let f = counted.before.before.before.before.before.before.before in
+    let counted = c.before.before.before in
+    let f = counted.before.before.before.before.before.before in
     let r = removed f in
     final-reply _ _ _ _ _ (entry r).requires (cut r) (cuts r) (final f) (numbers f) f.filter.ensures _ _ (before r) (after f) c.answer_for.result c.answer_for.ensures _ counted.count_all.ensures
 

@@ -10,7 +10,7 @@ use Rattle.changes.proofs.choose_several.Statement.{statement}
 use Rattle.changes.proofs.choose_several.Tie as tie
 
 abbrev start : tie.After-opened-opening → tie.Start
-start c = c.before.before.before.before.before.before.before.before.before.before.before
+start c = c.before.before.before.before.before.before.before.before.before
 
 planned : (p : tie.After-plan_choose_several-plan) → (let o = p.before.before in let a = (start o).args in PlannedOn p.plan_choose_several-plan.result (instance_of a.shape a.variables.now a.values.now a.m a.members.now) a.words.now a.supports.now a.counts.now (choose_several a.xs.now a.vs.now))
 planned p =

@@ -8,7 +8,7 @@ use Rattle.changes.proofs.filter.Statement.{statement}
 use Rattle.changes.proofs.filter.Tie as tie
 
 abbrev start : tie.After-opened-opening → tie.Start
-start c = c.before.before.before.before.before.before.before.before.before
+start c = c.before.before.before.before.before.before.before
 
 planned : (p : tie.After-plan_filter-plan) → (let o = p.before in let a = (start o).args in PlannedOn p.plan_filter-plan.result (instance_of a.shape a.variables.now a.values.now a.m a.members.now) a.words.now a.supports.now a.counts.now (filter))
 planned p =

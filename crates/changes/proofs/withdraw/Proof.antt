@@ -8,7 +8,7 @@ use Rattle.changes.proofs.withdraw.Statement.{statement}
 use Rattle.changes.proofs.withdraw.Tie as tie
 
 abbrev start : tie.After-opened-opening → tie.Start
-start c = c.before.before.before.before.before.before.before.before.before.before
+start c = c.before.before.before.before.before.before.before.before
 
 planned : (p : tie.After-plan_withdraw-plan) → (let o = p.before.before in let a = (start o).args in PlannedOn p.plan_withdraw-plan.result (instance_of a.shape a.variables.now a.values.now a.m a.members.now) a.words.now a.supports.now a.counts.now (withdraw a.ids.now))
 planned p =

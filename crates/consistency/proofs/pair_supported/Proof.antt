@@ -5,7 +5,7 @@ use mathlib.Core.List.{List}
 use Prim.Native.Nat.{ℕ, ◌+◌, ◌-◌, ◌*◌, ◌/◌, ◌%◌, ◌≤◌, ◌<◌}
 use native.Mathlib.Nat.{add-sub_cancel_left}
 use native.Mathlib.Omega.{arith}
-use lib.ListN.{length, get_or}
+use lib.ListN.{length, get_or, take, drop}
 use borrow.Author.Rules.{rules}
 use Rattle.spreading.proofs.Numbers.{pair-numbers}
 use borrow.Author.Tests.{eq-eqb, ne_eqb}
@@ -111,19 +111,19 @@ abbrev turning : tie.After-has_support-kind invariant-loop decreases-loop → ti
 turning c = c.before.before.before.before.before.before
 
 -- what is answered of the tuple at g
-decided : (c : tie.After-has_support-kind invariant-loop decreases-loop) → (let turn = turning c in let b = begun turn in is_found c.has_support-kind.result ≡ has_support (searched (words_of b) (long b) (row b) turn.before.loop-g.inv.0 turn.loop-g-test.taken (words_of b)))
+decided : (c : tie.After-has_support-kind invariant-loop decreases-loop) → (let turn = turning c in let b = begun turn in is_found c.has_support-kind.result ≡ has_support (searched (words_of b) (long b) (row b) turn.before.loop-g.invariant.0 turn.loop-g-test.true (words_of b)))
 decided c =
     let turn = turning c in
     let b = begun turn in
     let l = turn.before.loop-g in
-    let answered : is_found c.has_support-kind.result ≡ has_support (searched (words_of b) (long b) (row b) l.inv.0 turn.loop-g-test.taken l.lean-1) = rw add-sub_cancel_left at c.has_support-kind.ensures.0 in
-    answered ∙ searched-lean (words_of b) (long b) (row b) l.inv.0 turn.loop-g-test.taken l.inv.2
+    let answered : is_found c.has_support-kind.result ≡ has_support (searched (words_of b) (long b) (row b) l.invariant.0 turn.loop-g-test.true l.lean) = rw add-sub_cancel_left at c.has_support-kind.ensures.0 in
+    answered ∙ searched-lean (words_of b) (long b) (row b) l.invariant.0 turn.loop-g-test.true l.invariant.2
 
 returns : tie.Need-returns-then-kind-ne-FOUND invariant-loop decreases-loop
 returns c =
     let h = c.before in
     let turn = turning h in
-    walk-fails (words_of (begun turn)) (long (begun turn)) (row (begun turn)) turn.before.loop-g.inv.0 turn.loop-g-test.taken (sym (ne_eqb (h.has_support-kind.result % 2) 1 c.if-kind-ne-FOUND.true) ∙ decided h)
+    walk-fails (words_of (begun turn)) (long (begun turn)) (row (begun turn)) turn.before.loop-g.invariant.0 turn.loop-g-test.true (sym (ne_eqb (h.has_support-kind.result % 2) 1 c.if-kind-ne-FOUND.true) ∙ decided h)
 
 -- ---- After the words are made lean
 
@@ -131,32 +131,33 @@ lean-once-hard-requires : tie.Need-lean_once_hard-tried-requires invariant-loop 
 lean-once-hard-requires c κs =
     let turn = turning c.before.before.before in
     let a = entry (begun turn) in
-    (turn.before.loop-g.inv.2.long, rw add-sub_cancel_left (pair-asks (asked a).sound a.args.p (asked a).pair))
+    (turn.before.loop-g.invariant.2.long, rw add-sub_cancel_left (pair-asks (asked a).sound a.args.p (asked a).pair))
 
 abbrev sought : tie.After-lean_once_hard-tried invariant-loop decreases-loop → tie.After-has_support-kind invariant-loop decreases-loop
 sought c = c.before.before.before.before
 
 abbrev lean-after : tie.After-lean_once_hard-tried invariant-loop decreases-loop → List ℕ
-lean-after c = c.lean_once_hard-tried.new.1.1.1.1.1.1.1.0
+lean-after c = c.lean_once_hard-tried.new.words
 
 leaner : (c : tie.After-lean_once_hard-tried invariant-loop decreases-loop) → (let turn = turning (sought c) in let a = entry (begun turn) in LeanFrom (G a).lists (combination_of (G a) a.args.p) (a.args.p % a.args.m) turn.before.loop-g.lean (lean-after c))
 leaner c = rw add-sub_cancel_left at c.lean_once_hard-tried.ensures
 
 -- the fresh tuples
-beside : (c : tie.After-lean_once_hard-tried invariant-loop decreases-loop) → (let h = sought c in let a = entry (begun (turning h)) in FreshIn (G a) a.args.p (lean-after c) h.has_support-kind.last.1.1.1.1.1.1.1.1.1.0)
+beside : (c : tie.After-lean_once_hard-tried invariant-loop decreases-loop) → (let h = sought c in let a = entry (begun (turning h)) in FreshIn (G a) a.args.p (lean-after c) h.has_support-kind.new.fresh)
 beside c =
     let h = sought c in
     let turn = turning h in
     let a = entry (begun turn) in
-    let fresh = h.has_support-kind.last.1.1.1.1.1.1.1.1.1.0 in
-    let met : 1 < length (combination_of (G a) a.args.p) → Meets (network (G a)) (combination_of (G a) a.args.p) (a.args.p % a.args.m) turn.before.loop-g.lean fresh = rw add-sub_cancel_left at h.has_support-kind.ensures.1.0.1 in
+    let fresh = h.has_support-kind.new.fresh in
+    let met : 1 < length (combination_of (G a) a.args.p) → Meets (network (G a)) (combination_of (G a) a.args.p) (a.args.p % a.args.m) turn.before.loop-g.lean fresh =
+    subst (λ (n : ℕ). let part = take n (drop (base a) a.args.members.now) in 1 < length part → Meets (network (G a)) part (a.args.p % a.args.m) turn.before.loop-g.lean fresh) (add-sub_cancel_left (base a) a.args.m) h.has_support-kind.ensures.1.0.1 in
     (h.has_support-kind.ensures.1.0.0, λ two. meets-fewer (network (G a)) (combination_of (G a) a.args.p) (a.args.p % a.args.m) turn.before.loop-g.lean (lean-after c) fresh (leaner c).1 (met two))
 
 lean : (c : tie.After-lean_once_hard-tried invariant-loop decreases-loop) → (let a = entry (begun (turning (sought c))) in LeanIn (G a) a.args.p a.args.words.now (lean-after c))
 lean c =
     let turn = turning (sought c) in
     let a = entry (begun turn) in
-    lean-both (G a).lists (combination_of (G a) a.args.p) (a.args.p % a.args.m) turn.before.loop-g.inv.2 (leaner c).0
+    lean-both (G a).lists (combination_of (G a) a.args.p) (a.args.p % a.args.m) turn.before.loop-g.invariant.2 (leaner c).0
 
 steps-once-hard-requires : tie.Need-steps_once_hard-steps-requires invariant-loop decreases-loop
 steps-once-hard-requires c κs =
@@ -169,8 +170,8 @@ steps-once-hard-requires c κs =
 loop-less : tie.Need-loop-g-smaller invariant-loop decreases-loop
 loop-less c =
     let turn = turning (sought c.before.before.before.before.before) in
-    let f = next-ahead (entry (begun turn)).args.words.now turn.loop-g-test.taken in
-    omega (arith, f.0, f.1, c.next-g-in-loop-g.ensures, turn.loop-g-test.taken)
+    let f = next-ahead (entry (begun turn)).args.words.now turn.loop-g-test.true in
+    omega (arith, f.0, f.1, c.next-g-in-loop-g.ensures, turn.loop-g-test.true)
 
 loop-again : tie.Need-loop-g-preserved invariant-loop decreases-loop
 loop-again c =
@@ -180,7 +181,7 @@ loop-again c =
     let b = begun turn in
     let a = entry b in (
       subst (WalkAt (G a) a.args.words.now a.args.p (first b) b.tuple_start-end.result) (sym c.next-g-in-loop-g.ensures)
-          (walk-goes (words_of b) (long b) (row b) turn.before.loop-g.inv.0 turn.loop-g-test.taken (sym (eq-eqb (h.has_support-kind.result % 2) 1 k.before.before.before.if-kind-ne-FOUND.false) ∙ decided h)),
+          (walk-goes (words_of b) (long b) (row b) turn.before.loop-g.invariant.0 turn.loop-g-test.true (sym (eq-eqb (h.has_support-kind.result % 2) 1 k.before.before.before.if-kind-ne-FOUND.false) ∙ decided h)),
       beside k,
       lean k,
       h.has_support-kind.ensures.1.1.0,
@@ -209,7 +210,7 @@ pair_supported_spec =
     (λ c. omega (arith, within (entry (begun c.before))))
     (λ c. omega (arith, within (entry (begun c.before))))
     (λ c. omega (arith, (asked (entry (begun c.before.before))).sound.paired.list.positive))
-    (λ c. c.before.before.before.loop-g.invariant.0.from_First)
+    (λ c. c.before.before.before.loop-g.invariant.0.from_first)
     has-support-requires
     returns
     (λ c. let a = entry (begun (turning c.before)) in omega (arith, within a, (asked a).sound.paired.list.short))
@@ -224,8 +225,8 @@ pair_supported_spec =
     (λ c. within (entry (begun (turning (sought c.before)))))
     (λ c. omega (arith, (asked (entry (begun (turning (sought c.before.before))))).sound.paired.list.positive))
     steps-once-hard-requires
-    (λ c. let turn = turning (sought c.before.before.before.before) in omega (arith, turn.loop-g-test.taken, (asks (begun turn) turn.before.loop-g.g turn.before.loop-g.inv.0.to_end).2))
-    (λ c κs. let turn = turning (sought c.before.before.before.before) in asks (begun turn) (turn.before.loop-g.g + 1) (omega (arith, turn.loop-g-test.taken)))
+    (λ c. let turn = turning (sought c.before.before.before.before) in omega (arith, turn.loop-g-test.true, (asks (begun turn) turn.before.loop-g.g turn.before.loop-g.invariant.0.to_end).2))
+    (λ c κs. let turn = turning (sought c.before.before.before.before) in asks (begun turn) (turn.before.loop-g.g + 1) (omega (arith, turn.loop-g-test.true)))
     loop-less
     loop-again
     (λ c. let l = c.before in let b = l.before.before.before.before in walk_ends (words_of b) (long b) (row b) l.loop-g.invariant.0 c.loop-g-test.false))

@@ -37,10 +37,10 @@ module _ (c : tie.After-words_for) where
   opened = passed.before.before
 
   abbrev lists : Setting
-  lists = let a = (start opened).args in given a.shape a.variables.now a.values.now a.m a.members.now a.words.now (length a.words.now) refl opened.test_checked-opening.result opened.test_checked-opening.ensures passed.if-opening-ne0.left
+  lists = let a = (start opened).args in given a.shape a.variables.now a.values.now a.m a.members.now a.words.now (length a.words.now) refl opened.test_checked-opening.result opened.test_checked-opening.ensures passed.if-opening-ne0.false
 
   sound : Sound lists
-  sound = let a = (start opened).args in given-sound a.shape a.variables.now a.values.now a.m a.members.now a.words.now (length a.words.now) refl opened.test_checked-opening.result opened.test_checked-opening.ensures passed.if-opening-ne0.left
+  sound = let a = (start opened).args in given-sound a.shape a.variables.now a.values.now a.m a.members.now a.words.now (length a.words.now) refl opened.test_checked-opening.result opened.test_checked-opening.ensures passed.if-opening-ne0.false
 
   all : c.before.tuple_count.result ≡ total (network lists)
   all = c.before.tuple_count.ensures ∙ tuple-count sound.laid.framed
@@ -48,7 +48,7 @@ module _ (c : tie.After-words_for) where
   few : (c.words_for.result ≤ 64) × (c.words_for.result ≤ length (start opened).args.words.now)
   few =
       let a = (start opened).args in
-      let enough = given-enough a.shape a.variables.now a.values.now a.m a.members.now a.words.now (length a.words.now) refl opened.test_checked-opening.result opened.test_checked-opening.ensures passed.if-opening-ne0.left in (
+      let enough = given-enough a.shape a.variables.now a.values.now a.m a.members.now a.words.now (length a.words.now) refl opened.test_checked-opening.result opened.test_checked-opening.ensures passed.if-opening-ne0.false in (
         omega (arith, c.words_for.ensures, all, tuples-few sound.laid.framed),
         omega (arith, c.words_for.ensures, all, enough),
       )
@@ -72,7 +72,7 @@ reply c b e =
     let o = opened w in
     let a = (start o).args in
     let copy = c.before.before.before.before.copied-live in
-    tested-reply a.shape a.variables.now a.values.now a.m a.members.now a.words.now (length a.words.now) refl o.test_checked-opening.result o.test_checked-opening.ensures (passed w).if-opening-ne0.left copy.result w.words_for.result (enough w) copy.ensures.same b
+    tested-reply a.shape a.variables.now a.values.now a.m a.members.now a.words.now (length a.words.now) refl o.test_checked-opening.result o.test_checked-opening.ensures (passed w).if-opening-ne0.false copy.result w.words_for.result (enough w) copy.ensures.same b
     (sym e ∙ c.all_supported.ensures ∙ ap (λ (G : Setting). all_consistent G copy.result) (same c.before.before))
 
 pub test_spec : {M : Type 1} → statement M

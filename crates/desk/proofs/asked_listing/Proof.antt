@@ -62,7 +62,7 @@ returns-2 c =
     let told : combination_listing (m e) (take (length (input e) - next e) (drop (next e) (input e))) ≡ asked_listing (input e) =
     ap (combination_listing (m e)) (behind (next e) (input e)) ∙ asked-some (input e) (m e) (drop (next e) (input e)) (read e)
     in
-    (k.ensures.0, subst (λ (t : List ℕ). (k.result ≡ length t) × (k.new.1.1.0 ≡ t ++ drop k.result e.before.before.before.before.args.out.now)) told k.ensures.1)
+    (k.ensures.0, subst (λ (t : List ℕ). (k.result ≡ length t) × (k.new.out ≡ t ++ drop k.result e.before.before.before.before.args.out.now)) told k.ensures.1)
 
 pub asked_listing_spec : {M : Type 1} → statement M
 asked_listing_spec =

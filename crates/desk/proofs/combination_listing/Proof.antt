@@ -21,7 +21,7 @@ module _ (c : tie.After-opened-book) where
   start = c.before.before.before.before.before
 
   abbrev instance : Instance
-  instance = instance_in c.opened-book.result c.opened-book.new.1.0 c.opened-book.new.1.1.0 c.opened-book.new.1.1.1.0
+  instance = instance_in c.opened-book.result c.opened-book.new.variables c.opened-book.new.values c.opened-book.new.members
 
   -- the text's listing
   abbrev whole : List ℕ

@@ -28,13 +28,13 @@ instance c = instance_of c.args.shape c.args.variables.now c.args.values.now c.a
 
 -- the words, the support numbers and the counts that the call leaves
 abbrev words : tie.After-filter-answer → List ℕ
-words c = c.filter-answer.new.1.1.1.1.1.0
+words c = c.filter-answer.new.words
 
 abbrev numbers : tie.After-filter-answer → List ℕ
-numbers c = c.filter-answer.new.1.1.1.1.1.1.0
+numbers c = c.filter-answer.new.supports
 
 abbrev counts : tie.After-filter-answer → List ℕ
-counts c = c.filter-answer.new.1.1.1.1.1.1.1.0
+counts c = c.filter-answer.new.counts
 
 few : (s : tie.Start) → s.args.shape.count ≤ length s.args.shape.tuples
 few s =

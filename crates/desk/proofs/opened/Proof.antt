@@ -18,13 +18,13 @@ use Rattle.desk.proofs.opened.Tie as tie
 -- the lists of fields, as they were read
 module _ (c : tie.After-read-book) where
   abbrev fields : List ℕ
-  fields = c.read-book.new.1.0
+  fields = c.read-book.new.variables
 
   abbrev values : List ℕ
-  values = c.read-book.new.1.1.0
+  values = c.read-book.new.values
 
   abbrev listed : List ℕ
-  listed = c.read-book.new.1.1.1.0
+  listed = c.read-book.new.members
 
   fields-long : length fields ≡ max_variables
   fields-long = search rules
@@ -58,8 +58,8 @@ returns-2 c =
     let first = c.before.before.before in
     let r = read_at first.before.before.before in
     let b = r.read-book.result in
-    let variables = first.copied.new.1.0 in
-    let members = c.copied-2.new.1.0 in
+    let variables = first.copied.new.into in
+    let members = c.copied-2.new.into in
     let v : length variables ≡ max_variables = search rules in
     let m : length members ≡ max_member_list = search rules in
     opened_some r.read-book.ensures variables members (v ∙ sym (fields-long r)) (m ∙ sym (listed-long r))

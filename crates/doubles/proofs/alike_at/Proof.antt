@@ -10,7 +10,7 @@ use Rattle.doubles.proofs.alike_at.Statement.{statement}
 use Rattle.doubles.proofs.alike_at.Tie as tie
 
 abbrev start : tie.After-y-1 → tie.Start
-start c = c.before.before.before
+start c = c.before.before.before.before
 
 -- the place is one of the table's
 inside : (s : tie.Start) → s.args.place < length s.args.table.now

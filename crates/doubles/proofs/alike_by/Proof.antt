@@ -15,36 +15,36 @@ start c = c.before.before.before.before
 
 -- the table once x is sought at the first place
 abbrev between : tie.After-alike_at-y → List ℕ
-between c = c.Alike-at.new.1.1.1.0
+between c = c.alike_at-y.new.table
 
 next-below : (s : tie.Start) → (s.args.place + 1) % 2048 < places
 next-below s = mod-lt (s.args.place + 1) (let l : 0 < 2048 = omega arith in l)
 
 returns-2 : tie.Need-returns-then-table-place
 returns-2 c =
-    record { entered = c.before.before.before.Alike-at.ensures.entered; entry = λ l. absurd (omega arith); alike = λ l. absurd (omega arith) }
+    record { entered = c.alike_at-y.ensures.entered; entry = λ l. absurd (omega arith); alike = λ l. absurd (omega arith) }
 
 alike-at-requires-2 : tie.Need-alike_at-requires
 alike-at-requires-2 c κs =
     let t = c.before.before.before.before in
-    let s = start t in
-    (s.requires.0, t.Alike-at.ensures.entered.0 ∙ s.requires.1, next-below s)
+    let s = start t.before in
+    (s.requires.0, t.alike_at-y.ensures.entered.0 ∙ s.requires.1, next-below s)
 
 returns-3 : tie.Need-returns
 returns-3 c =
     let t = c.before.before.before.before.before in
-    let s = start t in
-    alike-after s.args.x s.args.table.now (between t) c.alike_at.new.1.1.1.0 t.Alike-at.ensures.entered c.alike_at.ensures
+    let s = start t.before in
+    alike-after s.args.x s.args.table.now (between t.before) c.alike_at.new.table t.alike_at-y.ensures.entered c.alike_at.ensures
 
 pub alike_by_spec : {M : Type 1} → statement M
 alike_by_spec =
     tie.close
     (tie.spec
     (λ c κs. let s = c.before.before.before in s.requires)
-    (λ c. c.before.Alike-at.ensures)
+    (λ c. c.before.alike_at-y.ensures)
     (λ c. let s = start c.before in omega (arith, s.requires.2))
-    (λ c. let s = start c.before in s.requires.2)
+    (λ c. let s = start c.before.before in s.requires.2)
     returns-2
-    (λ c. let s = start c.before.before.before.before in omega (arith, s.requires.2))
+    (λ c. let s = start c.before.before.before.before.before in omega (arith, s.requires.2))
     alike-at-requires-2
     returns-3)

@@ -7,7 +7,7 @@ use Rattle.doubles.proofs.alike_soon.Statement.{statement}
 use Rattle.doubles.proofs.alike_soon.Tie as tie
 
 abbrev start : tie.After-y-1 → tie.Start
-start c = c.before.before.before.before
+start c = c.before.before.before.before.before
 
 pub alike_soon_spec : {M : Type 1} → statement M
 alike_soon_spec =

@@ -19,8 +19,8 @@ loop-again : tie.Need-loop-c-preserved invariant-loop decreases-loop
 loop-again c =
     ⊎_elim
     {C = c.if-has_variable.hash < hash_bound}
-    (λ w. subst (λ (h : ℕ). h < hash_bound) (sym w.3) w.2.ensures)
-    (λ w. subst (λ (h : ℕ). h < hash_bound) (sym w.1) c.before.before.before.before.loop-c.invariant)
+    (λ w. subst (λ (h : ℕ). h < hash_bound) (sym w.hash-is) w.mixed-hash.ensures)
+    (λ w. subst (λ (h : ℕ). h < hash_bound) (sym w.hash-is) c.before.before.before.before.loop-c.invariant)
     c.if-has_variable.branch-raw
 
 pub hash_in_spec : {M : Type 1} → statement M

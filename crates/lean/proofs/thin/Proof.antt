@@ -75,34 +75,34 @@ module _ (turn : tie.In-loop-g invariant-loop decreases-loop) where
   x = g - first begun
 
   is-g : g ≡ first_id (N begun) (start begun).args.r + x
-  is-g = omega (arith, first-is begun, turn.before.loop-g.inv.1.0)
+  is-g = omega (arith, first-is begun, turn.before.loop-g.invariant.1.0)
 
   x-in : x < size (N begun) (start begun).args.r
-  x-in = omega (arith, first-is begun, end_is begun, turn.before.loop-g.inv.1.0, turn.loop-g-test.taken)
+  x-in = omega (arith, first-is begun, end_is begun, turn.before.loop-g.invariant.1.0, turn.loop-g-test.true)
 
   room : g < 64 * length turn.before.loop-g.words
-  room = omega (arith, few begun, turn.loop-g-test.taken, turn.before.loop-g.inv.0.thinned.long)
+  room = omega (arith, few begun, turn.loop-g-test.true, turn.before.loop-g.invariant.0.thinned.long)
 
 -- one tuple more
 more : (c : tie.Joined-first_alike-x invariant-loop decreases-loop) →
     let turn = c.before.before.before in
     let b = begun turn in
-    Thinning (L b) (start b).args.common (start b).args.r (start b).args.words.now c.if-first_alike-x.words c.before.first_alike.new.1.1.1.0
+    Thinning (L b) (start b).args.common (start b).args.r (start b).args.words.now c.if-first_alike-x.words c.before.first_alike.new.table
 more c =
     let turn = c.before.before.before in
     let l = turn.before.loop-g in
     let b = begun turn in
     let s = start b in
-    let table = c.before.first_alike.new.1.1.1.0 in
+    let table = c.before.first_alike.new.table in
     let after : List ℕ → Type 0 = λ words. Thinning (L b) s.args.common s.args.r s.args.words.now words table in
     let small : first_id (N b) s.args.r + x turn < 4096 = omega (arith, is-g turn, few b, turn.loop-g-test.true) in
     let lives = subst (λ (h : ℕ). is_live l.words h ≡ true) (is-g turn) (l.invariant.1.2 turn.loop-g-test.true) in
     ⊎_elim
     {C = after c.if-first_alike-x.words}
     (λ w.
-    subst after (sym (w.3 ∙ w.2.ensures ∙ ap (λ (h : ℕ). cleared h l.words) (is-g turn)))
-    (thinning-cleared (L b) s.args.common s.args.r s.args.words.now l.invariant.0 (x turn) (x-in turn) small lives c.before.first_alike.result c.before.first_alike.ensures w.0.taken))
-    (λ w. subst after (sym w.1) (thinning-kept (L b) s.args.common s.args.r s.args.words.now l.invariant.0 (x turn) (x-in turn) small lives c.before.first_alike.result c.before.first_alike.ensures))
+    subst after (sym (w.words-is ∙ w.clear.ensures ∙ ap (λ (h : ℕ). cleared h l.words) (is-g turn)))
+    (thinning-cleared (L b) s.args.common s.args.r s.args.words.now l.invariant.0 (x turn) (x-in turn) small lives c.before.first_alike.result c.before.first_alike.ensures w.if-first_alike-x.true))
+    (λ w. subst after (sym w.words-is) (thinning-kept (L b) s.args.common s.args.r s.args.words.now l.invariant.0 (x turn) (x-in turn) small lives c.before.first_alike.result c.before.first_alike.ensures))
     c.if-first_alike-x.branch-raw
 
 abbrev turned : tie.After-next-g-in-loop-g invariant-loop decreases-loop → tie.Joined-first_alike-x invariant-loop decreases-loop
@@ -119,8 +119,8 @@ comes-again c =
     let j = turned c in
     let turn = j.before.before.before in
     let b = begun turn in
-    let f = next_live-first j.if-first_alike-x.words (g turn + 1) (end b) (omega (arith, turn.loop-g-test.taken)) in
-    (subst (Comes j.if-first_alike-x.words (first b) (end b)) (sym c.next-g-in-loop-g.ensures) (comes-next j.if-first_alike-x.words (first b) (g turn + 1) (end b) (omega (arith, turn.before.loop-g.inv.1.0)) (omega (arith, turn.loop-g-test.taken))), omega (arith, c.next-g-in-loop-g.ensures, f.from-i))
+    let f = next_live-first j.if-first_alike-x.words (g turn + 1) (end b) (omega (arith, turn.loop-g-test.true)) in
+    (subst (Comes j.if-first_alike-x.words (first b) (end b)) (sym c.next-g-in-loop-g.ensures) (comes-next j.if-first_alike-x.words (first b) (g turn + 1) (end b) (omega (arith, turn.before.loop-g.invariant.1.0)) (omega (arith, turn.loop-g-test.true))), omega (arith, c.next-g-in-loop-g.ensures, f.from-i))
 
 pub thin_spec : {M : Type 1} → statement M
 thin_spec =
@@ -138,6 +138,6 @@ thin_spec =
     (λ c κs. room c.before.before.before.before)
     (λ c. let turn = c.before.before.before.before.before in omega (arith, turn.loop-g-test.true, few (begun turn)))
     next-requires-2
-    (λ c. let k = comes-again c in let turn = (turned c).before.before.before in omega (arith, k.0.1, k.1, turn.loop-g-test.taken))
+    (λ c. let k = comes-again c in let turn = (turned c).before.before.before in omega (arith, k.0.1, k.1, turn.loop-g-test.true))
     (λ c. (more (turned c), (comes-again c).0))
     (λ c. c.before.loop-g.invariant.0.thinned))

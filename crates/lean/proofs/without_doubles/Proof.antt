@@ -40,9 +40,9 @@ loop-again c =
     ⊎_elim
     {C = so_far c.if-j-place.words}
     (λ w.
-    let F = thinned-lean (L s) s.args.members.now s.args.place s.requires.1 l.j w.1.result turn.loop-j-test.true w.0.taken (λ i h d v e. w.1.ensures i (omega arith) h d v e) w.4.ensures in
-    subst so_far (sym w.5) (lean-both (L s) s.args.members.now s.args.place l.invariant.0 F.0, λ g e. l.invariant.1 g (F.1 g e)))
-    (λ w. subst so_far (sym w.1) l.invariant)
+    let F = thinned-lean (L s) s.args.members.now s.args.place s.requires.1 l.j w.variables_from-common.result turn.loop-j-test.true w.if-j-place.true (λ i h d v e. w.variables_from-common.ensures i (omega arith) h d v e) w.thin.ensures in
+    subst so_far (sym w.words-is) (lean-both (L s) s.args.members.now s.args.place l.invariant.0 F.0, λ g e. l.invariant.1 g (F.1 g e)))
+    (λ w. subst so_far (sym w.words-is) l.invariant)
     c.if-j-place.branch-raw
 
 pub without_doubles_spec : {M : Type 1} → statement M
@@ -54,7 +54,7 @@ without_doubles_spec =
     (λ c. let s = c.before.before.before in lean-same (L s) s.args.members.now s.args.place s.args.words.now s.requires.0)
     (λ c κs. let s = begun c.before.before in record { laid = s.requires.1.laid; exist = member-exists (L s) s.args.members.now s.args.place s.requires.1 })
     (λ c. search rules)
-    (λ c. c.before.before.before.loop-j-test.true)
+    (λ c. c.loop-j-test.true)
     (λ c κs. let turn = c.before.before.before.before in let s = begun turn.before in (turn.before.loop-j.invariant.0.long, (s.requires.1.laid, below s turn.before.loop-j.j turn.loop-j-test.true)))
     (λ c. search rules)
     (λ c. search rules)

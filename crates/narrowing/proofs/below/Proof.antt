@@ -11,25 +11,25 @@ use Rattle.narrowing.proofs.below.Tie as tie
 
 returns : tie.Need-returns-then-bound-base
 returns c =
-    let a = c.before.args in
+    let a = c.args in
     (omega arith, λ j l. below_none a.base a.bound j c.if-bound-base.true)
 
 returns-2 : tie.Need-returns-then-k-ge64
 returns-2 c =
-    let a = c.before.before.args in
+    let a = c.args in
     (omega arith, λ j l. below_all a.base a.bound j c.if-k-ge64.true l)
 
 sub-result : tie.Need-overflow_sub-result
 sub-result c =
-    let k = c.before.before.args.bound - c.before.before.args.base in
+    let k = c.args.bound - c.args.base in
     rw (one_shl k c.if-k-ge64.false) (pow_pos k)
 
 returns-3 : tie.Need-returns
 returns-3 c =
-    let a = c.before.before.args in
+    let a = c.args in
     let k = a.bound - a.base in (
       rw (one_shl k c.if-k-ge64.false) (omega (arith, pow-lt c.if-k-ge64.false)),
-      λ j l. below-some a.base a.bound j c.before.if-bound-base.false c.if-k-ge64.false,
+      λ j l. below-some a.base a.bound j c.if-bound-base.false c.if-k-ge64.false,
     )
 
 pub below_spec : {M : Type 1} → statement M

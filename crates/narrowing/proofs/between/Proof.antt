@@ -9,8 +9,8 @@ use Rattle.narrowing.proofs.between.Tie as tie
 returns : tie.Need-returns
 returns c =
     let high = c.below-2 in
-    let low = c.before.below in
-    let a = c.before.before.args in
+    let low = c.below in
+    let a = c.args in
     between-bits a.i a.start a.end low.result high.result low.ensures.0 low.ensures.1 high.ensures.0 high.ensures.1
 
 pub between_spec : {M : Type 1} → statement M

@@ -20,13 +20,13 @@ module _ (w : tie.After-wide-last) where
 
   -- the words of the first id and of the last one
   abbrev i : ℕ
-  i = w.before.wide-i.result
+  i = w.wide-i.result
 
   abbrev last : ℕ
   last = w.wide-last.result
 
   edges : Edges start.args.start start.args.end i last
-  edges = record { some = w.before.before.if-end-start.false; first = omega (arith, w.before.wide-i.ensures.0); final = omega (arith, w.wide-last.ensures.0) }
+  edges = record { some = w.if-end-start.false; first = omega (arith, w.wide-i.ensures.0); final = omega (arith, w.wide-last.ensures.0) }
 
   -- their words have a place in the row
   inside : start.args.first + (last + 1) ≤ length start.args.rows.now
@@ -66,7 +66,7 @@ keep_spec =
     (λ c κs. search rules)
     (λ c κs. let w = c.before in let n = inside w in let r = edges-rise (edges w) in ((start w).requires.0, (omega arith, omega (arith, short w))))
     (λ c. search rules)
-    (λ c κs. let w = c.before.before.before.before in let n = inside w in (c.before.before.keep_word.ensures.0, (omega arith, (omega (arith, c.before.if-i-last.true), omega (arith, short w)))))
-    (λ c κs. let w = c.before.before.before.before.before.before in let n = inside w in (c.before.keep_words.ensures.0, (omega arith, short w)))
+    (λ c κs. let w = c.before.before.before.before in let n = inside w in (c.keep_word.ensures.0, (omega arith, (omega (arith, c.if-i-last.true), omega (arith, short w)))))
+    (λ c κs. let w = c.before.before.before.before.before.before in let n = inside w in (c.keep_words.ensures.0, (omega arith, short w)))
     returns-2
     returns-3)

@@ -15,7 +15,7 @@ use Rattle.narrowing.proofs.keep_word.Tie as tie
 
 returns : tie.Need-returns
 returns c =
-    let mask = c.before.between in
+    let mask = c.between in
     let s = c.before.before.before.before in
     let a = s.args in
     let ws = a.words.now in

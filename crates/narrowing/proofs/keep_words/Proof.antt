@@ -30,7 +30,7 @@ loop-holds c =
 loop-again : tie.Need-loop-i-preserved invariant-loop decreases-loop
 loop-again c =
     let turn = c.before.before in
-    let l = turn.before.loop-i in
+    let l = turn.loop-i in
     let s = turn.before.before in
     let a = s.args in
     let inv = l.invariant in
@@ -44,7 +44,7 @@ loop-again c =
           length-set l.words l.i _ ∙ inv.1.1.0,
           kept_on (row_bit a.rows.now a.first) (64 * a.from) (64 * l.i) (64 * (l.i + 1)) a.words.now l.words _ on further inv.1.1.1
               (kept_word (row_bit a.rows.now a.first) l.i _ l.words inside
-              (λ j h. is_set-and (get_or l.words-1 l.i 0) _ j ∙ ap (λ (x : Bool). is_set (get_or l.words-1 l.i 0) j && x) (row-at a.rows.now a.first l.i j h))),
+              (λ j h. is_set-and (get_or l.words l.i 0) _ j ∙ ap (λ (x : Bool). is_set (get_or l.words l.i 0) j && x) (row-at a.rows.now a.first l.i j h))),
         ),
       ),
     )
@@ -53,7 +53,7 @@ returns : tie.Need-returns invariant-loop decreases-loop
 returns c =
     let s = c.before.before in
     let a = s.args in
-    let l = c.before.loop-i in
+    let l = c.loop-i in
     let e : l.i ≡ a.to = omega (arith, c.loop-i-test.false, l.invariant.1.0) in
     (l.invariant.1.1.0, subst (λ (n : ℕ). Kept (row_bit a.rows.now a.first) a.from n a.words.now l.words) e l.invariant.1.1.1)
 

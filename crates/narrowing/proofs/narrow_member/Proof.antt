@@ -30,13 +30,13 @@ module _ (c : tie.After-tuple_start-end) where
   s = start.args.s
 
   abbrev from-id : ℕ
-  from-id = c.before.tuple_start-start.result
+  from-id = c.tuple_start-start.result
 
   abbrev to-id : ℕ
   to-id = c.tuple_start-end.result
 
   own-ids : IdsOf (network_in L) start.args.index.now s from-id to-id
-  own-ids = ids-of laid start.requires.1.0.indexed s _ _ start.requires.1.1 c.before.tuple_start-start.ensures c.tuple_start-end.ensures
+  own-ids = ids-of laid start.requires.1.0.indexed s _ _ start.requires.1.1 c.tuple_start-start.ensures c.tuple_start-end.ensures
 
   -- the relation of the tuple
   own : start.args.r ≤ 63
@@ -78,7 +78,7 @@ returns-2 c =
     let a = (start w).args in
     let N = network_in (L w) in
     let left = c.keep_rows.result in
-    let rows = found.rows_for-n.new.1.1.1.1.1.1.1.0 in
+    let rows = found.rows_for-n.new.rows in
     let kept = c.keep_rows.ensures in (
       kept.long,
       (

@@ -36,16 +36,16 @@ abbrev own : tie.Start invariant-loop decreases-loop → ℕ
 own s = first_id (network s) s.args.r + s.args.x
 
 -- the member reached is one to narrow
-later : (c : tie.Then-j-place invariant-loop decreases-loop) → let s = start c.before.before in Later s.args.members.now s.args.place s.args.k c.before.before.loop-j.j
+later : (c : tie.Then-j-place invariant-loop decreases-loop) → let s = start c.before.before in Later s.args.members.now s.args.place s.args.k c.loop-j.j
 later c =
     record {
-      from-k = c.before.before.loop-j.invariant.0;
-      inside = c.before.loop-j-test.true;
+      from-k = c.loop-j.invariant.0;
+      inside = c.loop-j-test.true;
       other = c.if-j-place.true;
     }
 
 abbrev after : tie.After-narrow_member invariant-loop decreases-loop → List ℕ
-after n = n.narrow_member.new.1.1.1.1.0
+after n = n.narrow_member.new.words
 
 -- .. and narrowed
 one_more : (n : tie.After-narrow_member invariant-loop decreases-loop) → let l = n.before.before.before.before.before in Narrowed (network (start l)) (own (start l)) (start l).args.words.now (after n)
@@ -78,7 +78,7 @@ returns c =
         one_more n,
         λ e.
             record {
-              j = turn.before.before.loop-j.j;
+              j = turn.loop-j.j;
               later = later turn;
               dead = n.narrow_member.ensures.1.1 (not-true n.narrow_member.result c.if-not-narrow_member.true-raw);
             },
@@ -95,19 +95,22 @@ passed c =
     (λ w.
     let n : tie.After-narrow_member invariant-loop decreases-loop =
     record {
-      before = record { before = record { before = record { before = c.before; if1 = w.0 }; narrow-member-arg = w.1 }; shared-slice-known4 = w.2 };
-      narrow-member = w.3;
+      before = record {
+        before = record { before = record { before = c.before; if-j-place = w.if-j-place }; narrow_member-arg-1 = w.narrow_member-arg-1 };
+        shared_slice_known-then-j-place-1 = w.shared_slice_known-then-j-place-1;
+      };
+      narrow_member = w.narrow_member;
     } in
-    subst Passed (sym w.5) (n.narrow_member.ensures.0, one_more n))
-    (λ w. subst Passed (sym w.1) l.loop-j.invariant.1)
+    subst Passed (sym w.words-is) (n.narrow_member.ensures.0, one_more n))
+    (λ w. subst Passed (sym w.words-is) l.loop-j.invariant.1)
     c.if-j-place.branch-raw
 
 loop-again : tie.Need-loop-j-preserved invariant-loop decreases-loop
-loop-again c = let k = c.before.before.loop-j.invariant.0 in (omega arith, passed c)
+loop-again c = let k = c.loop-j.invariant.0 in (omega arith, passed c)
 
 returns-2 : tie.Need-returns invariant-loop decreases-loop
 returns-2 c =
-    let l = c.before.loop-j in
+    let l = c.loop-j in
     (l.invariant.1.0, (l.invariant.1.1, λ e. absurd (not-both refl e)))
 
 pub narrow_members_spec : {M : Type 1} → statement M

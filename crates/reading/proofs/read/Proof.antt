@@ -47,16 +47,16 @@ module _ (c : tie.After-relations_at-listed) where
   abbrev network : Network
   network =
       let r = c.relations_at-listed.result in
-      network_of r.shape-1 (take r.variables c.relations_at-listed.new.1.1.1.0) (take r.values c.relations_at-listed.new.1.1.1.1.0)
+      network_of r.shape (take r.variables c.relations_at-listed.new.variables) (take r.values c.relations_at-listed.new.values)
 
-  long : (max_variables ≤ length c.relations_at-listed.new.1.1.1.0) × (max_values ≤ length c.relations_at-listed.new.1.1.1.1.0)
+  long : (max_variables ≤ length c.relations_at-listed.new.variables) × (max_values ≤ length c.relations_at-listed.new.values)
   long = (search rules, search rules)
 
   -- .. as they were lent
   abbrev start : tie.Start
   start = headed.before.before.before.before.before
 
-  same-long : (length c.relations_at-listed.new.1.1.1.0 ≡ length start.args.variables.now) × (length c.relations_at-listed.new.1.1.1.1.0 ≡ length start.args.values.now)
+  same-long : (length c.relations_at-listed.new.variables ≡ length start.args.variables.now) × (length c.relations_at-listed.new.values ≡ length start.args.values.now)
   same-long = (search rules, search rules)
 
 -- past the combinations
@@ -65,7 +65,7 @@ module _ (c : tie.After-lines-end) where
   listed = c.before.before.before.before
 
   abbrev members : List ℕ
-  members = c.lines-end.new.1.1.1.1.1.0
+  members = c.lines-end.new.into
 
   members-long : length members ≡ length (start listed).args.members.now
   members-long = search rules
@@ -117,13 +117,13 @@ returns-4 c =
     let after = c.before.before in
     let headed = headed (listed after) in
     let absent = instance-read after ∙ found_none (text headed) after.lines-end.result (whole-instance after) c.before.if-end-eq0.true in
-    stands-none (text headed) _ _ _ _ _ _ c.nothing-then-end-eq0.result (read_none (text headed) headed.before.before.before.if-text-gt-MAX_TEXT.left absent) c.nothing-then-end-eq0.ensures (same-long (listed after)).0 (same-long (listed after)).1 (members-long after)
+    stands-none (text headed) _ _ _ _ _ _ c.nothing-then-end-eq0.result (read_none (text headed) headed.before.before.before.if-text-gt-MAX_TEXT.false absent) c.nothing-then-end-eq0.ensures (same-long (listed after)).0 (same-long (listed after)).1 (members-long after)
 
 returns-5 : tie.Need-returns-then-end-text
 returns-5 c =
     let after = c.before.before.before in
     let headed = headed (listed after) in
-    stands-none (text headed) _ _ _ _ _ _ c.nothing-then-end-text.result (read_more (text headed) headed.before.before.before.if-text-gt-MAX_TEXT.left (whole-instance after) after.lines-end.result (instance-read after) c.before.before.if-end-eq0.false c.before.if-end-text.true) c.nothing-then-end-text.ensures (same-long (listed after)).0 (same-long (listed after)).1 (members-long after)
+    stands-none (text headed) _ _ _ _ _ _ c.nothing-then-end-text.result (read_more (text headed) headed.before.before.before.if-text-gt-MAX_TEXT.false (whole-instance after) after.lines-end.result (instance-read after) c.before.before.if-end-eq0.false c.before.if-end-text.true) c.nothing-then-end-text.ensures (same-long (listed after)).0 (same-long (listed after)).1 (members-long after)
 
 returns-6 : tie.Need-returns
 returns-6 c =
@@ -131,17 +131,17 @@ returns-6 c =
     let headed = headed (listed after) in
     let r = (listed after).relations_at-listed in
     let lengths = long (listed after) in
-    let variables-fit : r.result.variables ≤ length r.last.1.1.1.0 = omega (arith, r.ensures.1.0, lengths.0) in
-    let values-fit : r.result.values ≤ length r.last.1.1.1.1.0 = omega (arith, r.ensures.1.1, lengths.1) in
+    let variables-fit : r.result.variables ≤ length r.new.variables = omega (arith, r.ensures.1.0, lengths.0) in
+    let values-fit : r.result.values ≤ length r.new.values = omega (arith, r.ensures.1.1, lengths.1) in
     let rest = r.ensures.1.2 (positive r.result.next after.before.before.if-listed-eq0.false) in
     let k = (heading headed).combinations * (heading headed).m in
     let lent = (start (listed after)).args.members.now in
     let Members-kept = subst (λ (i : ℕ). drop i (members after) ≡ drop i lent) (zero-add k) after.lines-end.ensures.1 in
     stands-some (text headed) _ _ _ _ _ _ r.result.shape (heading headed).m r.result.variables r.result.values k
     rest.0
-    (read_some (text headed) headed.before.before.before.if-text-gt-MAX_TEXT.left (whole-instance after) after.lines-end.result (instance-read after) c.before.before.if-end-eq0.false c.before.if-end-text.false)
-    (filled true r.result.variables _ r.last.1.1.1.0 variables-fit (same-long (listed after)).0 (λ _. rest.1))
-    (filled true r.result.values _ r.last.1.1.1.1.0 values-fit (same-long (listed after)).1 (λ _. rest.2))
+    (read_some (text headed) headed.before.before.before.if-text-gt-MAX_TEXT.false (whole-instance after) after.lines-end.result (instance-read after) c.before.before.if-end-eq0.false c.before.if-end-text.false)
+    (filled true r.result.variables _ r.new.variables variables-fit (same-long (listed after)).0 (λ _. rest.1))
+    (filled true r.result.values _ r.new.values values-fit (same-long (listed after)).1 (λ _. rest.2))
     (filled true k _ (members after) (omega (arith, few headed, members-room after)) (members-long after) (λ _. Members-kept))
 
 pub read_spec : {M : Type 1} → statement M

@@ -64,7 +64,7 @@ returns-4 c =
       W.0.long,
       (
         keeps-bridge (network s) s.args.members.now s.requires.0.1.0.1 (first e).other_from-a.result (second e).other_from-b.result s.args.j (a_in e) (b-in e) f.inside
-            (λ q. a.not-j (a_in e) (sym q)) (λ q. b.not-j (b-in e) (sym q)) (λ q. omega (arith, q, b.behind)) s.args.words.now c.bridge.new.1.1.1.0 W.0 s.args.place s.args.from
+            (λ q. a.not-j (a_in e) (sym q)) (λ q. b.not-j (b-in e) (sym q)) (λ q. omega (arith, q, b.behind)) s.args.words.now c.bridge.new.words W.0 s.args.place s.args.from
             (⊎_elim (λ l. omega (arith, l, f.behind)) f.other),
         λ q. record { j = s.args.j; later = record { from-k = f.behind; inside = f.inside; other = f.other }; dead = W.1 q },
       ),
@@ -80,16 +80,16 @@ bridge_step_spec =
     (λ c κs. search rules)
     (λ c. none c.before.before.before.before.before.before.before)
     (λ c. search rules)
-    (λ c. let e = c.before.before in (start e).requires.1.inside)
-    (λ c. let e = c.before.before in omega (arith, a_in e, (start e).requires.0.1.0.1.few))
-    (λ c. a_in c.before.before.before)
-    (λ c. let e = c.before.before.before in omega (arith, b-in e, (start e).requires.0.1.0.1.few))
-    (λ c. b-in c.before.before.before.before)
+    (λ c. let e = c.before in (start e).requires.1.inside)
+    (λ c. let e = c.before in omega (arith, a_in e, (start e).requires.0.1.0.1.few))
+    (λ c. a_in c.before.before)
+    (λ c. let e = c.before.before in omega (arith, b-in e, (start e).requires.0.1.0.1.few))
+    (λ c. b-in c.before.before.before)
     (λ c κs.
-    let e = c.before.before.before.before in
+    let e = c.before.before.before in
     let s = start e in
     (s.requires.0.0, (s.requires.0.1.0.0.laid.framed, (few s s.args.j s.requires.1.inside, (few s (first e).other_from-a.result (a_in e), few s (second e).other_from-b.result (b-in e))))))
-    (λ c. none (start c.before.before.before.before.before.before))
+    (λ c. none (start c.before.before.before.before.before))
     (λ c. search rules)
     (λ c. (start (chosen c.before)).requires.0.1.1)
     (λ c κs. let s = start (chosen c.before) in few s s.args.place s.requires.0.1.1)

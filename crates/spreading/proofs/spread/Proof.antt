@@ -75,7 +75,7 @@ loop-holds c =
 
 gather-requires : tie.Need-gather-requires invariant-loop decreases-loop
 gather-requires c κs =
-    let turn = c.before.before in
+    let turn = c.before in
     let l = turn.before.loop-g in
     let read = reading turn.before in
     let s = start read in (
@@ -86,7 +86,7 @@ gather-requires c κs =
 loop-again : tie.Need-loop-g-preserved invariant-loop decreases-loop
 loop-again c =
     let done = c.before.before.before in
-    let turn = done.before.before.before in
+    let turn = done.before.before in
     let l = turn.before.loop-g in
     let read = reading turn.before in
     let s = start read in
@@ -101,10 +101,10 @@ loop-again c =
         (omega (arith, n, f.from-i, l.invariant.1.0.0), omega (arith, n, f.to_end)),
         (
           λ h. subst (λ (k : ℕ). is_live a.words.now k ≡ true) (sym n) (f.passes (omega (arith, n, h))),
-          gathered-more (network read) a.r a.s a.words.now a.words.now l.sum-1 done.gather.new.1.1.1.1.1.0 y c.next-g-in-loop-g.result
+          gathered-more (network read) a.r a.s a.words.now a.words.now l.sum done.gather.new.to y c.next-g-in-loop-g.result
               (λ k h i e. not-both e (f.none_before k (omega (arith, h, is-g)) (omega (arith, i, n))))
               done.gather.ensures.1
-              (subst (Gathered (network read) a.r a.s a.words.now a.words.now l.sum-1) (sym is-g) l.invariant.1.1.1),
+              (subst (Gathered (network read) a.r a.s a.words.now a.words.now l.sum) (sym is-g) l.invariant.1.1.1),
         ),
       ),
     )
@@ -131,7 +131,7 @@ keep-requires : tie.Need-keep-requires invariant-loop decreases-loop
 keep-requires c κs =
     let t = c.before.before in
     let l = (walked t).before.loop-g in
-    ((start (at_first t)).requires.0, (to-few t, omega (arith, to-few t, l.inv.0)))
+    ((start (at_first t)).requires.0, (to-few t, omega (arith, to-few t, l.invariant.0)))
 
 returns-2 : tie.Need-returns invariant-loop decreases-loop
 returns-2 c =
@@ -139,11 +139,11 @@ returns-2 c =
     let t = k.before.before.before in
     let l = (walked t).before.loop-g in
     let s = start (at_first t) in
-    let after = k.keep.new.1.0 in (
+    let after = k.keep.new.words in (
       k.keep.ensures.0,
       (
-        spread-kept (network (at_first t)) s.args.s t.before.tuple_start-from.result t.tuple_start-to.result s.args.words.now l.sum-1 after (from_is t) (to_is t) k.keep.ensures.1 s.args.r
-            (λ x z hx hz p lx lz. l.inv.1.1.1 x z hx (omega (arith, end_is (at_first t), (walked t).loop-g-test.false, hx)) lx hz p lz),
+        spread-kept (network (at_first t)) s.args.s t.before.tuple_start-from.result t.tuple_start-to.result s.args.words.now l.sum after (from_is t) (to_is t) k.keep.ensures.1 s.args.r
+            (λ x z hx hz p lx lz. l.invariant.1.1.1 x z hx (omega (arith, end_is (at_first t), (walked t).loop-g-test.false, hx)) lx hz p lz),
         λ e.
             let past = ltb-false c.next.result t.tuple_start-to.result e in
             dead-past (network (at_first t)) s.args.s t.before.tuple_start-from.result t.tuple_start-to.result (from_is t) (to_is t) after (omega (arith, past, c.next.ensures)),
@@ -163,12 +163,12 @@ spread_spec =
     (λ c. let s = start c.before.before.before.before in (s.requires.0, (spread_none _ _ _ _, λ e. absurd (not-both refl e))))
     (λ c κs. let read = ranged c.before.before in walks read read.before.tuple_start-first.result (omega (arith, first-is read, end_is read)))
     loop-holds
-    (λ c. let l = c.before.before.before in omega (arith, first-is (reading l), l.loop-g.invariant.1.0.0))
+    (λ c. let l = c.before.before in omega (arith, first-is (reading l), l.loop-g.invariant.1.0.0))
     gather-requires
-    (λ c. let turn = c.before.before.before.before.before in omega (arith, turn.loop-g-test.true, few (reading turn.before)))
-    (λ c κs. let turn = c.before.before.before.before.before in walks (reading turn.before) (turn.before.loop-g.g + 1) (omega (arith, turn.loop-g-test.true)))
+    (λ c. let turn = c.before.before.before.before in omega (arith, turn.loop-g-test.true, few (reading turn.before)))
+    (λ c κs. let turn = c.before.before.before.before in walks (reading turn.before) (turn.before.loop-g.g + 1) (omega (arith, turn.loop-g-test.true)))
     (λ c.
-    let turn = c.before.before.before.before.before.before in
+    let turn = c.before.before.before.before.before in
     let read = reading turn.before in
     let f = next-is read (turn.before.loop-g.g + 1) (omega (arith, turn.loop-g-test.true)) in
     omega (arith, c.next-g-in-loop-g.ensures, f.from-i, f.to_end, turn.loop-g-test.true))

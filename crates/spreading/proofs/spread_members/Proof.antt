@@ -28,11 +28,11 @@ network s = network_in (record { variables = s.args.variables.now; values = s.ar
 -- one step more
 more : (c : tie.After-spread_step invariant-loop decreases-loop) →
     let s = start c.before.before.before in
-    KeepsSupports (network s) s.args.members.now s.args.place s.args.from s.args.words.now c.spread_step.new.1.1.1.1.0
+    KeepsSupports (network s) s.args.members.now s.args.place s.args.from s.args.words.now c.spread_step.new.words
 more c =
     let l = c.before.before.before in
     let s = start l in
-    keeps_on (network s) s.args.members.now s.args.place s.args.from s.args.words.now l.loop-left.words c.spread_step.new.1.1.1.1.0 l.loop-left.invariant.1 c.spread_step.ensures.1.0
+    keeps_on (network s) s.args.members.now s.args.place s.args.from s.args.words.now l.loop-left.words c.spread_step.new.words l.loop-left.invariant.1 c.spread_step.ensures.1.0
 
 pub spread_members_spec : {M : Type 1} → statement M
 spread_members_spec =

@@ -48,7 +48,7 @@ returns-7 c =
     let f = c.spread.ensures in (
       f.0,
       (
-        keeps-step (network s) a.members.now s.requires.1.0.1 a.i a.j (e2 e).before.if-members-i.false (e2 e).if-members-j.false (e3 e).if-i-j.false a.words.now c.spread.new.1.1.1.1.0 f.1.0 a.place a.from
+        keeps-step (network s) a.members.now s.requires.1.0.1 a.i a.j (e2 e).before.if-members-i.false (e2 e).if-members-j.false (e3 e).if-i-j.false a.words.now c.spread.new.words f.1.0 a.place a.from
             (⊎_elim (λ l. omega (arith, l, (e4 e).if-j-from.false)) e.if-j-place.false),
         λ q. record { j = a.j; later = record { from-k = omega (arith, (e4 e).if-j-from.false); inside = (e2 e).if-members-j.false; other = e.if-j-place.false }; dead = f.1.1 q },
       ),

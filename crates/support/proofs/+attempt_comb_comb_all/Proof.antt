@@ -162,7 +162,7 @@ module _ (t : ℕ) where
     start = chosen.before.before.before.before.before.before.before.before.before
 
     abbrev fewer : List ℕ
-    fewer = n.narrow_members.last.1.1.1.1.0
+    fewer = n.narrow_members.new.words
 
     over : Fewer (given start) (latest start) fewer
     over = fewer-words (given start) (ready start) (latest start) fewer n.narrow_members.ensures.1.0 n.narrow_members.ensures.0
@@ -198,8 +198,8 @@ module _ (t : ℕ) where
       let b = chosen n in
       let a = start n in
       let s = b.past_own-stage.result in
-      let f : fit a ≡ true = sym j.before.before.fits2.ensures ∙ j.before.if-fits.true in
-      let e = flag a.args.resumes (eqb a.args.x (get_or a.args.low a.args.k 0)) j.if-resumes.resuming (⊎_elim (λ w. ◌⊎◌.inl (w.0.taken, w.1)) (λ w. ◌⊎◌.inr (w.0.left, w.1)) j.if-resumes.branch-raw) in
+      let f : fit a ≡ true = sym j.before.before.fits.ensures ∙ j.before.if-fits.true in
+      let e = flag a.args.resumes (eqb a.args.x (get_or a.args.low a.args.k 0)) j.if-resumes.resuming (⊎_elim (λ w. ◌⊎◌.inl (w.if-resumes.true, w.resuming-is)) (λ w. ◌⊎◌.inr (w.if-resumes.false, w.resuming-is)) j.if-resumes.branch-raw) in
       let on = behind-is (turn a) a.args.x s (staged b) in (
         omega (arith, a.requires.0, (turn a).inside, behind-forth (turn a) a.args.x s (staged b), on, (tries a).further),
         (
@@ -215,7 +215,7 @@ module _ (t : ℕ) where
   attempt-returns c =
       let j = c.before.before in
       let n = j.before.before.before.before in
-      c.comb_all.ensures ∙ narrowed-ahead n (sym j.before.before.fits2.ensures ∙ j.before.if-fits.true)
+      c.comb_all.ensures ∙ narrowed-ahead n (sym j.before.before.fits.ensures ∙ j.before.if-fits.true)
 
 -- ---- comb
 
@@ -260,7 +260,7 @@ module _ (t : ℕ) where
     origin = covering.before.before.before.before.before.before.before
 
     abbrev arrived : WalkAt (combed origin) origin.args.k origin.args.resumes origin.args.chosen l.before.loop-g.g
-    arrived = l.before.loop-g.inv.0
+    arrived = l.before.loop-g.invariant.0
 
     head-is : covering.before.before.tuple_start-first.result ≡ (line origin).first
     head-is = covering.before.before.tuple_start-first.ensures
@@ -269,7 +269,7 @@ module _ (t : ℕ) where
     tail-is = covering.before.tuple_start-end.ensures
 
     in-line : l.before.loop-g.g < (line origin).end
-    in-line = omega (arith, l.loop-g-test.taken, tail-is)
+    in-line = omega (arith, l.loop-g-test.true, tail-is)
 
     from-head : (line origin).first ≤ l.before.loop-g.g
     from-head = (come-from (combing origin) l.before.loop-g.g arrived).0
@@ -305,12 +305,12 @@ module _ (t : ℕ) where
     here = flagged.before
 
     abbrev after : List ℕ
-    after = m.may_lead.last.1.1.1.1.1.1.1.1.0
+    after = m.may_lead.new.failed
 
     lead : MayLead (combed (origin here)).lists (combed (origin here)).members (combed (origin here)).place (combed (origin here)).own (origin here).args.k (origin here).args.chosen (x here) (l-sieve here) (covering here).variables_from-common.result ((origin here).args.resumes && eqb (x here) (get_or (origin here).args.low (origin here).args.k 0)) here.before.loop-g.failed m.may_lead.result after
     lead =
         let a = origin here in
-        let e = flag a.args.resumes (eqb (x here) (get_or a.args.low a.args.k 0)) flagged.if-place_behind-members.resumed (⊎_elim (λ w. ◌⊎◌.inl (w.0.taken, w.1)) (λ w. ◌⊎◌.inr (w.0.left, w.1)) flagged.if-place_behind-members.came) in
+        let e = flag a.args.resumes (eqb (x here) (get_or a.args.low a.args.k 0)) flagged.if-resumes.resumed (⊎_elim (λ w. ◌⊎◌.inl (w.if-resumes.true, w.resumed-is)) (λ w. ◌⊎◌.inr (w.if-resumes.false, w.resumed-is)) flagged.if-resumes.branch-raw) in
         subst (λ (r : Bool). MayLead (combed a).lists (combed a).members (combed a).place (combed a).own a.args.k a.args.chosen (x here) (l-sieve here) (covering here).variables_from-common.result r here.before.loop-g.failed m.may_lead.result after) (sym e) m.may_lead.ensures
 
   module _ (c : comb-lts.After-next-g (comb-callees t) (comb-at t) comb.Post comb-Inv-loop comb-μ-loop) where
@@ -329,9 +329,9 @@ module _ (t : ℕ) where
         let l = at-loop in
         let a = origin l in
         ⊎_elim
-        (λ w. sym w.2.ensures ∙ ap (λ (b : Bool). answer b (take (length a.args.members.now) w.2.result.tuples)) (ne_eqb (w.2.result.kind % 2) 1 w.4.left))
-        (λ w. leads-nowhere l.before.loop-g.inv.1 (lead led) (combing a) (covering l).variables_from-common.ensures (x-from l) (x-to l) l.before.before.sieve_behind-sieve.ensures w.0.left)
-        joined.if-narrow_members.came
+        (λ w. sym w.attempt-found.ensures ∙ ap (λ (b : Bool). answer b (take (length a.args.members.now) w.attempt-found.result.tuples)) (ne_eqb (w.attempt-found.result.kind % 2) 1 w.if-kind-eq-FOUND.false))
+        (λ w. leads-nowhere l.before.loop-g.invariant.1 (lead led) (combing a) (covering l).variables_from-common.ensures (x-from l) (x-to l) l.before.before.sieve_behind-sieve.ensures w.if-may_lead.false)
+        joined.if-may_lead.branch-raw
 
     nextly : WalkAt (combed (origin at-loop)) (origin at-loop).args.k (origin at-loop).args.resumes (origin at-loop).args.chosen c.next-g.result
     nextly =
@@ -374,24 +374,24 @@ module _ (t : ℕ) where
     going : Turn sent a.args.k a.args.resumes a.args.chosen path.first path.start path.end
     going = turn-of sent a.args.index.now a.args.k a.args.resumes a.args.chosen asked chosen-sized bound-sized
 
-  module _ (n : comb-all-lts.After-next-g (comb-all-callees t) (comb-all-at t) comb-all.Post) where
+  module _ (n : comb-all-lts.After-next-from (comb-all-callees t) (comb-all-at t) comb-all.Post) where
     abbrev spanned : comb-all-lts.After-span_of-span (comb-all-callees t) (comb-all-at t) comb-all.Post
     spanned = n.before.before
 
     abbrev entered : Searching
     entered = spanned.before.before.before.before.before
 
-    start_is : spanned.Span-of.result.start ≡ (path entered).start
-    start_is = ap (λ (s : Span). s.start) spanned.Span-of.ensures
+    start_is : spanned.span_of-span.result.start ≡ (path entered).start
+    start_is = ap (λ (s : Span). s.start) spanned.span_of-span.ensures
 
-    stop_is : spanned.Span-of.result.end ≡ (path entered).end
-    stop_is = ap (λ (s : Span). s.end) spanned.Span-of.ensures
+    stop_is : spanned.span_of-span.result.end ≡ (path entered).end
+    stop_is = ap (λ (s : Span). s.end) spanned.span_of-span.ensures
 
-    begins : WalkAt (sent entered) entered.args.k entered.args.resumes entered.args.chosen n.next-g.result
+    begins : WalkAt (sent entered) entered.args.k entered.args.resumes entered.args.chosen n.next-from.result
     begins =
         let a = entered in
         subst (WalkAt (sent a) a.args.k a.args.resumes a.args.chosen)
-        (sym (n.next-g.ensures ∙ ap (λ (i : ℕ). next_live a.args.words.now i spanned.Span-of.result.end) start_is ∙ ap (next_live a.args.words.now (path a).start) stop_is))
+        (sym (n.next-from.ensures ∙ ap (λ (i : ℕ). next_live a.args.words.now i spanned.span_of-span.result.end) start_is ∙ ap (next_live a.args.words.now (path a).start) stop_is))
         (come-first (going a))
 
 pub +attempt_comb_comb_all_spec : {M : Type 1} → statement M
@@ -413,7 +413,7 @@ pub +attempt_comb_comb_all_spec : {M : Type 1} → statement M
     (λ c. let a = start t c.before.before.before.before in omega (arith, (ready t a).few, (turn t a).inside))
     (attempt-comb-all-requires t)
     (attempt-returns t)
-    (λ c. let a = start t c.before.before.before in sym (come-clash (turn t a) a.args.x (tries t a).from_start (tries t a).to_end (sym c.before.fits2.ensures ∙ c.if-fits.false)))
+    (λ c. let a = start t c.before.before.before in sym (come-clash (turn t a) a.args.x (tries t a).from_start (tries t a).to_end (sym c.before.fits.ensures ∙ c.if-fits.false)))
     (λ c.
     let n = c.before in
     let b = chosen t n in
@@ -441,7 +441,7 @@ pub +attempt_comb_comb_all_spec : {M : Type 1} → statement M
     let p = c.before.before in
     let a = origin t (here t p.before.before.before) in
     ap (λ (b : Bool). answer b (take (length a.args.members.now) a.args.chosen)) c.after.ensures
-    ∙ sym (sought-alone (combed t a) (combing t a).ready a.args.k a.args.resumes a.args.chosen (combing t a).begun (p.hopeless.ensures c.before.if-resumes.true)))
+    ∙ sym (sought-alone (combed t a) (combing t a).ready a.args.k a.args.resumes a.args.chosen (combing t a).begun (p.hopeless.ensures c.before.if-hopeless.true)))
     (λ c κs. search rules)
     (λ c κs.
     let l = here t c.before.before in
@@ -464,7 +464,7 @@ pub +attempt_comb_comb_all_spec : {M : Type 1} → statement M
     (λ c. omega (arith, beyond t c, (nextly t c).to_end, tail-is t (at-loop t c), (at-loop t c).loop-g-test.true))
     (λ c.
     let l = at-loop t c in
-    (nextly t c, known_next l.before.loop-g.inv.1 (lead t (led t c)) (x-from t l) (x-to t l) (x-lives t l) (barren t c)))
+    (nextly t c, known_next l.before.loop-g.invariant.1 (lead t (led t c)) (x-from t l) (x-to t l) (x-lives t l) (barren t c)))
     (λ c κs. search rules)
     (λ c.
     let e = c.before in
@@ -479,8 +479,8 @@ pub +attempt_comb_comb_all_spec : {M : Type 1} → statement M
     (λ c κs. let a = c.before.before.before.before in span-asks (sent t a) a.args.k (sound t a) (asked t a).inside)
     (λ c κs.
     let a = c.before.before.before.before.before.before in
-    let s = ap (λ (s : Span). s.start) c.before.Span-of.ensures in
-    let e = ap (λ (s : Span). s.end) c.before.Span-of.ensures in
+    let s = ap (λ (s : Span). s.start) c.before.span_of-span.ensures in
+    let e = ap (λ (s : Span). s.end) c.before.span_of-span.ensures in
     let k = walk-asks (going t a) (path t a).start (omega arith) (walk-forward (going t a)) in
     (omega (arith, s, e, k.0), omega (arith, e, k.1), omega (arith, e, k.2)))
     (λ c κs. let a = entered t c in (omega (arith, a.requires.0), (a.requires.1.0, (begins t c, a.requires.1.1))))

@@ -112,7 +112,7 @@ module _ (n : tie.After-narrow_members) where
   entry = start behind
 
   abbrev fewer : List ℕ
-  fewer = n.narrow_members.last.1.1.1.1.0
+  fewer = n.narrow_members.new.words
 
   over : Fewer (given entry) (latest entry) fewer
   over =
@@ -132,12 +132,12 @@ module _ (j : tie.Joined-resumes) where
   narrowed = j.before.before.before.before
 
   fitting : fit (entry narrowed) ≡ true
-  fitting = sym j.before.before.fits2.ensures ∙ j.before.if-fits.taken
+  fitting = sym j.before.before.fits.ensures ∙ j.before.if-fits.true
 
   goes_on : let a = entry narrowed in (a.args.resumes && eqb a.args.x (get_or a.args.low a.args.k 0)) ≡ j.if-resumes.resuming
   goes_on =
       let a = entry narrowed in
-      flag a.args.resumes (eqb a.args.x (get_or a.args.low a.args.k 0)) j.if-resumes.resuming (⊎_elim (λ w. ◌⊎◌.inl (w.0.taken, w.1)) (λ w. ◌⊎◌.inr (w.0.left, w.1)) j.if-resumes.came)
+      flag a.args.resumes (eqb a.args.x (get_or a.args.low a.args.k 0)) j.if-resumes.resuming (⊎_elim (λ w. ◌⊎◌.inl (w.if-resumes.true, w.resuming-is)) (λ w. ◌⊎◌.inr (w.if-resumes.false, w.resuming-is)) j.if-resumes.branch-raw)
 
   search-at : let a = entry narrowed in let s = (behind narrowed).past_own-stage.result in SearchAt (on_words (given a) (fewer narrowed)) a.args.index.now s.k j.if-resumes.resuming s.chosen
   search-at =
@@ -158,23 +158,23 @@ two-behind c = let a = entry (narrowed c.before.before) in c.place_behind-then-f
 
 search-two-requires : tie.Need-search_two-requires
 search-two-requires c κs =
-    let f = c.before in
+    let f = c in
     let j = f.before.before.before in
     (((narrowed j).narrow_members.ensures.0, search-at j), (on-further j, sym (two-behind f.before) ∙ f.if-place_behind-members.true))
 
 returns : tie.Need-returns-then-place_behind-members
 returns c =
-    let j = c.before.before.before.before.before in
+    let j = c.before.before.before.before in
     (c.search_two.ensures ∙ ahead (narrowed j) (fitting j), (narrowed j).narrow_members.ensures.0)
 
 comb-all-requires : tie.Need-comb_all-requires
 comb-all-requires c κs =
-    let j = c.before.before.before.before in
+    let j = c.before.before.before in
     (((narrowed j).narrow_members.ensures.0, search-at j), on-further j)
 
 returns-2 : tie.Need-returns-then-fits
 returns-2 c =
-    let j = c.before.before.before.before.before in
+    let j = c.before.before.before.before in
     (c.comb_all.ensures ∙ ahead (narrowed j) (fitting j), (narrowed j).narrow_members.ensures.0)
 
 -- ---- Nothing to find
@@ -184,7 +184,7 @@ returns-3 : tie.Need-returns-else-fits
 returns-3 c =
     let n = c.before.before.before in
     let a = entry n in
-    (sym (come-clash (turn a) a.args.x (tries a).from_start (tries a).to_end (sym c.before.fits2.ensures ∙ c.if-fits.false)), n.narrow_members.ensures.0)
+    (sym (come-clash (turn a) a.args.x (tries a).from_start (tries a).to_end (sym c.before.fits.ensures ∙ c.if-fits.false)), n.narrow_members.ensures.0)
 
 -- .. or leaves a member without a live tuple
 returns-4 : tie.Need-returns-else-narrow_members

@@ -90,10 +90,10 @@ module _ (c : tie.After-span_of-span) where
   resuming = entry.args.resumes && eqb entry.args.x (get_or entry.args.low entry.args.k 0)
 
   goes_on : resuming ≡ c.before.before.if-resumes.resuming
-  goes_on = flag entry.args.resumes (eqb entry.args.x (get_or entry.args.low entry.args.k 0)) c.before.before.if-resumes.resuming (⊎_elim (λ w. ◌⊎◌.inl (w.0.taken, w.1)) (λ w. ◌⊎◌.inr (w.0.left, w.1)) c.before.before.if-resumes.branch-raw)
+  goes_on = flag entry.args.resumes (eqb entry.args.x (get_or entry.args.low entry.args.k 0)) c.before.before.if-resumes.resuming (⊎_elim (λ w. ◌⊎◌.inl (w.if-resumes.true, w.resuming-is)) (λ w. ◌⊎◌.inr (w.if-resumes.false, w.resuming-is)) c.before.before.if-resumes.branch-raw)
 
-  spans : c.Span-of.result ≡ span (sent entry) (on behind) resuming
-  spans = c.Span-of.ensures ∙ ap (λ (b : Bool). span_at entry.args.starts.now (get_or entry.args.members.now (on behind) 0) b (get_or entry.args.low (on behind) 0)) (sym goes_on)
+  spans : c.span_of-span.result ≡ span (sent entry) (on behind) resuming
+  spans = c.span_of-span.ensures ∙ ap (λ (b : Bool). span_at entry.args.starts.now (get_or entry.args.members.now (on behind) 0) b (get_or entry.args.low (on behind) 0)) (sym goes_on)
 
   module _ (f : fit entry ≡ true) where
     stage : NextStage (sent entry) resuming (entry.args.k + 1) (more entry) behind.past_own-stage.result
@@ -102,11 +102,11 @@ module _ (c : tie.After-span_of-span) where
     ahead : sought (sent entry) (on behind) behind.past_own-stage.result.chosen ≡ onward (sent entry) entry.args.k entry.args.chosen ((way entry).first + entry.args.x)
     ahead = stage-onward (turn entry) (tried entry).turn.lives entry.args.x (tried entry).from_start (tried entry).to_end (tried entry).lives f behind.past_own-stage.result (staged behind)
 
-    last_turn : Turn (sent entry) (on behind) resuming behind.past_own-stage.result.chosen c.Span-of.result.first c.Span-of.result.start c.Span-of.result.end
+    last_turn : Turn (sent entry) (on behind) resuming behind.past_own-stage.result.chosen c.span_of-span.result.first c.span_of-span.result.start c.span_of-span.result.end
     last_turn =
         turn_on {index = entry.args.index.now}
         (record { seeking = (tried entry).turn.seeking; prefix = stage.prefix; lives = (tried entry).turn.lives; inside = on-inside behind; other = stage.other })
-        stage.sized (low-sized entry) c.Span-of.result spans
+        stage.sized (low-sized entry) c.span_of-span.result spans
 
   clash : fit entry ≡ false → onward (sent entry) entry.args.k entry.args.chosen ((way entry).first + entry.args.x) ≡ none
   clash = come-clash (turn entry) entry.args.x (tried entry).from_start (tried entry).to_end
@@ -143,7 +143,7 @@ returns c =
     let w = f.before.before.before in
     let s = w.before in
     let a = entry s in
-    let fits = sym f.fits2.ensures ∙ o.before.before.before.if-fits.true in
+    let fits = sym f.fits.ensures ∙ o.before.before.before.if-fits.true in
     sym
     (sym (ahead s fits)
     ∙ last_found (last_turn s fits) (tried a).turn.lives (ap (place_behind a.args.place) (on-is (behind s)) ∙ a.requires.1) w.first_fitting-g.result w.first_fitting-g.ensures f.before.if-g-span.true o.past_own-full.result
@@ -182,9 +182,9 @@ attempt_last_spec =
     (λ c.
     let f = c.before.before in
     let w = f.before.before.before in
-    omega (arith, fitting-is (last_turn w.before (sym f.fits2.ensures ∙ c.before.if-fits.true)) w.first_fitting-g.result w.first_fitting-g.ensures))
+    omega (arith, fitting-is (last_turn w.before (sym f.fits.ensures ∙ c.before.if-fits.true)) w.first_fitting-g.result w.first_fitting-g.ensures))
     (λ c κs. search rules)
     (λ c κs. let a = entry c.before.before.before.before.before.before.before in omega (arith, (sound a).place, (sound a).few))
     returns
-    (λ c. let s = c.before.before.before.before.before in sym (clash s (sym c.before.fits2.ensures ∙ c.if-fits.false)))
+    (λ c. let s = c.before.before.before.before.before in sym (clash s (sym c.before.fits.ensures ∙ c.if-fits.false)))
     returns-3)

@@ -124,7 +124,7 @@ module _ (c : tie.After-rows_for-n invariant-loop decreases-loop) where
   read = c.before.before.before
 
   abbrev rows : List ℕ
-  rows = c.rows_for-n.new.1.1.1.1.1.1.1.0
+  rows = c.rows_for-n.new.rows
 
   abbrev found : FirstRows (RowFor (net read) (begun read).args.index.now (get_or (begun read).args.members.now (begun read).args.by 0) (begun read).args.x (r read)) c.rows_for-n.result rows
   found = c.rows_for-n.ensures
@@ -156,7 +156,7 @@ returns c =
     record {
       comes = p.comes;
       from_on = p.from_on;
-      fitting = λ h. ap (fits (network_in (given s)) s.args.members.now s.args.place s.args.own s.args.k s.args.chosen) (sym (tried l)) ∙ sym c.before.fits2.ensures ∙ c.if-fits.true;
+      fitting = λ h. ap (fits (network_in (given s)) s.args.members.now s.args.place s.args.own s.args.k s.args.chosen) (sym (tried l)) ∙ sym c.before.fits.ensures ∙ c.if-fits.true;
       none_before = p.none_before;
     }
 
@@ -192,14 +192,14 @@ module _ (c : tie.After-next_in_rows-g-in-loop-g invariant-loop decreases-loop) 
   clashes : let s = begun (read (prepared inner.before)) in fits (network_in (given s)) s.args.members.now s.args.place s.args.own s.args.k s.args.chosen (inner.before.loop-g.g - first_id (network_in (given s)) (get_or s.args.members.now s.args.k 0)) ≡ false
   clashes =
       let s = begun (read (prepared inner.before)) in
-      ap (fits (network_in (given s)) s.args.members.now s.args.place s.args.own s.args.k s.args.chosen) (sym (tried inner)) ∙ sym c.before.before.before.fits2.ensures ∙ c.before.before.if-fits.false
+      ap (fits (network_in (given s)) s.args.members.now s.args.place s.args.own s.args.k s.args.chosen) (sym (tried inner)) ∙ sym c.before.before.before.fits.ensures ∙ c.before.before.if-fits.false
 
 loop-again : tie.Need-loop-g-preserved invariant-loop decreases-loop
 loop-again c P =
     let l = (inner c).before in
     let w = prepared l in
     let b = read w in
-    passed-next P (found w) b.tuple_start-end.result (own-ids b).stop l.loop-g.g c.next_in_rows-g-in-loop-g.result (l.loop-g.inv P) (clashes c) c.next_in_rows-g-in-loop-g.ensures
+    passed-next P (found w) b.tuple_start-end.result (own-ids b).stop l.loop-g.g c.next_in_rows-g-in-loop-g.result (l.loop-g.invariant P) (clashes c) c.next_in_rows-g-in-loop-g.ensures
 
 loop-less : tie.Need-loop-g-smaller invariant-loop decreases-loop
 loop-less c = let f = c.next_in_rows-g-in-loop-g.ensures in omega (arith, f.from_on, f.to_end, (inner c).loop-g-test.true)

@@ -47,7 +47,7 @@ search_of a =
     }
 
 low-length : (a : tie.Start) → length a.args.low ≡ 4
-low-length a = good_length (e_int w16) 4 a.args.low _ a.well-formed.1.1.1.1.1.1.1.1.0
+low-length a = good_length (e_int w16) 4 a.args.low _ a.well_formed.1.1.1.1.1.1.1.1.0
 
 -- ---- The seeking tuple
 
@@ -117,7 +117,7 @@ abbrev start : tie.After-narrow_members → tie.Start
 start n = begun (placed (put n))
 
 abbrev fewer : tie.After-narrow_members → List ℕ
-fewer n = n.narrow_members.new.1.1.1.1.0
+fewer n = n.narrow_members.new.words
 
 -- the words of the room, narrowed
 narrowed-room : (n : tie.After-narrow_members) → Narrowed (net_of (search_of (start n))) (seeker (search_of (start n))) (room (put n)) (fewer n)
@@ -144,7 +144,7 @@ module _ (c : tie.After-spread_members) where
   given = search_of (start before)
 
   abbrev fewest : List ℕ
-  fewest = c.spread_members.new.1.1.1.1.0
+  fewest = c.spread_members.new.words
 
   -- the search goes over these
   abbrev narrowed : Search
@@ -222,7 +222,7 @@ further n =
     let p = placed (put (before n)) in
     let a = begun p in
     let e = ahead n in
-    omega (arith, behind-within a.args.place p.past_own-stage.result.k (length a.args.members.now) (turn_inside e.before) a.requires.0.1.sound.place, e.before.place_behind.ensures, e.if-place_behind-members.left)
+    omega (arith, behind-within a.args.place p.past_own-stage.result.k (length a.args.members.now) (turn_inside e.before) a.requires.0.1.sound.place, e.before.place_behind.ensures, e.if-place_behind-members.false)
 
 -- the search's first stage
 open-stage : (n : tie.After-spread_members) →
@@ -232,7 +232,7 @@ open-stage n = stage-over (placed (put (before n))) (fewest n) (begins n)
 
 search-requires : tie.Need-search-found-requires
 search-requires c κs =
-    let n = c.before.before.before.before in
+    let n = c.before.before.before in
     let S = open-stage n in (
       (
         n.spread_members.ensures.0,
@@ -249,7 +249,7 @@ search-requires c κs =
 
 search-fresh-requires : tie.Need-search_fresh-found-requires
 search-fresh-requires c κs =
-    let n = c.before.before.before.before.before in
+    let n = c.before.before.before in
     let p = placed (put (before n)) in
     let a = begun p in (
       (
@@ -291,13 +291,13 @@ module _ (c : tie.Joined-all_fresh) where
   finds : FindsFirst whole result
   finds =
       ⊎_elim
-      (λ w. subst (FindsFirst whole) (sym w.5) (w.3.ensures.0 ∙ (open-stage spread).same ∙ all_there spread))
-      (λ w. subst (FindsFirst whole) (sym w.6) (w.4.ensures.0 ∙ (begins spread).same))
+      (λ w. subst (FindsFirst whole) (sym w.found-is) (w.search-found.ensures.0 ∙ (open-stage spread).same ∙ all_there spread))
+      (λ w. subst (FindsFirst whole) (sym w.found-is) (w.search_fresh-found.ensures.0 ∙ (begins spread).same))
       c.if-all_fresh.branch-raw
 
   -- the rooms are as long as before
   rooms : Long (fewest spread) × Long c.if-all_fresh.spare
-  rooms = (spread.spread_members.ensures.0, ⊎_elim (λ w. subst Long (sym w.4) w.3.ensures.1) (λ w. subst Long (sym w.5) w.4.ensures.1) c.if-all_fresh.branch-raw)
+  rooms = (spread.spread_members.ensures.0, ⊎_elim (λ w. subst Long (sym w.spare-is) w.search-found.ensures.1) (λ w. subst Long (sym w.spare-is) w.search_fresh-found.ensures.1) c.if-all_fresh.branch-raw)
 
   rises : pairwise ltb asked.args.members.now ≡ true
   rises = and_right (all (λ (r : ℕ). ltb r (length (net_of whole).relations)) asked.args.members.now) (pairwise ltb asked.args.members.now) asked.requires.0.1.sound.members
@@ -324,13 +324,13 @@ module _ (c : tie.Joined-all_fresh) where
 
 note-requires : tie.Need-note-requires
 note-requires c κs =
-    let f = c.before.before.before.before.before.before in
+    let f = c.before.before.before.before.before in
     let n = spread f in
     ((n.spread_members.ensures.0, (asked f).requires.1.0.0), record { low = (asked f).args.low; sound = (begins n).sound; inside = at-inside f; index = within f })
 
 returns-6 : tie.Need-returns-then-found
 returns-6 c =
-    let f = c.before.before.before.before.before.before.before in
+    let f = c.before.before.before.before.before.before in
     (finds f, ((c.note.ensures.long, λ _. meets f _ c.note.ensures), rooms f))
 
 returns-7 : tie.Need-returns-else-found
@@ -369,8 +369,8 @@ first_support_spec =
     search-requires
     search-fresh-requires
     (λ c. search rules)
-    (λ c. let f = c.before.before.before.before.before in omega (arith, at-inside f, (asked f).requires.0.1.sound.few))
-    (λ c. let f = c.before.before.before.before.before in omega (arith, at-inside f, (asked f).requires.0.1.sound.few))
+    (λ c. let f = c.before.before.before.before in omega (arith, at-inside f, (asked f).requires.0.1.sound.few))
+    (λ c. let f = c.before.before.before.before in omega (arith, at-inside f, (asked f).requires.0.1.sound.few))
     note-requires
     returns-6
     returns-7)

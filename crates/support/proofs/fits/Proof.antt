@@ -78,8 +78,8 @@ loop-again c =
       rw add-one
           (chosen-all (net s) s.args.members.now s.args.chosen (λ (y : ℕ). agree (net s) y (id_at (net s) s.args.members.now s.args.k s.args.x)) l.loop-j.j l.loop-j.invariant.1
           (⊎_elim
-          (λ w. sym w.2.ensures ∙ not-false _ w.3.left)
-          (λ w. agrees-own c.before w.left)
+          (λ w. sym w.tuples_agree-then-j-place.ensures ∙ not-false _ w.if-not-tuples_agree-2.false-raw)
+          (λ w. agrees-own c.before w.if-j-place.false)
           c.if-j-place.branch-raw)),
     )
 

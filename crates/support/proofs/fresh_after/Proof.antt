@@ -47,7 +47,7 @@ module _ (turn : tie.In-loop-j invariant-loop decreases-loop) where
   begun = start turn.before
 
   below : get_or begun.args.members.now turn.before.loop-j.j 0 < 64
-  below = member_below (sought begun) (sound begun) turn.before.loop-j.j turn.loop-j-test.taken
+  below = member_below (sought begun) (sound begun) turn.before.loop-j.j turn.loop-j-test.true
 
 spend-member-requires : tie.Need-spend_member-requires invariant-loop decreases-loop
 spend-member-requires c κs =
@@ -57,7 +57,7 @@ spend-member-requires c κs =
     let s = begun turn in
     let Q = sought s in
     let R = sound s in
-    let E = e.end_Below.ensures in
+    let E = e.end_below-end.ensures in
     let n = member-end Q R l.j turn.loop-j-test.true in (
       (s.requires.0, l.invariant.0),
       record {
@@ -81,9 +81,9 @@ loop-again c =
     let n = member-end Q R l.j turn.loop-j-test.true in
     ⊎_elim
     (λ w.
-    subst Reached (sym w.5)
-    (w.4.ensures.long, spends-more Q R s.args.k s.args.bound l.j turn.loop-j-test.true w.2.result (omega (arith, w.2.ensures.to_end, n)) w.2.ensures.below l.fresh-1 _ w.4.ensures l.invariant.1))
-    (λ w. subst Reached (sym w.1) l.invariant)
+    subst Reached (sym w.fresh-is)
+    (w.spend_member.ensures.long, spends-more Q R s.args.k s.args.bound l.j turn.loop-j-test.true w.end_below-end.result (omega (arith, w.end_below-end.ensures.to_end, n)) w.end_below-end.ensures.below l.fresh _ w.spend_member.ensures l.invariant.1))
+    (λ w. subst Reached (sym w.fresh-is) l.invariant)
     c.if-place-j.branch-raw
 
 abbrev ended : tie.After-tuple_start invariant-loop decreases-loop → tie.Start invariant-loop decreases-loop
@@ -99,7 +99,7 @@ returns c =
     let s = ended t in
     let l = t.before.before.before.loop-j in
     subst (λ (fresh : List ℕ). (length fresh ≡ 64) × Spends (net_of (sought s)) s.args.members.now s.args.place s.args.own s.args.k s.args.bound fresh) (sym k.clear.ensures)
-    (cleared-length t.tuple_start.result l.fresh-1 ∙ l.invariant.0, spends-flag (sought s) (sound s) s.args.k s.args.bound l.fresh-1 l.invariant.0 t.tuple_start.result (flag_is t) l.invariant.1)
+    (cleared-length t.tuple_start.result l.fresh ∙ l.invariant.0, spends-flag (sought s) (sound s) s.args.k s.args.bound l.fresh l.invariant.0 t.tuple_start.result (flag_is t) l.invariant.1)
 
 pub fresh_after_spec : {M : Type 1} → statement M
 fresh_after_spec =

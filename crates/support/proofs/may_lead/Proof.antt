@@ -45,7 +45,7 @@ module _ (c : tie.Else-not-fits) where
   tested = c.before.before.before
 
   hopes : (passing tested && fit tested) ≡ true
-  hopes = and_intro (sym tested.passes.ensures ∙ not-false _ c.before.before.if-not-passes.false-raw) (sym c.before.fits2.ensures ∙ not-false _ c.if-not-fits.false-raw)
+  hopes = and_intro (sym tested.passes.ensures ∙ not-false _ c.before.before.if-not-passes.false-raw) (sym c.before.fits.ensures ∙ not-false _ c.if-not-fits.false-raw)
 
 returns-4 : tie.Need-returns
 returns-4 c =
@@ -74,7 +74,7 @@ may_lead_spec =
     (λ c κs. (s c.before).requires.0)
     (λ c.
     let t = c.before.before.before in
-    hopeless t (ap (λ (b : Bool). passing t && b) (sym c.before.fits2.ensures ∙ not-true _ c.if-not-fits.true-raw) ∙ and-false (passing t)))
+    hopeless t (ap (λ (b : Bool). passing t && b) (sym c.before.fits.ensures ∙ not-true _ c.if-not-fits.true-raw) ∙ and-false (passing t)))
     (λ c.
     let t = tested c.before in
     record {

@@ -22,9 +22,9 @@ module _ (s : tie.Start) where
   abbrev sought : Search
   sought =
       record {
-        lists = record { variables = s.args.variables.now-1; values = s.args.values.now-1; starts = s.args.starts.now-1 };
-        words = s.args.words.now-1;
-        members = s.args.members.now-1;
+        lists = record { variables = s.args.variables.now; values = s.args.values.now; starts = s.args.starts.now };
+        words = s.args.words.now;
+        members = s.args.members.now;
         place = s.args.place;
         own = s.args.own;
         low = s.requires.1.low;
@@ -33,19 +33,19 @@ module _ (s : tie.Start) where
   abbrev sound : SoundSearch sought
   sound = s.requires.1.sound
 
-  below : get_or s.args.members.now-1 s.args.k 0 < 64
+  below : get_or s.args.members.now s.args.k 0 < 64
   below = member_below sought sound s.args.k s.requires.1.inside
 
   abbrev head : ℕ
-  head = first_id (net_of sought) (get_or s.args.members.now-1 s.args.k 0)
+  head = first_id (net_of sought) (get_or s.args.members.now s.args.k 0)
 
-  head-is : tuple_start s.args.starts.now-1 (get_or s.args.members.now-1 s.args.k 0) ≡ head
+  head-is : tuple_start s.args.starts.now (get_or s.args.members.now s.args.k 0) ≡ head
   head-is = member-start sought sound s.args.k s.requires.1.inside
 
-  tail-is : tuple_start s.args.starts.now-1 (get_or s.args.members.now-1 s.args.k 0 + 1) ≡ head + size (net_of sought) (get_or s.args.members.now-1 s.args.k 0)
+  tail-is : tuple_start s.args.starts.now (get_or s.args.members.now s.args.k 0 + 1) ≡ head + size (net_of sought) (get_or s.args.members.now s.args.k 0)
   tail-is = member-end sought sound s.args.k s.requires.1.inside
 
-  within : head + size (net_of sought) (get_or s.args.members.now-1 s.args.k 0) ≤ 4096
+  within : head + size (net_of sought) (get_or s.args.members.now s.args.k 0) ≤ 4096
   within = omega (arith, member-within sought sound s.args.k s.requires.1.inside, few-tuples sought sound)
 
 abbrev start : tie.After-tuple_start-bound → tie.Start
@@ -59,15 +59,15 @@ module _ (c : tie.Joined-found) where
   bounded : head begun ≤ c.if-found.bound
   bounded =
       ⊎_elim
-      (λ w. omega (arith, w.2, w.1.ensures, head-is begun))
-      (λ w. omega (arith, w.1, c.before.tuple_start-bound.ensures, tail-is begun))
+      (λ w. omega (arith, w.bound-is, w.tuple_start.ensures, head-is begun))
+      (λ w. omega (arith, w.bound-is, c.before.tuple_start-bound.ensures, tail-is begun))
       c.if-found.branch-raw
 
   reached : begun.args.found ≡ true → c.if-found.bound ≡ head begun + begun.args.t
   reached e =
       ⊎_elim
-      (λ w. omega (arith, w.2, w.1.ensures, head-is begun))
-      (λ w. absurd (not-both e w.0.left))
+      (λ w. omega (arith, w.bound-is, w.tuple_start.ensures, head-is begun))
+      (λ w. absurd (not-both e w.if-found.false))
       c.if-found.branch-raw
 
 returns : tie.Need-returns
@@ -79,8 +79,8 @@ returns c =
     let Q = sought s in
     let now = f.fresh_after-now.result in
     let E = f.fresh_after-now.ensures in
-    subst (Notes (net_of Q) a.members.now-1 a.place a.own a.k a.found a.t)
-    (sym (c.put_back.ensures ∙ ap₂ (λ (x y : List ℕ). x ++ y) (take_all 64 now (omega (arith, E.0))) (drop_of_length-le a.fresh.now-1 {i = 64} (omega (arith, s.requires.0.1))) ∙ append-nil now))
+    subst (Notes (net_of Q) a.members.now a.place a.own a.k a.found a.t)
+    (sym (c.put_back.ensures ∙ ap₂ (λ (x y : List ℕ). x ++ y) (take_all 64 now (omega (arith, E.0))) (drop_of_length-le a.fresh.now {i = 64} (omega (arith, s.requires.0.1))) ∙ append-nil now))
     (record {
       long = E.0;
       agrees = λ i z h d l g. (E.1 i z h d l g).0;

@@ -9,7 +9,7 @@ use native.Mathlib.Omega.{arith}
 use lib.ListN.{length}
 use borrow.Kind.Array.{e_int, good_length}
 use mir.Syntax.{w16}
-use borrow.Author.Tests.{leb-true, eq-eqb, ne_eqb}
+use borrow.Author.Tests.{eq-eqb, ne_eqb}
 use Rattle.support.specs.Search.{Search, SoundSearch, SearchAt, place_behind, WalkAt, is_found}
 use Rattle.support.proofs.Own.{behind-within}
 use Rattle.support.proofs.Turn.{span-asks, Turn, turn_on, walk-asks, walk-forward, come-first, come-walked}
@@ -55,12 +55,12 @@ module _ (c : tie.After-span_of-span) where
   abbrev start : tie.Start
   start = given c.before.before.before
 
-  turn : Turn (sent start) start.args.k start.args.resumes start.args.chosen c.Span-of.result.first c.Span-of.result.start c.Span-of.result.end
+  turn : Turn (sent start) start.args.k start.args.resumes start.args.chosen c.span_of-span.result.first c.span_of-span.result.start c.span_of-span.result.end
   turn =
       turn_on (asked start)
       (good_length (e_int w16) 4 start.args.chosen _ start.well_formed.1.1.1.1.1.1.1.1.1.1.1.0)
       (good_length (e_int w16) 4 start.args.low _ start.well_formed.1.1.1.1.1.1.1.1.0)
-      c.Span-of.result c.Span-of.ensures
+      c.span_of-span.result c.span_of-span.ensures
 
 -- it begins at the first live tuple
 walk-requires : tie.Need-walk-walked-requires
@@ -82,9 +82,9 @@ returns-2 c =
     let kind = w.walk-walked.result.kind in (
       come-walked (turn s) w.walk-walked.result w.walk-walked.ensures.0
           (⊎_elim
-          (λ v. ◌⊎◌.inl (eq-eqb (kind % 2) 1 v.taken))
-          (λ v. ◌⊎◌.inr (ne_eqb (kind % 2) 1 v.0.left, leb-true s.Span-of.result.end w.walk-walked.result.at v.1.taken))
-          c.if-kind-eq-FOUND.branch-raw),
+          (λ v. ◌⊎◌.inl (eq-eqb (kind % 2) 1 v.if-kind-eq-FOUND.true))
+          (λ v. ◌⊎◌.inr (ne_eqb (kind % 2) 1 v.if-kind-eq-FOUND.false, v.if-end-at.true))
+          c.then-kind-eq-FOUND.branch-raw),
       w.walk-walked.ensures.1,
     )
 
@@ -109,7 +109,7 @@ search_spec =
     (λ c. let a = given c.before.before in omega (arith, (sound a).few, (asked a).inside))
     (λ c. let a = given c.before.before in omega (arith, (sound a).few, (asked a).inside))
     (λ c κs. let a = given c.before.before in span-asks (sent a) a.args.k (sound a) (asked a).inside)
-    (λ c κs. let s = c.before in walk-asks (turn s) s.Span-of.result.start (omega arith) (walk-forward (turn s)))
+    (λ c κs. let s = c.before in walk-asks (turn s) s.span_of-span.result.start (omega arith) (walk-forward (turn s)))
     walk-requires
     returns-2
     search-hard-requires

@@ -38,7 +38,7 @@ module _ (c : tie.After-narrow_to_fresh) where
   start = c.before.before.before.before.before.before
 
   abbrev fewest : List ℕ
-  fewest = c.narrow_to_fresh.new.1.1.1.1.0
+  fewest = c.narrow_to_fresh.new.words
 
   -- .. over those narrowed
   begins : Root (search_of start) fewest
@@ -56,7 +56,7 @@ module _ (c : tie.After-spread_members) where
   before = c.before.before.before
 
   abbrev last : List ℕ
-  last = c.spread_members.new.1.1.1.1.0
+  last = c.spread_members.new.words
 
   begins-last : Root (search_of (start before)) last
   begins-last = root-spread (search_of (start before)) (fewest before) last 0 c.spread_members.ensures.0 c.spread_members.ensures.1.0 (begins before)

@@ -68,7 +68,7 @@ module _ (p : tie.After-spread_members) where
   end_is = read.tuple_start-end.ensures
 
   abbrev fewest : List ℕ
-  fewest = p.spread_members.last.1.1.1.1.0
+  fewest = p.spread_members.new.words
 
   abbrev thinner : Search
   thinner = on_words (sent input) fewest

@@ -37,12 +37,12 @@ module _ (c : tie.After-span_of-span) where
   abbrev start : tie.Start
   start = c.before.before.before.before.before
 
-  turn : Turn (sent start) start.args.k true start.args.chosen c.Span-of.result.first c.Span-of.result.start c.Span-of.result.end
+  turn : Turn (sent start) start.args.k true start.args.chosen c.span_of-span.result.first c.span_of-span.result.start c.span_of-span.result.end
   turn =
       turn_on (asked start)
       (good_length (e_int w16) 4 start.args.chosen _ start.well_formed.1.1.1.1.1.1.1.1.1.1.0)
       (good_length (e_int w16) 4 start.args.low _ start.well_formed.1.1.1.1.1.1.1.1.0)
-      c.Span-of.result c.Span-of.ensures
+      c.span_of-span.result c.span_of-span.ensures
 
 first-fitting-requires : tie.Need-first_fitting-g-requires
 first-fitting-requires c κs =

@@ -7,7 +7,7 @@ use Prim.Native.Nat.{◌%◌}
 use native.Mathlib.Omega.{arith}
 use borrow.Kind.Array.{e_int, good_length}
 use mir.Syntax.{w16}
-use borrow.Author.Tests.{leb-true, eq-eqb, ne_eqb}
+use borrow.Author.Tests.{eq-eqb, ne_eqb}
 use Rattle.support.specs.Search.{Search, SoundSearch, SearchAt, WalkAt, is_found}
 use Rattle.support.proofs.Turn.{span-asks, Turn, turn_on, walk-asks, walk-forward, come-first, come-walked}
 use Rattle.support.proofs.search_two.Statement.{statement}
@@ -35,12 +35,12 @@ module _ (c : tie.After-span_of-span) where
   abbrev start : tie.Start
   start = c.before.before.before.before.before
 
-  turn : Turn (sent start) start.args.k start.args.resumes start.args.chosen c.Span-of.result.first c.Span-of.result.start c.Span-of.result.end
+  turn : Turn (sent start) start.args.k start.args.resumes start.args.chosen c.span_of-span.result.first c.span_of-span.result.start c.span_of-span.result.end
   turn =
       turn_on (asked start)
       (good_length (e_int w16) 4 start.args.chosen _ start.well_formed.1.1.1.1.1.1.1.1.1.1.1.0)
       (good_length (e_int w16) 4 start.args.low _ start.well_formed.1.1.1.1.1.1.1.1.0)
-      c.Span-of.result c.Span-of.ensures
+      c.span_of-span.result c.span_of-span.ensures
 
 -- the walk begins at the first live tuple
 walk-last-requires : tie.Need-walk_last-walked-requires
@@ -56,9 +56,9 @@ returns c =
     let kind = w.walk_last-walked.result.kind in
     come-walked (turn s) w.walk_last-walked.result w.walk_last-walked.ensures
     (⊎_elim
-    (λ v. ◌⊎◌.inl (eq-eqb (kind % 2) 1 v.taken))
-    (λ v. ◌⊎◌.inr (ne_eqb (kind % 2) 1 v.0.left, leb-true s.Span-of.result.end w.walk_last-walked.result.at v.1.taken))
-    c.if-kind-eq-FOUND.branch-raw)
+    (λ v. ◌⊎◌.inl (eq-eqb (kind % 2) 1 v.if-kind-eq-FOUND.true))
+    (λ v. ◌⊎◌.inr (ne_eqb (kind % 2) 1 v.if-kind-eq-FOUND.false, v.if-end-at.true))
+    c.then-kind-eq-FOUND.branch-raw)
 
 -- the hard search goes on where the walk stopped
 search-hard-requires : tie.Need-search_hard-requires
@@ -77,7 +77,7 @@ search_two_spec =
     (λ c. let a = c.before.before.before.before in omega (arith, (sound a).few, (asked a).inside))
     (λ c. let a = c.before.before.before.before in omega (arith, (sound a).few, (asked a).inside))
     (λ c κs. let a = c.before.before.before.before in span-asks (sent a) a.args.k (sound a) (asked a).inside)
-    (λ c κs. let s = c.before in walk-asks (turn s) s.Span-of.result.start (omega arith) (walk-forward (turn s)))
+    (λ c κs. let s = c.before in walk-asks (turn s) s.span_of-span.result.start (omega arith) (walk-forward (turn s)))
     walk-last-requires
     returns
     search-hard-requires

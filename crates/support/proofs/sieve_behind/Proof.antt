@@ -29,7 +29,7 @@ pub sieve_behind_spec : {M : Type 1} → statement M
 sieve_behind_spec =
     tie.close
     (tie.spec
-    (λ c κs. let T = c.before.before.before.requires.1.1 in omega (arith, T.inside, T.IsPlace-in, T.other))
+    (λ c κs. let T = c.before.before.before.requires.1.1 in omega (arith, T.inside, T.place_in, T.other))
     (λ c. search rules)
     (λ c x h e.
     let s = c.before.before.before.before.before in

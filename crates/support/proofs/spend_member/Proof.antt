@@ -55,7 +55,7 @@ loop-holds : tie.Need-loop-g-init invariant-loop decreases-loop
 loop-holds c =
     let read = c.before.before in
     let s = start read in
-    let f = next-is read read.tuple_start-first.result (omega (arith, first-is read, s.requires.1.from_First)) in
+    let f = next-is read read.tuple_start-first.result (omega (arith, first-is read, s.requires.1.from_first)) in
     (s.requires.0.1, ((omega (arith, first-is read, c.next-g.ensures, f.from-i), omega (arith, c.next-g.ensures, f.to_end)), λ g was gone. absurd (not-both was gone)))
 
 module _ (turn : tie.In-loop-g invariant-loop decreases-loop) where
@@ -63,7 +63,7 @@ module _ (turn : tie.In-loop-g invariant-loop decreases-loop) where
   begun = reading turn.before
 
   is-g : first_id (network begun) (start begun).args.s + (turn.before.loop-g.g - begun.tuple_start-first.result) ≡ turn.before.loop-g.g
-  is-g = omega (arith, first-is begun, turn.before.loop-g.inv.1.0.0)
+  is-g = omega (arith, first-is begun, turn.before.loop-g.invariant.1.0.0)
 
 tuples-agree-requires : tie.Need-tuples_agree-requires invariant-loop decreases-loop
 tuples-agree-requires c κs =
@@ -84,10 +84,10 @@ more c =
     let Reached : List ℕ → Type 0 = λ fresh. (length fresh ≡ 64) × SpentOf N s.args.r s.args.x s.args.s s.args.end s.args.fresh.now fresh in
     ⊎_elim
     (λ w.
-    let agrees : agree N (first_id N s.args.r + s.args.x) l.g ≡ true = ap (agree N (first_id N s.args.r + s.args.x)) (sym (is-g turn)) ∙ sym c.before.tuples_agree.ensures ∙ w.0.taken in
-    subst Reached (sym (w.3 ∙ w.2.ensures))
+    let agrees : agree N (first_id N s.args.r + s.args.x) l.g ≡ true = ap (agree N (first_id N s.args.r + s.args.x)) (sym (is-g turn)) ∙ sym c.before.tuples_agree.ensures ∙ w.if-tuples_agree.true in
+    subst Reached (sym (w.fresh-is ∙ w.clear.ensures))
     (cleared-length l.g l.fresh ∙ l.invariant.0, spent-more N s.args.r s.args.x s.args.s s.args.end s.args.fresh.now l.fresh l.g (omega (arith, l.invariant.0, turn.loop-g-test.true, few b)) l.invariant.1.0.0 turn.loop-g-test.true agrees l.invariant.1.1))
-    (λ w. subst Reached (sym w.1) (l.invariant.0, l.invariant.1.1))
+    (λ w. subst Reached (sym w.fresh-is) (l.invariant.0, l.invariant.1.1))
     c.if-tuples_agree.branch-raw
 
 loop-again : tie.Need-loop-g-preserved invariant-loop decreases-loop
@@ -105,7 +105,7 @@ spend_member_spec =
     invariant-loop
     decreases-loop
     (λ c κs. let s = c.before.before in omega (arith, s.requires.1.second))
-    (λ c κs. let read = c.before in walks read read.tuple_start-first.result (omega (arith, first-is read, (start read).requires.1.from_First)))
+    (λ c κs. let read = c.before in walks read read.tuple_start-first.result (omega (arith, first-is read, (start read).requires.1.from_first)))
     loop-holds
     (λ c. omega (arith, first-is (begun c), c.before.loop-g.invariant.1.0.0))
     tuples-agree-requires

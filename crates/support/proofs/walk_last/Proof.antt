@@ -68,7 +68,7 @@ module _ (l : tie.In-loop-g invariant-loop decreases-loop) where
   begun = read.before.before.before.before.before.before
 
   abbrev reached : WalkAt (walked begun) begun.args.k begun.args.resumes begun.args.chosen l.before.loop-g.g
-  reached = l.before.loop-g.inv.0
+  reached = l.before.loop-g.invariant.0
 
   first-is : read.before.tuple_start-first.result ≡ (way begun).first
   first-is = read.before.tuple_start-first.ensures
@@ -77,7 +77,7 @@ module _ (l : tie.In-loop-g invariant-loop decreases-loop) where
   end_is = read.tuple_start-end.ensures
 
   inside : l.before.loop-g.g < (way begun).end
-  inside = omega (arith, l.loop-g-test.taken, end_is)
+  inside = omega (arith, l.loop-g-test.true, end_is)
 
   from_first : (way begun).first ≤ l.before.loop-g.g
   from_first = (come-from (walking begun) l.before.loop-g.g reached).0
@@ -153,7 +153,7 @@ loop-again : tie.Need-loop-g-preserved invariant-loop decreases-loop
 loop-again c = let n = c.before in (further n, omega (arith, (looped n).before.loop-g.invariant.1, further-on n))
 
 loop-less : tie.Need-loop-g-smaller invariant-loop decreases-loop
-loop-less c = let n = c.before in let l = looped n in omega (arith, further-on n, (further n).to_end, end_is l, l.loop-g-test.taken)
+loop-less c = let n = c.before in let l = looped n in omega (arith, further-on n, (further n).to_end, end_is l, l.loop-g-test.true)
 
 pub walk_last_spec : {M : Type 1} → statement M
 walk_last_spec =
@@ -172,7 +172,7 @@ walk_last_spec =
     returns
     (λ c. let l = c.before.before.before in omega (arith, inside l, (asks l l.before.loop-g.g (reached l).from_start (reached l).to_end).2))
     (λ c κs. let l = c.before.before.before in let k = asks l (l.before.loop-g.g + 1) (omega (arith, (reached l).from_start)) (omega (arith, inside l)) in (omega (arith, end_is l, k.0), omega (arith, end_is l, k.1), omega (arith, end_is l, k.2)))
-    (λ c. let l = looped c in omega (arith, l.before.loop-g.inv.1, inside l, (asks l l.before.loop-g.g (reached l).from_start (reached l).to_end).2))
+    (λ c. let l = looped c in omega (arith, l.before.loop-g.invariant.1, inside l, (asks l l.before.loop-g.g (reached l).from_start (reached l).to_end).2))
     (λ c. record { found = λ e. absurd (not-both e refl); on = λ e. further c.before })
     loop-less
     loop-again

@@ -114,7 +114,7 @@ module _ (t : ℕ) where
     -- the member is not the last
     further : place_behind begun.args.place begun.args.k < length begun.args.members.now
     further =
-        omega (arith, behind-within begun.args.place begun.args.k (length begun.args.members.now) (asked begun).inside (asked begun).sound.place, otherwise.before.place_behind.ensures, otherwise.if-place_behind-members.left)
+        omega (arith, behind-within begun.args.place begun.args.k (length begun.args.members.now) (asked begun).inside (asked begun).sound.place, otherwise.before.place_behind.ensures, otherwise.if-place_behind-members.false)
 
     first-is : e.before.tuple_start-first.result ≡ tuple_at (Q begun) begun.args.k 0
     first-is = e.before.tuple_start-first.ensures ∙ (own begun).begin
@@ -156,10 +156,10 @@ module _ (t : ℕ) where
     y = i.before.loop-g.g - e.before.tuple_start-first.result
 
     id-y : tuple_at (Q (begun e)) (begun e).args.k y ≡ i.before.loop-g.g
-    id-y = omega (arith, first-is e, i.before.loop-g.inv.from_first)
+    id-y = omega (arith, first-is e, i.before.loop-g.invariant.from_first)
 
     inside : i.before.loop-g.g < tuple_at (Q (begun e)) (begun e).args.k (size_at (Q (begun e)) (begun e).args.k)
-    inside = omega (arith, end_is e, i.loop-g-test.taken)
+    inside = omega (arith, end_is e, i.loop-g-test.true)
 
     choosing : ChooseAt (Q (begun e)) (begun e).args.index.now (begun e).args.k (begun e).args.chosen y
     choosing = record { turn = asked (begun e); index_in = omega (arith, id-y, inside) }
@@ -182,8 +182,8 @@ module _ (t : ℕ) where
       let i = turn o in
       let l = i.before.loop-g in
       let a = begun (e i) in
-      reached-next (asked a) (sized a) a.args.start a.args.words.now a.args.pending.now a.args.numbers.now l.left l.g l.pending l.numbers-1 l.inv o.before.before.before.if-left-eq0.false (inside i) (y i) (id-y i)
-      o.seek_with-left.ensures c.next-g-in-loop-g.result (next-is (e i) (l.g + 1) c.next-g-in-loop-g.result (omega (arith, i.loop-g-test.taken)) c.next-g-in-loop-g.ensures)
+      reached-next (asked a) (sized a) a.args.start a.args.words.now a.args.pending.now a.args.numbers.now l.left l.g l.pending l.numbers l.invariant o.before.before.before.if-left-eq0.false (inside i) (y i) (id-y i)
+      o.seek_with-left.ensures c.next-g-in-loop-g.result (next-is (e i) (l.g + 1) c.next-g-in-loop-g.result (omega (arith, i.loop-g-test.true)) c.next-g-in-loop-g.ensures)
 
   seek-returns-3 : seek-lts.Need-returns (seek-callees t) (seek-at t) seek.Post seek-Inv-loop seek-μ-loop
   seek-returns-3 c =
@@ -212,10 +212,10 @@ module _ (t : ℕ) where
 
   module _ (n : seek-with-lts.After-choose (seek-with-callees t) (seek-with-at t) seek-with.Post) where
     abbrev start : With
-    start = n.before.before.before.before.before.before.before.before
+    start = n.before.before.before.before.before.before.before
 
     abbrev fewer : List ℕ
-    fewer = n.choose.last.1.1.1.1.0
+    fewer = n.choose.new.words
 
     -- the turn of the member behind
     on-turn : n.choose.result ≡ true → SeekAt (R start) start.args.index.now (place_behind start.args.place start.args.k) (set start.args.chosen start.args.k start.args.y)
@@ -228,13 +228,13 @@ module _ (t : ℕ) where
           begun = chosen_more (R start) start.args.k start.args.chosen start.args.y (k-in start) A.turn.other A.turn.begun A.index_in (n.choose.ensures.agrees b);
         }
 
-  with-returns : seek-with-lts.Need-returns-then-place_behind-members (seek-with-callees t) (seek-with-at t) seek-with.Post
+  with-returns : seek-with-lts.Need-returns-then-not-choose (seek-with-callees t) (seek-with-at t) seek-with.Post
   with-returns c =
       let n = c.before in
       let a = start n in
       record {
         takes = takes_none (R a) a.args.start (place_behind a.args.place a.args.k) (set a.args.chosen a.args.k a.args.y) a.args.words.now a.args.pending.now a.args.numbers.now a.requires.1.0.0.1;
-        none = λ m. n.choose.ensures.none (not-true _ c.if-place_behind-members.true);
+        none = λ m. n.choose.ensures.none (not-true _ c.if-not-choose.true-raw);
       }
 
   with-seek-requires : seek-with-lts.Need-seek-requires (seek-with-callees t) (seek-with-at t) seek-with.Post
@@ -245,29 +245,29 @@ module _ (t : ℕ) where
       let a = start n in
       let past = (behind (R a) a.args.k (given a).turn.other).past in
       let further = a.requires.1.1.1 in (
-        omega (arith, a.requires.0, q.place_behind.ensures, past, further),
+        omega (arith, a.requires.0, q.place_behind-on.ensures, past, further),
         (
           (
             (n.choose.ensures.long, a.requires.1.0.0.1),
-            subst (λ (on : ℕ). SeekAt (R a) a.args.index.now on p.put.result) (sym q.place_behind.ensures)
-                (subst (SeekAt (R a) a.args.index.now (place_behind a.args.place a.args.k)) (sym p.put.ensures) (on-turn n (not-false _ q.before.if-place_behind-members.false))),
+            subst (λ (on : ℕ). SeekAt (R a) a.args.index.now on p.put.result) (sym q.place_behind-on.ensures)
+                (subst (SeekAt (R a) a.args.index.now (place_behind a.args.place a.args.k)) (sym p.put.ensures) (on-turn n (not-false _ q.before.if-not-choose.false-raw))),
           ),
           a.requires.1.1.0,
         ),
       )
 
-  with-returns-2 : seek-with-lts.Need-returns-then-left-eq0 (seek-with-callees t) (seek-with-at t) seek-with.Post
+  with-returns-2 : seek-with-lts.Need-returns (seek-with-callees t) (seek-with-at t) seek-with.Post
   with-returns-2 c =
       let s = c.before.before in
       let p = s.before.before.before in
       let q = p.before.before in
       let n = q.before.before in
       let a = start n in
-      let pending = s.seek.new.1.1.1.1.1.1.1.1.1.0 in
-      let numbers = s.seek.new.1.1.1.1.1.1.1.1.1.1.0 in
+      let pending = s.seek.new.pending in
+      let numbers = s.seek.new.numbers in
       let sought : Seeks (R a) a.args.start (place_behind a.args.place a.args.k) (set a.args.chosen a.args.k a.args.y) (fewer n) a.args.pending.now pending a.args.numbers.now numbers s.seek.result =
-      subst (λ (on : ℕ). Seeks (R a) a.args.start on (set a.args.chosen a.args.k a.args.y) (fewer n) a.args.pending.now pending a.args.numbers.now numbers s.seek.result) q.place_behind.ensures
-      (subst (λ (ts : List ℕ). Seeks (R a) a.args.start q.place_behind.result ts (fewer n) a.args.pending.now pending a.args.numbers.now numbers s.seek.result) p.put.ensures s.seek.ensures)
+      subst (λ (on : ℕ). Seeks (R a) a.args.start on (set a.args.chosen a.args.k a.args.y) (fewer n) a.args.pending.now pending a.args.numbers.now numbers s.seek.result) q.place_behind-on.ensures
+      (subst (λ (ts : List ℕ). Seeks (R a) a.args.start q.place_behind-on.result ts (fewer n) a.args.pending.now pending a.args.numbers.now numbers s.seek.result) p.put.ensures s.seek.ensures)
       in
       seeks-wider (given a) (long a) a.args.pending.now a.args.words.now (fewer n) (n.choose.ensures.inside, n.choose.ensures.keeps) sought
 
@@ -291,17 +291,17 @@ pub +seek_seek_with_spec : {M : Type 1} → statement M
     (λ c. let i = c.before in omega (arith, first-is t (e t i), i.before.loop-g.invariant.from_first))
     (λ c. search rules)
     (seek-seek-with-requires t)
-    (λ c. let i = turn t c.before.before.before in omega (arith, i.loop-g-test.taken, (walks t (e t i) i.before.loop-g.g (omega (arith, i.loop-g-test.taken))).2))
-    (λ c κs. let i = turn t c.before.before.before in walks t (e t i) (i.before.loop-g.g + 1) (omega (arith, i.loop-g-test.taken)))
+    (λ c. let i = turn t c.before.before.before in omega (arith, i.loop-g-test.true, (walks t (e t i) i.before.loop-g.g (omega (arith, i.loop-g-test.true))).2))
+    (λ c κs. let i = turn t c.before.before.before in walks t (e t i) (i.before.loop-g.g + 1) (omega (arith, i.loop-g-test.true)))
     (λ c.
     let i = turn t c.before.before.before.before in
-    let f = next-is t (e t i) (i.before.loop-g.g + 1) c.next-g-in-loop-g.result (omega (arith, i.loop-g-test.taken)) c.next-g-in-loop-g.ensures in
-    omega (arith, f.from-i, f.to_end, end_is t (e t i), i.loop-g-test.taken))
+    let f = next-is t (e t i) (i.before.loop-g.g + 1) c.next-g-in-loop-g.result (omega (arith, i.loop-g-test.true)) c.next-g-in-loop-g.ensures in
+    omega (arith, f.from-i, f.to_end, end_is t (e t i), i.loop-g-test.true))
     (seek-loop-again t)
     (λ c. c.before.loop-g.invariant.takes.frames.room)
     (seek-returns-3 t))
     λ t. seek-with-lts.spec (seek-with-callees t) (seek-with-at t) seek-with.Post
-    (λ c κs. let a = c.before.before.before.before.before.before.before in (a.requires.1.0.0, given t a))
+    (λ c κs. let a = c.before.before.before.before.before.before in (a.requires.1.0.0, given t a))
     (with-returns t)
     (λ c κs. let a = start t c.before in omega (arith, (given t a).turn.inside, (given t a).turn.sound.members.few))
     (λ c κs. search rules)

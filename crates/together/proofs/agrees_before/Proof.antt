@@ -54,8 +54,8 @@ loop-again c =
       omega (arith, c.before.loop-j-test.true),
       below_more _ _ l.loop-j.invariant.1
           (⊎_elim
-          (λ w d. sym w.2.ensures ∙ not-false _ w.3.left)
-          (λ w d. absurd (d w.left))
+          (λ w d. sym w.tuples_agree.ensures ∙ not-false _ w.if-not-tuples_agree.false-raw)
+          (λ w d. absurd (d w.if-j-place.false))
           c.if-j-place.branch-raw),
     )
 

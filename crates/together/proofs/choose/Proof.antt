@@ -79,10 +79,10 @@ module _ (n : tie.After-narrow_member) where
   a = begun ends
 
   abbrev kept : List ℕ
-  kept = n.before.before.keep.last.1.0
+  kept = n.before.before.keep.new.words
 
   abbrev narrowed : List ℕ
-  narrowed = n.narrow_member.last.1.1.1.1.0
+  narrowed = n.narrow_member.new.words
 
   keeping : Keeping (asked a) (sized a) a.args.pending.now a.args.words.now narrowed
   keeping =
@@ -92,7 +92,7 @@ module _ (n : tie.After-narrow_member) where
 
   -- y agrees with all chosen
   agreed : tried.agrees_before.result ≡ true
-  agreed = not-false _ ends.before.before.before.before.if-not-agrees_before.left
+  agreed = not-false _ ends.before.before.before.before.if-not-agrees_before.false-raw
 
 narrow-member-requires : tie.Need-narrow_member-requires
 narrow-member-requires c κs =
@@ -130,7 +130,7 @@ returns-3 c =
     let p = c.before.before in
     let n = p.before.before in
     let s = a n in
-    let after = c.narrow_members.new.1.1.1.1.0 in
+    let after = c.narrow_members.new.words in
     let K = keeping-on (asked s) (sized s) s.args.pending.now s.args.words.now (narrowed n) after (keeping n) c.narrow_members.ensures.1.0 in
     record {
       long = c.narrow_members.ensures.0;

@@ -83,10 +83,10 @@ module _ (t : tie.In-loop-g invariant-loop decreases-loop) where
   y = reached - e.before.tuple_start-first.result
 
   id-y : own_at (Q (begun e)) y ≡ reached
-  id-y = omega (arith, first-is e, t.before.loop-g.inv.from_first)
+  id-y = omega (arith, first-is e, t.before.loop-g.invariant.from_first)
 
   y-in : y < own_size (Q (begun e))
-  y-in = omega (arith, id-y, end_is e, t.loop-g-test.taken)
+  y-in = omega (arith, id-y, end_is e, t.loop-g-test.true)
 
 take-one-requires : tie.Need-take_one-requires invariant-loop decreases-loop
 take-one-requires c κs =
@@ -106,8 +106,8 @@ loop-again c =
     let t = turn o in
     let l = t.before.loop-g in
     let a = begun (e t) in
-    passed-next (asked a) (sized a) a.args.start a.args.words.now a.args.pending.now a.args.numbers.now l.g l.pending l.numbers-1 l.inv (y t) (id-y t)
-    o.take_one.ensures c.next-g-in-loop-g.result (next-is (e t) (l.g + 1) c.next-g-in-loop-g.result (omega (arith, t.loop-g-test.taken)) c.next-g-in-loop-g.ensures)
+    passed-next (asked a) (sized a) a.args.start a.args.words.now a.args.pending.now a.args.numbers.now l.g l.pending l.numbers l.invariant (y t) (id-y t)
+    o.take_one.ensures c.next-g-in-loop-g.result (next-is (e t) (l.g + 1) c.next-g-in-loop-g.result (omega (arith, t.loop-g-test.true)) c.next-g-in-loop-g.ensures)
 
 returns-2 : tie.Need-returns invariant-loop decreases-loop
 returns-2 c =
@@ -133,12 +133,12 @@ take_last_spec =
     (λ c. let t = c.before in omega (arith, first-is (e t), t.before.loop-g.invariant.from_first))
     take-one-requires
     (λ c. search rules)
-    (λ c. let t = turn c.before.before.before in omega (arith, t.loop-g-test.taken, (walks (e t) t.before.loop-g.g (omega (arith, t.loop-g-test.taken))).2))
-    (λ c κs. let t = turn c.before.before.before in walks (e t) (t.before.loop-g.g + 1) (omega (arith, t.loop-g-test.taken)))
+    (λ c. let t = turn c.before.before.before in omega (arith, t.loop-g-test.true, (walks (e t) t.before.loop-g.g (omega (arith, t.loop-g-test.true))).2))
+    (λ c κs. let t = turn c.before.before.before in walks (e t) (t.before.loop-g.g + 1) (omega (arith, t.loop-g-test.true)))
     (λ c.
     let t = turn c.before.before.before.before in
-    let f = next-is (e t) (t.before.loop-g.g + 1) c.next-g-in-loop-g.result (omega (arith, t.loop-g-test.taken)) c.next-g-in-loop-g.ensures in
-    omega (arith, f.from-i, f.to_end, end_is (e t), t.loop-g-test.taken))
+    let f = next-is (e t) (t.before.loop-g.g + 1) c.next-g-in-loop-g.result (omega (arith, t.loop-g-test.true)) c.next-g-in-loop-g.ensures in
+    omega (arith, f.from-i, f.to_end, end_is (e t), t.loop-g-test.true))
     loop-again
     (λ c. c.before.loop-g.invariant.takes.frames.room)
     returns-2)

@@ -84,7 +84,7 @@ module _ (f : tie.After-tuple_start-2) where
   seeks : is_live a.args.pending.now (own_at (Q a) a.args.x) ≡ true
   seeks =
       let l = from.before.before.before in
-      ap (is_live a.args.pending.now) (sym (id-is known)) ∙ sym l.is_live.ensures ∙ not-false _ from.before.before.if-not-is_live.left
+      ap (is_live a.args.pending.now) (sym (id-is known)) ∙ sym l.is_live.ensures ∙ not-false _ from.before.before.if-not-is_live.false-raw
 
 returns : tie.Need-returns-then-not-is_live
 returns c =
@@ -127,13 +127,13 @@ module _ (p : tie.After-put) where
   s = a f
 
   below : g f < tuple_at (Q s) s.args.k (size_at (Q s) s.args.k)
-  below = omega (arith, tried.before.if-g-tuple_start.taken, end_is f)
+  below = omega (arith, tried.before.if-g-tuple_start.true, end_is f)
 
   abbrev found : List ℕ
   found = take (length s.args.members.now) p.put.result
 
   agrees : AgreesAll (Q s) s.args.k s.args.chosen s.args.place s.args.x
-  agrees = tried.agrees_before.ensures.right p.before.before.before.if-agrees_before.taken
+  agrees = tried.agrees_before.ensures.right p.before.before.before.if-agrees_before.true
 
   abbrev expected : List ℕ
   expected = support (asked s) (sized s) s.args.words.now (from f).tuple_start-first.result (g f) (first-is f) (first f) below agrees
@@ -207,7 +207,7 @@ returns-2 c =
     let t = c.before.before.before.before in
     let p = t.before in
     let s = a (f p) in
-    subst (λ (ns : List ℕ). TakesOne (Q s) s.args.start s.args.k s.args.chosen s.args.words.now s.args.x s.args.pending.now c.clear.new.0 s.args.numbers.now ns) (sym (t.store.ensures ∙ stored_is p))
+    subst (λ (ns : List ℕ). TakesOne (Q s) s.args.start s.args.k s.args.chosen s.args.words.now s.args.x s.args.pending.now c.clear.new.words s.args.numbers.now ns) (sym (t.store.ensures ∙ stored_is p))
     (subst (λ (ws : List ℕ). TakesOne (Q s) s.args.start s.args.k s.args.chosen s.args.words.now s.args.x s.args.pending.now ws s.args.numbers.now (numbers_after p)) (sym (c.clear.ensures ∙ ap (λ (g : ℕ). cleared g s.args.pending.now) (id-is (known (f p))))) (taking p))
 
 returns-3 : tie.Need-returns-else-agrees_before

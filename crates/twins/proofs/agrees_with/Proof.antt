@@ -107,9 +107,9 @@ loop-again c =
           (⊎_elim
           (λ w d.
           ap₂ (λ (r q : ℕ). agree N (first_id N r + s.args.x) (first_id N q + get_or s.args.tuples (j i) 0)) (ap (λ (q : ℕ). get_or s.args.members.now q 0) (sym (pair_is (began i)))) (sym (member_is i))
-          ∙ sym w.2.ensures
-          ∙ not-false _ w.3.left)
-          (λ w d. absurd (d (w.left ∙ place_is (began i))))
+          ∙ sym w.tuples_agree.ensures
+          ∙ not-false _ w.if-not-tuples_agree.false-raw)
+          (λ w d. absurd (d (w.if-j-place.false ∙ place_is (began i))))
           c.if-j-place.branch-raw),
     )
 

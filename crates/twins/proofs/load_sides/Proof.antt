@@ -46,8 +46,8 @@ module _ (c : tie.Joined-places-j-eq1 invariant-loop decreases-loop) where
       let j = turn.before.loop-j.j in
       ⊎_elim
       {C = c.if-places-j-eq1.start ≡ cond (is_set a.args.places j) a.args.far a.args.near}
-      (λ w. w.1 ∙ ap (λ (b : Bool). cond b a.args.far a.args.near) (sym (is-set a.args.places j w.0.taken)))
-      (λ w. w.1 ∙ ap (λ (b : Bool). cond b a.args.far a.args.near) (sym (not_set a.args.places j w.0.left)))
+      (λ w. w.start-is ∙ ap (λ (b : Bool). cond b a.args.far a.args.near) (sym (is-set a.args.places j w.if-places-j-eq1.true)))
+      (λ w. w.start-is ∙ ap (λ (b : Bool). cond b a.args.far a.args.near) (sym (not_set a.args.places j w.if-places-j-eq1.false)))
       c.if-places-j-eq1.branch-raw
 
   inside : c.if-places-j-eq1.start + turn.before.loop-j.j < length a.args.numbers.now
@@ -80,13 +80,13 @@ loop-again c =
     ⊎_elim
     {C = now c.if-j-m.tuples}
     (λ w.
-    let at : tie.Joined-places-j-eq1 invariant-loop decreases-loop = record { before = record { before = i; if2 = w.0 }; if3 = w.1 } in
-    let v = get_or a.numbers.now (w.1.start + l.j) 0 in
-    subst now (sym w.4) (
+    let at : tie.Joined-places-j-eq1 invariant-loop decreases-loop = record { before = record { before = i; if-j-m = w.if-j-m }; if-places-j-eq1 = w.if-places-j-eq1 } in
+    let v = get_or a.numbers.now (w.if-places-j-eq1.start + l.j) 0 in
+    subst now (sym w.tuples-is) (
       length-set l.tuples l.j v ∙ l.invariant.0,
       first-set P l.tuples l.j v (omega (arith, l.invariant.0, i.loop-j-test.true)) l.invariant.1 (λ _. ap (λ (k : ℕ). get_or a.numbers.now (k + l.j) 0) (start_is at)),
     ))
-    (λ w. subst now (sym w.1) (l.invariant.0, λ k h m. l.invariant.1 k (omega (arith, h, m, w.0.left)) m))
+    (λ w. subst now (sym w.tuples-is) (l.invariant.0, λ k h m. l.invariant.1 k (omega (arith, h, m, w.if-j-m.false)) m))
     c.if-j-m.branch-raw
 
 pub load_sides_spec : {M : Type 1} → statement M

@@ -68,7 +68,7 @@ own-within s = omega (arith, (ready s).begins, numbers-within (ready s) s.args.x
 -- ---- The tuples
 
 abbrev far : tie.After-load_sides-tuples → tie.After-wide-2
-far c = c.before.before
+far c = c.before
 
 abbrev begun : tie.After-load_sides-tuples → tie.After-wide-each
 begun c = (far c).before.before
@@ -90,7 +90,7 @@ long c =
 
 load-sides-requires : tie.Need-load_sides-tuples-requires
 load-sides-requires c κs =
-    let w = c.before in
+    let w = c in
     let b = w.before.before in
     let s = start b in (
       omega (arith, each-is b, near-is w.before, numbers-within (ready s) s.args.y (earlier-in (ready s) s.args.y (live s).y-before)),

@@ -92,7 +92,7 @@ z c = c.if-sides-ne0.z
 
 -- the table once x is sought by the near side
 abbrev between : tie.After-alike_soon-y → List ℕ
-between c = c.alike_soon-y.new.1.1.1.0
+between c = c.alike_soon-y.new.table
 
 by_near : (c : tie.After-alike_soon-y) → (let k = (read c).before in let s = entry k in Earlier (G s) s.args.words.now s.args.p s.args.x s.args.sides.near c.alike_soon-y.result)
 by_near c = let k = (read c).before in earlier k (entry k).args.sides.near c.alike_soon-y.result (between c) c.alike_soon-y.ensures
@@ -107,21 +107,21 @@ found c =
     λ after z' e f t. subst (λ (l : List ℕ). F l (z c)) (sym e) (subst (F after) (sym f) t) in
     ⊎_elim
     (λ w.
-    let T = w.2.ensures in
-    let after = w.2.last.1.1.1.1.0 in
-    joins after w.2.result w.3 w.4
+    let T = w.far_twin-z.ensures in
+    let after = w.far_twin-z.new.sought in
+    joins after w.far_twin-z.result w.sought-is w.z-is
     (record {
       twins = record {
         near = by_near n;
-        far = λ _. earlier k s.args.sides.far w.2.result after (alike-after s.args.x s.args.sought.now (between n) after n.alike_soon-y.ensures.entered T.found);
-        one = λ q. absurd (w.0.taken q);
+        far = λ _. earlier k s.args.sides.far w.far_twin-z.result after (alike-after s.args.x s.args.sought.now (between n) after n.alike_soon-y.ensures.entered T.found);
+        one = λ q. absurd (w.if-sides-ne0.true q);
       };
       entered = entered-both s.args.x s.args.sought.now (between n) after n.alike_soon-y.ensures.entered T.found.entered;
       lives = λ _. T.lives;
     }))
     (λ w.
-    joins (between n) (y c) w.1 w.2
-    (record { twins = record { near = by_near n; far = λ d. absurd (d w.0.left); one = λ _. refl }; entered = n.alike_soon-y.ensures.entered; lives = λ d. absurd (d w.0.left) }))
+    joins (between n) (y c) w.sought-is w.z-is
+    (record { twins = record { near = by_near n; far = λ d. absurd (d w.if-sides-ne0.false); one = λ _. refl }; entered = n.alike_soon-y.ensures.entered; lives = λ d. absurd (d w.if-sides-ne0.false) }))
     c.if-sides-ne0.branch-raw
 
 -- ---- Whether they live
@@ -209,7 +209,7 @@ take_twin_spec =
     (tie.spec
     (λ c κs. search rules)
     (λ c. omega (arith, c.wide.ensures.1))
-    (λ c. omega (arith, c.before.wide.ensures.0, (ready (entry c)).at.pair))
+    (λ c. let s = c.before.before.before.before.before.before in omega (arith, c.before.wide.ensures.0, (ready s).at.pair))
     (λ c κs. let s = entry c in omega (arith, member_is c, member_below (sound s).laid.framed (sound s).paired s.args.p (ready s).at.pair))
     (λ c κs. let k = c.before.before in let s = entry k in (tuple_at k s.args.x (ready s).index, s.requires.1.0.long))
     far-twin-requires

@@ -9,7 +9,7 @@ use Rattle.value_index.proofs.column_start.Tie as tie
 
 returns : tie.Need-returns
 returns c =
-    ap₂ (λ (r k : ℕ). get_or c.before.before.before.args.index.now (r * 8 + k) 0) c.before.before.wide.ensures.0 c.before.wide-2.ensures.0
+    ap₂ (λ (r k : ℕ). get_or c.args.index.now (r * 8 + k) 0) c.wide.ensures.0 c.wide-2.ensures.0
 
 pub column_start_spec : {M : Type 1} → statement M
 column_start_spec =

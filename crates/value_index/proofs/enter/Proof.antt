@@ -40,11 +40,11 @@ returns c =
     let bit : place w.before % 64 ≡ s.args.g % 64 = omega arith in (
       length-set ws (at w.before) _ ∙ s.requires.0,
       (
-        λ k h. get_or-set_other ws (at w) k _ 0 (λ e. absurd (omega (arith, s.requires.1.0))),
+        λ k h. get_or-set_other ws (at w.before) k _ 0 (λ e. absurd (omega (arith, s.requires.1.0))),
         λ h.
-            subst (λ (i : ℕ). is_live (set ws i (bit_or (get_or ws i 0) (1 * 2 ^ (s.args.g % 64) % 2 ^ 64))) h ≡ (is_live ws h || eqb (place w) h)) (is_at w)
-            (subst (λ (j : ℕ). is_live (set ws (place w / 64) (bit_or (get_or ws (place w / 64) 0) (1 * 2 ^ j % 2 ^ 64))) h ≡ (is_live ws h || eqb (place w) h)) bit
-            (entered-one ws (place w) h (omega (arith, is_at w, few w, s.requires.0)))),
+            subst (λ (i : ℕ). is_live (set ws i (bit_or (get_or ws i 0) (1 * 2 ^ (s.args.g % 64) % 2 ^ 64))) h ≡ (is_live ws h || eqb (place w.before) h)) (is_at w.before)
+            (subst (λ (j : ℕ). is_live (set ws (place w.before / 64) (bit_or (get_or ws (place w.before / 64) 0) (1 * 2 ^ j % 2 ^ 64))) h ≡ (is_live ws h || eqb (place w.before) h)) bit
+            (entered-one ws (place w.before) h (omega (arith, is_at w.before, few w.before, s.requires.0)))),
       ),
     )
 

@@ -28,27 +28,27 @@ module _ (c : tie.In-loop-g invariant-loop decreases-loop) where
   start = begun.before.before
 
   column : ColumnRows start.args.index.now start.args.start
-  column = start.requires.0.1 begun.if-start-eq0.left
+  column = start.requires.0.1 begun.if-start-eq0.false
 
   -- the plan is still what was read
-  planned : c.before.before.before.row_plan-plan.result ≡ row_plan c.before.loop-g.index
-  planned = c.before.before.before.row_plan-plan.ensures ∙ sym (plan-same start.args.index.now c.before.loop-g.index c.before.loop-g.invariant.1.1.1.1.0.same)
+  planned : c.row_plan-plan.result ≡ row_plan c.loop-g.index
+  planned = c.row_plan-plan.ensures ∙ sym (plan-same start.args.index.now c.loop-g.index c.loop-g.invariant.1.1.1.1.0.same)
 
   -- the tuple reached lies within the values
-  within : c.before.loop-g.p + start.args.width ≤ length start.args.values.now + start.args.c
+  within : c.loop-g.p + start.args.width ≤ length start.args.values.now + start.args.c
   within =
-      let l = c.before.loop-g in
+      let l = c.loop-g in
       let a = start.args in
       let i : l.g - a.first < a.end - a.first = omega (arith, l.invariant.0, c.loop-g-test.true) in
       omega (arith, piece-within (l.g - a.first) (a.end - a.first) a.width i, l.invariant.1.1.0, start.requires.1.1.1.1)
 
-  inside : c.before.loop-g.p < length start.args.values.now
+  inside : c.loop-g.p < length start.args.values.now
   inside = omega (arith, within, start.requires.1.1.0)
 
 enter-cell-requires : tie.Need-enter_cell-requires invariant-loop decreases-loop
 enter-cell-requires c κs =
     let turn = c.before.before in
-    let l = turn.before.loop-g in
+    let l = turn.loop-g in
     let s = start turn in
     let few : l.g + 1 ≤ s.args.end = omega (arith, turn.loop-g-test.true) in
     let laid = laid_on s.args.index.now l.index _ l.invariant.1.1.1.1.0 l.invariant.1.1.1.0 (laid-fewer s.args.index.now (l.g + 1) s.args.end few s.requires.0.0) in
@@ -56,7 +56,7 @@ enter-cell-requires c κs =
 
 loop-holds : tie.Need-loop-g-init invariant-loop decreases-loop
 loop-holds c =
-    let s = c.before.before.before.before.before in
+    let s = c.before.before.before.before in
     let z : s.args.first - s.args.first ≡ 0 = omega arith in
     (omega arith, (s.requires.1.0, (rw z (omega (arith, c.wide.ensures.0)), (s.requires.0.0.full, (grows_none s.args.index.now, λ h l k. absurd (omega arith))))))
 
@@ -64,10 +64,10 @@ loop-again : tie.Need-loop-g-preserved invariant-loop decreases-loop
 loop-again c =
     let done = c.before in
     let turn = done.before.before.before in
-    let l = turn.before.loop-g in
+    let l = turn.loop-g in
     let s = start turn in
     let a = s.args in
-    let new = done.enter_cell.new.0 in
+    let new = done.enter_cell.new.index in
     let t = turn.loop-g-test.true in
     let grown = done.enter_cell.ensures.1.0 in
     let n : l.g + 1 - a.first ≡ suc (l.g - a.first) = omega (arith, l.invariant.0) in (
@@ -89,8 +89,8 @@ loop-again c =
 
 returns-2 : tie.Need-returns invariant-loop decreases-loop
 returns-2 c =
-    let l = c.before.loop-g in
-    let a = c.before.before.before.before.before.before.before.args in
+    let l = c.loop-g in
+    let a = c.args in
     let e : l.g ≡ a.end = omega (arith, c.loop-g-test.false, l.invariant.1.0) in
     (l.invariant.1.1.1.0, (l.invariant.1.1.1.1.0, λ d. subst (λ (n : ℕ). EntersColumn a.values.now a.at a.width a.c a.start a.first n l.index) e l.invariant.1.1.1.1.1))
 
@@ -103,7 +103,7 @@ enter_column_spec =
     (λ c. let s = c.before.before in (s.requires.0.0.full, (grows_none s.args.index.now, λ d. absurd (d c.if-start-eq0.true))))
     (λ c κs. search rules)
     (λ c κs. search rules)
-    (λ c. let s = c.before.before.before.before.before in omega (arith, c.wide.ensures.0, s.requires.1.1.0, s.requires.1.1.1.0, s.requires.1.1.1.1))
+    (λ c. let s = c.before.before.before.before in omega (arith, c.wide.ensures.0, s.requires.1.1.0, s.requires.1.1.1.0, s.requires.1.1.1.1))
     loop-holds
     (λ c. omega (arith, inside c.before))
     (λ c. inside c.before.before)

@@ -23,18 +23,18 @@ module _ (c : tie.In-loop-c invariant-loop decreases-loop) where
   abbrev begin : tie.Start invariant-loop decreases-loop
   begin = c.before.before.before
 
-  narrow : c.before.loop-c.c < 8
+  narrow : c.loop-c.c < 8
   narrow = omega (arith, c.loop-c-test.true, begin.requires.0.1.1)
 
   -- the index is still laid out
-  laid : Laid c.before.loop-c.index begin.args.end
-  laid = laid_on begin.args.index.now c.before.loop-c.index begin.args.end c.before.loop-c.invariant.1.1.0 c.before.loop-c.invariant.1.0 begin.requires.0.0
+  laid : Laid c.loop-c.index begin.args.end
+  laid = laid_on begin.args.index.now c.loop-c.index begin.args.end c.loop-c.invariant.1.1.0 c.loop-c.invariant.1.0 begin.requires.0.0
 
 enter-column-requires : tie.Need-enter_column-requires invariant-loop decreases-loop
 enter-column-requires c κs =
     let found = c.before in
-    let turn = found.before.before in
-    let l = turn.before.loop-c in
+    let turn = found.before in
+    let l = turn.loop-c in
     let s = begin turn in (
       (laid turn, rows-begin (laid turn).plan s.args.r l.c found.column_start-rows.result s.requires.0.1.0 (narrow turn) found.column_start-rows.ensures),
       (s.requires.1.0, (turn.loop-c-test.true, (s.requires.0.1.1, s.requires.1.1))),
@@ -43,11 +43,11 @@ enter-column-requires c κs =
 loop-again : tie.Need-loop-c-preserved invariant-loop decreases-loop
 loop-again c =
     let found = c.before.before in
-    let turn = found.before.before in
-    let l = turn.before.loop-c in
+    let turn = found.before in
+    let l = turn.loop-c in
     let s = begin turn in
     let a = s.args in
-    let new = c.enter_column.new.1.1.1.1.1.1.1.0 in
+    let new = c.enter_column.new.index in
     let grown = c.enter_column.ensures.1.0 in
     let is = found.column_start-rows.ensures in
     let one : (column_start l.index a.r l.c ≡ 0 → ⊥) → EntersColumn a.values.now a.at a.width l.c (column_start l.index a.r l.c) a.start a.end new =
@@ -65,8 +65,8 @@ loop-again c =
 
 returns : tie.Need-returns invariant-loop decreases-loop
 returns c =
-    let l = c.before.loop-c in
-    let a = c.before.before.before.args in
+    let l = c.loop-c in
+    let a = c.args in
     let e : l.c ≡ a.width = omega (arith, c.loop-c-test.false, l.invariant.0) in
     (l.invariant.1.0, (l.invariant.1.1.0, subst (λ (n : ℕ). EntersColumns a.values.now a.at a.r a.width n a.start a.end l.index) e l.invariant.1.1.1))
 
@@ -77,9 +77,9 @@ enter_tuples_spec =
     invariant-loop
     decreases-loop
     (λ c. let s = c.before in (omega arith, (s.requires.0.0.full, (grows_none s.args.index.now, λ k h. absurd (omega arith)))))
-    (λ c κs. let t = c.before in ((begin t).requires.0.1.0, narrow t))
+    (λ c κs. let t = c in ((begin t).requires.0.1.0, narrow t))
     enter-column-requires
-    (λ c. let t = c.before.before.before.before in omega (arith, narrow t))
-    (λ c. omega (arith, c.before.before.before.before.loop-c-test.true))
+    (λ c. let t = c.before.before.before in omega (arith, narrow t))
+    (λ c. omega (arith, c.loop-c-test.true))
     loop-again
     returns)

@@ -28,34 +28,34 @@ module _ (c : tie.In-loop-i invariant-loop decreases-loop) where
   loop = c.before
 
   abbrev start : tie.Start invariant-loop decreases-loop
-  start = loop.before.before.before
+  start = loop.before.before
 
   abbrev index : List ℕ
-  index = loop.loop.index
+  index = loop.loop-i.index
 
   laid : Laid index (start.args.g + 1)
-  laid = loop.loop.inv.1.0.0.0
+  laid = loop.loop-i.invariant.1.0.0.0
 
   column : ColumnRows index start.args.start
-  column = loop.loop.inv.1.0.0.1
+  column = loop.loop-i.invariant.1.0.0.1
 
   planned : start.args.plan ≡ row_plan index
-  planned = loop.loop.inv.1.0.1
+  planned = loop.loop-i.invariant.1.0.1
 
-  reached : loop.loop.i < digit_count index
-  reached = omega (arith, c.loop-i-test.true, loop.loop.inv.0.1)
+  reached : loop.loop-i.i < digit_count index
+  reached = omega (arith, c.loop-i-test.true, loop.loop-i.invariant.0.1)
 
-  below : loop.loop.hash < hashes
-  below = omega (arith, loop.loop.inv.1.1.0, hash-below index start.args.value loop.loop.i)
+  below : loop.loop-i.hash < hashes
+  below = omega (arith, loop.loop-i.invariant.1.1.0, hash-below index start.args.value loop.loop-i.i)
 
   abbrev row : ℕ
-  row = row_of index start.args.start loop.loop.hash loop.loop.i
+  row = row_of index start.args.start loop.loop-i.hash loop.loop-i.i
 
   within : row + row_words index ≤ index_words
-  within = row_within laid.plan loop.loop.hash below loop.loop.i reached column
+  within = row_within laid.plan loop.loop-i.hash below loop.loop-i.i reached column
 
   behind : plan_words ≤ row
-  behind = row-behind laid.plan loop.loop.hash below loop.loop.i reached column
+  behind = row-behind laid.plan loop.loop-i.hash below loop.loop-i.i reached column
 
 -- the row reached is entered
 module _ (e : tie.After-enter invariant-loop decreases-loop) where
@@ -63,7 +63,7 @@ module _ (e : tie.After-enter invariant-loop decreases-loop) where
   turn = e.before.before.before
 
   abbrev new : List ℕ
-  new = e.enter.last.0
+  new = e.enter.new.index
 
   same : SamePlan (index turn) new
   same = e.enter.ensures.1.0
@@ -79,31 +79,31 @@ module _ (e : tie.After-enter invariant-loop decreases-loop) where
 
 loop-holds : tie.Need-loop-i-init invariant-loop decreases-loop
 loop-holds c =
-    let s = c.before.before in
+    let s = c.before in
     ((omega arith, ap (λ (p : RowPlan). p.digits) s.requires.1), (s.requires, (c.hash_of-hash.ensures, (grows_none s.args.index.now, λ i h. absurd (omega arith)))))
 
 enter-requires : tie.Need-enter-requires invariant-loop decreases-loop
 enter-requires r κs =
-    let t = r.before.before.before in
+    let t = r.before.before in
     ((laid t).full, (omega (arith, r.row_of.ensures, behind t), omega (arith, r.row_of.ensures, within t, (laid t).bits)))
 
 loop-again : tie.Need-loop-i-preserved invariant-loop decreases-loop
 loop-again c =
-    let e = c.before.before in
+    let e = c.before in
     let r = e.before in
     let t = turn e in
     let l = (loop t).loop-i in
     let a = (start t).args in
-    let place = row_is l.index a.start a.value l.i l.hash l.inv.1.1.0 in
+    let place = row_is l.index a.start a.value l.i l.hash l.invariant.1.1.0 in
     let digits = digits_same l.index (new e) (same e) in (
-      (omega (arith, reached t, digits), omega (arith, l.inv.0.1, digits)),
+      (omega (arith, reached t, digits), omega (arith, l.invariant.0.1, digits)),
       (
         ((still e, column-same l.index (new e) (same e) a.start (column t)), still-planned e),
         (
-          c.hash_behind-hash.ensures ∙ ap (hash_behind (new e)) (l.inv.1.1.0 ∙ sym (hash-same l.index (new e) (same e) a.value l.i)) ∙ sym (hash-next (new e) a.value l.i),
+          c.hash_behind-hash.ensures ∙ ap (hash_behind (new e)) (l.invariant.1.1.0 ∙ sym (hash-same l.index (new e) (same e) a.value l.i)) ∙ sym (hash-next (new e) a.value l.i),
           (
-            grows-on a.index.now l.index (new e) l.inv.1.1.1.0 (one e),
-            rows_more l.index (new e) a.start a.value l.i a.g _ (omega (arith, r.row_of.ensures, place)) (same e) e.enter.ensures.1.1 l.inv.1.1.1.1,
+            grows-on a.index.now l.index (new e) l.invariant.1.1.1.0 (one e),
+            rows_more l.index (new e) a.start a.value l.i a.g _ (omega (arith, r.row_of.ensures, place)) (same e) e.enter.ensures.1.1 l.invariant.1.1.1.1,
           ),
         ),
       ),
@@ -111,8 +111,8 @@ loop-again c =
 
 returns : tie.Need-returns invariant-loop decreases-loop
 returns c =
-    let l = c.before.loop-i in
-    let a = c.before.before.before.before.args in
+    let l = c.loop-i in
+    let a = c.args in
     let e : l.i ≡ digit_count l.index = omega (arith, c.loop-i-test.false, l.invariant.0) in
     (l.invariant.1.0.0.0.full, (l.invariant.1.1.1.0, rows_all l.index a.start a.value a.g (subst (λ (n : ℕ). InRows l.index a.start a.value n a.g) e l.invariant.1.1.1.1)))
 
@@ -122,14 +122,14 @@ enter_value_spec =
     (tie.spec
     invariant-loop
     decreases-loop
-    (λ c κs. let s = c.before in (s.requires.0.0.plan, s.requires.1))
+    (λ c κs. let s = c in (s.requires.0.0.plan, s.requires.1))
     loop-holds
-    (λ c κs. let t = c.before.before in (((laid t).plan, (column t, (below t, reached t))), planned t))
+    (λ c κs. let t = c.before in (((laid t).plan, (column t, (below t, reached t))), planned t))
     enter-requires
-    (λ c κs. let e = c.before in ((still e).plan, (still-planned e, below (turn e))))
-    (λ c. let t = turn c.before.before in omega (arith, reached t, (laid t).plan.few))
+    (λ c κs. let e = c in ((still e).plan, (still-planned e, below (turn e))))
+    (λ c. let t = turn c.before in omega (arith, reached t, (laid t).plan.few))
     (λ c.
-    let e = c.before.before in
+    let e = c.before in
     omega (arith, reached (turn e), digits_same (index (turn e)) (new e) (same e)))
     loop-again
     returns)

@@ -9,5 +9,5 @@ hash_of_spec =
     tie.close
     (tie.spec
     (λ c κs. search rules)
-    (λ c κs. (c.before.requires, c.row_plan.ensures))
+    (λ c κs. (c.requires, c.row_plan.ensures))
     (λ c. c.hash_of.ensures))

@@ -13,8 +13,8 @@ returns c =
     let entered = c.before.before in
     let s = entered.before.before.before in
     let a = s.args in
-    let mid = entered.enter_tuples.new.1.1.1.1.1.1.0 in
-    let new = c.spread_columns.new.0 in
+    let mid = entered.enter_tuples.new.index in
+    let new = c.spread_columns.new.index in
     let grown = c.spread_columns.ensures.1.0 in (
       c.spread_columns.ensures.0,
       (
@@ -29,7 +29,7 @@ pub index_tuples_spec : {M : Type 1} → statement M
 index_tuples_spec =
     tie.close
     (tie.spec
-    (λ c κs. c.before.before.requires)
+    (λ c κs. c.requires)
     (λ c κs.
     let entered = c.before in
     let s = entered.before.before.before in

@@ -26,7 +26,7 @@ module _ (c : tie.After-combinations-answer) where
 
   -- what is left in the list
   abbrev members : List ℕ
-  members = c.combinations-answer.new.1.1.1.1.0
+  members = c.combinations-answer.new.list
 
 print-requires : tie.Need-print-requires
 print-requires c κs =

@@ -59,7 +59,7 @@ module _ (c : tie.After-widened) where
   counted = c.before.before.before
 
   abbrev numbers : List ℕ
-  numbers = c.widened.new.1.0
+  numbers = c.widened.new.into
 
   numbers-room : end counted ≤ length numbers
   numbers-room = let e : length numbers ≡ max_member_list = search rules in omega (arith, e, few counted)

@@ -27,8 +27,8 @@ loop-again c =
       omega (arith, c.before.before.before.loop-c-test.true),
       below_more _ _ l.loop-c.invariant.1
           (⊎_elim
-          (λ w e. w.3.left)
-          (λ w e. absurd (not-both (c.before.has_variable.ensures ∙ e) w.left))
+          (λ w e. w.if-a-c.false)
+          (λ w e. absurd (not-both (c.before.has_variable.ensures ∙ e) w.if-has_variable.false))
           c.if-has_variable.branch-raw),
     )
 

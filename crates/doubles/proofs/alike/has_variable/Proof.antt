@@ -11,7 +11,7 @@ use Rattle.doubles.proofs.alike.has_variable.Tie as tie
 returns : tie.Need-returns-then-wide-ge-VARIABLES
 returns c =
     let a = c.before.before in
-    sym (is_set-high a.args.set 64 a.args.v a.well-formed.0.1 (omega (arith, c.if-wide-ge-VARIABLES.true, c.before.wide.ensures.0)))
+    sym (is_set-high a.args.set 64 a.args.v a.well_formed.0.1 (omega (arith, c.if-wide-ge-VARIABLES.true, c.before.wide.ensures.0)))
 
 returns-2 : tie.Need-returns
 unfolding is_set bit

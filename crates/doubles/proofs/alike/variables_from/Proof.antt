@@ -28,8 +28,8 @@ loop-again c =
     let now = Collected N s.args.members.now s.args.place s.args.from (l.j + 1) in
     ⊎_elim
     {C = now c.if-j-place.common}
-    (λ w. subst now (sym w.3) (collected-more N s.args.members.now s.args.place s.args.from l.j l.common l.invariant w.2.result w.2.ensures))
-    (λ w. subst now (sym w.1) (collected-past N s.args.members.now s.args.place s.args.from l.j l.common l.invariant w.0.left))
+    (λ w. subst now (sym w.common-is) (collected-more N s.args.members.now s.args.place s.args.from l.j l.common l.invariant w.variables_of-common.result w.variables_of-common.ensures))
+    (λ w. subst now (sym w.common-is) (collected-past N s.args.members.now s.args.place s.args.from l.j l.common l.invariant w.if-j-place.false))
     c.if-j-place.branch-raw
 
 pub variables_from_spec : {M : Type 1} → statement M

@@ -38,7 +38,7 @@ loop-again c =
     let l = turn.before.loop-i in
     let a = (start turn.before.before).args in
     let here = within turn in
-    paired-next (entries16 a.questions.now) (entries32 a.codes.now) l.firsts-1 l.seconds-1 l.bound l.i l.invariant
+    paired-next (entries16 a.questions.now) (entries32 a.codes.now) l.firsts l.seconds l.bound l.i l.invariant
     (omega (arith, here.0, entries16-length a.questions.now)) (omega (arith, here.1, entries32-length a.codes.now)) _ _ _ _ _
     (variable.u16_at-x.ensures ∙ sym (entries16-at a.questions.now l.i here.0))
     (value.u32_at-v.ensures ∙ sym (entries32-at a.codes.now l.i here.1))
@@ -53,9 +53,9 @@ returns c =
     let variables = entries16-length a.questions.now in
     let values = entries32-length a.codes.now in
     let past : min (length (entries16 a.questions.now)) (length (entries32 a.codes.now)) ≤ l.i = rw (variables, values) (omega (arith, c.loop-i-test.false, read.lesser-count.ensures)) in
-    subst (λ (m : ℕ). ChoicesOf (record { variables = m; values = length a.codes.now / 4; bound = l.bound; firsts = l.firsts-1; seconds = l.seconds-1 }) (entries16 a.questions.now) (entries32 a.codes.now)) variables
-    (subst (λ (n : ℕ). ChoicesOf (record { variables = length (entries16 a.questions.now); values = n; bound = l.bound; firsts = l.firsts-1; seconds = l.seconds-1 }) (entries16 a.questions.now) (entries32 a.codes.now)) values
-    (paired-end (entries16 a.questions.now) (entries32 a.codes.now) l.firsts-1 l.seconds-1 l.bound l.i l.invariant past))
+    subst (λ (m : ℕ). ChoicesOf (record { variables = m; values = length a.codes.now / 4; bound = l.bound; firsts = l.firsts; seconds = l.seconds }) (entries16 a.questions.now) (entries32 a.codes.now)) variables
+    (subst (λ (n : ℕ). ChoicesOf (record { variables = length (entries16 a.questions.now); values = n; bound = l.bound; firsts = l.firsts; seconds = l.seconds }) (entries16 a.questions.now) (entries32 a.codes.now)) values
+    (paired-end (entries16 a.questions.now) (entries32 a.codes.now) l.firsts l.seconds l.bound l.i l.invariant past))
 
 pub choices_at_spec : {M : Type 1} → statement M
 choices_at_spec =

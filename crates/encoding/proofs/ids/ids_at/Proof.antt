@@ -24,7 +24,7 @@ loop-again c =
     let l = turn.before.loop-i in
     let ids = turn.before.before.before.args.ids.now in (
       omega (arith, turn.loop-i-test.true),
-      filled_next (entries16 ids) l.words-1 l.bound l.i l.invariant.1 _ _ _ (omega (arith, turn.loop-i-test.true, entries16-length ids))
+      filled_next (entries16 ids) l.words l.bound l.i l.invariant.1 _ _ _ (omega (arith, turn.loop-i-test.true, entries16-length ids))
           (read.u16_at.ensures ∙ sym (entries16-at ids l.i (omega (arith, turn.loop-i-test.true))))
           a.add-bound.ensures.0
           a.add-bound.ensures.1,
@@ -34,7 +34,7 @@ returns : tie.Need-returns invariant-loop decreases-loop
 returns c =
     let l = c.before.loop-i in
     let ids = c.before.before.before.args.ids.now in
-    filled-end (entries16 ids) l.words-1 l.bound l.i l.invariant.1 (omega (arith, c.loop-i-test.false, entries16-length ids))
+    filled-end (entries16 ids) l.words l.bound l.i l.invariant.1 (omega (arith, c.loop-i-test.false, entries16-length ids))
 
 pub ids_at_spec : {M : Type 1} → statement M
 ids_at_spec =

@@ -11,7 +11,7 @@ returns : tie.Need-returns-then-sheets-ne0
 returns c = simp (ne_eqb _ _ c.if-sheets-ne0.true)
 
 returns-2 : tie.Need-returns
-returns-2 c = c.cells_Whole.ensures ∙ second _ (eq-eqb _ _ c.before.if-sheets-ne0.false)
+returns-2 c = c.cells_whole.ensures ∙ second _ (eq-eqb _ _ c.before.if-sheets-ne0.false)
 
 pub network_whole_spec : {M : Type 1} → statement M
 network_whole_spec = tie.close (tie.spec

@@ -14,16 +14,16 @@ abbrev number : Answer → ℕ
 number a = packed (answer_numbers a)
 
 pack-numbers-requires-2 : tie.Need-pack_numbers-requires-in-Emptied
-pack-numbers-requires-2 c κs = (omega arith, rw c.before.a-in-Emptied-1.given.1 at c.before.before.before.requires)
+pack-numbers-requires-2 c κs = (omega arith, rw c.in-Emptied.is at c.requires)
 
 returns : tie.Need-returns-in-Settled
-returns c = c.pack_numbers.ensures ∙ ap number (sym c.before.before.a-1.given.1)
+returns c = c.pack_numbers.ensures ∙ ap number (sym c.in-Settled.is)
 
 returns-2 : tie.Need-returns-in-Emptied
-returns-2 c = c.pack_numbers-in-Emptied.ensures ∙ ap number (sym c.before.before.a-in-Emptied-1.given.1)
+returns-2 c = c.pack_numbers-in-Emptied.ensures ∙ ap number (sym c.in-Emptied.is)
 
 returns-3 : tie.Need-returns-in-Refused
-returns-3 c = c.pack_numbers-in-Refused.ensures ∙ ap number (sym c.before.before.a-in-Refused-1.given.1)
+returns-3 c = c.pack_numbers-in-Refused.ensures ∙ ap number (sym c.in-Refused.is)
 
 pub pack_spec : {M : Type 1} → statement M
 pack_spec =

@@ -6,13 +6,13 @@ use Rattle.encoding.proofs.packing.pack_comparison.Statement.{statement}
 use Rattle.encoding.proofs.packing.pack_comparison.Tie as tie
 
 returns : tie.Need-returns-in-Differ
-returns c = rw c.before.a-1.given.1 (omega arith)
+returns c = rw c.in-Differ.is (omega arith)
 
 returns-2 : tie.Need-returns-in-Agree
-returns-2 c = rw c.enum_told-1.given.1
+returns-2 c = rw c.in-Agree.is
 
 returns-3 : tie.Need-returns-in-Refused
-returns-3 c = rw c.before.a-in-Refused-1.given.1 (omega arith)
+returns-3 c = rw c.in-Refused.is (omega arith)
 
 pub pack_comparison_spec : {M : Type 1} → statement M
 pack_comparison_spec =

@@ -13,10 +13,10 @@ abbrev number : Enumeration → ℕ
 number a = packed (enumeration_numbers a)
 
 returns : tie.Need-returns-in-Listed
-returns c = c.pack_numbers.ensures ∙ ap number (sym c.before.before.a-1.given.1)
+returns c = c.pack_numbers.ensures ∙ ap number (sym c.in-Listed.is)
 
 returns-2 : tie.Need-returns-in-Refused
-returns-2 c = c.pack_numbers-in-Refused.ensures ∙ ap number (sym c.before.before.a-in-Refused-1.given.1)
+returns-2 c = c.pack_numbers-in-Refused.ensures ∙ ap number (sym c.in-Refused.is)
 
 pub pack_enumeration_spec : {M : Type 1} → statement M
 pack_enumeration_spec =

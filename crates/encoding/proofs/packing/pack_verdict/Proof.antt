@@ -6,13 +6,13 @@ use Rattle.encoding.proofs.packing.pack_verdict.Statement.{statement}
 use Rattle.encoding.proofs.packing.pack_verdict.Tie as tie
 
 returns : tie.Need-returns-in-No
-returns c = rw c.enum_told-1.given.1
+returns c = rw c.in-No.is
 
 returns-2 : tie.Need-returns-in-Yes
-returns-2 c = rw c.enum_told-in-Yes-1.given.1
+returns-2 c = rw c.in-Yes.is
 
 returns-3 : tie.Need-returns-in-Refused
-returns-3 c = rw c.before.v-1.given.1 (omega arith)
+returns-3 c = rw c.in-Refused.is (omega arith)
 
 pub pack_verdict_spec : {M : Type 1} → statement M
 pack_verdict_spec =

@@ -19,7 +19,7 @@ loop-again c =
     let turn = put.before.before.before in
     let l = turn.before.loop-r in
     let start = turn.before.before.before.before in
-    written_next start.args.counts.now start.args.sheets.now l.r l.sheets-1 put.put_u16.new.0 l.invariant start.requires turn.loop-r-test.true put.put_u16.ensures
+    written_next start.args.counts.now start.args.sheets.now l.r l.sheets put.put_u16.new.d l.invariant start.requires turn.loop-r-test.true put.put_u16.ensures
 
 pub put_counts_spec : {M : Type 1} → statement M
 put_counts_spec =

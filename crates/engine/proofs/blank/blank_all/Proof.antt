@@ -34,7 +34,7 @@ blank-dead-requires c κs =
     let l = turn.before.loop-p in
     let r = get_or s.args.members.now l.p 0 in
     let f = s.requires.framed in
-    let h = below turn in
+    let h = below turn.before in
     let begin = c.wide.ensures.0 ∙ s.requires.places l.p (omega (arith, turn.loop-p-test.true)) in
     let within = pair-within f s.requires.paired l.p turn.loop-p-test.true in
     record {
@@ -56,13 +56,13 @@ loop-again c =
     let f = s.requires.framed in
     let N = outline a.starts.now in (
       search rules,
-      blanked-more N a.m a.members.now a.words.now a.numbers.now l.p turn.loop-p-test.true l.numbers-1 after.blank_dead.new.1.0
+      blanked-more N a.m a.members.now a.words.now a.numbers.now l.p turn.loop-p-test.true l.numbers after.blank_dead.new.numbers
           l.invariant.1
-          (blank-as a.m after.before.wide.result ids.before.tuple_start-first.result a.words.now l.numbers-1
-          (support_start N a.m a.members.now l.p) (first_id N r) (ids.tuple_start-end.result - ids.before.tuple_start-first.result) (size N r) after.blank_dead.new.1.0
+          (blank-as a.m after.before.wide.result ids.before.tuple_start-first.result a.words.now l.numbers
+          (support_start N a.m a.members.now l.p) (first_id N r) (ids.tuple_start-end.result - ids.before.tuple_start-first.result) (size N r) after.blank_dead.new.numbers
           (after.before.wide.ensures.0 ∙ s.requires.places l.p (omega (arith, turn.loop-p-test.true)))
-          (ids.before.tuple_start-first.ensures ∙ tuple-start f r (omega (arith, below turn)))
-          (ap₂ (λ (e b : ℕ). e - b) ids.tuple_start-end.ensures ids.before.tuple_start-first.ensures ∙ size_in f r (below turn))
+          (ids.before.tuple_start-first.ensures ∙ tuple-start f r (omega (arith, below turn.before)))
+          (ap₂ (λ (e b : ℕ). e - b) ids.tuple_start-end.ensures ids.before.tuple_start-first.ensures ∙ size_in f r (below turn.before))
           after.blank_dead.ensures),
     )
 
@@ -71,7 +71,7 @@ returns c =
     let a = c.before.before.before.before.before.args in
     let l = c.before.loop-p in
     let e : l.p ≡ length a.members.now = omega (arith, l.invariant.0, c.loop-p-test.false) in
-    subst (λ (k : ℕ). Blanked (outline a.starts.now) a.m a.members.now k a.words.now a.numbers.now l.numbers-1) e l.invariant.1
+    subst (λ (k : ℕ). Blanked (outline a.starts.now) a.m a.members.now k a.words.now a.numbers.now l.numbers) e l.invariant.1
 
 pub blank_all_spec : {M : Type 1} → statement M
 blank_all_spec =

@@ -28,7 +28,7 @@ abbrev Inside : tie.In-loop-g invariant-loop decreases-loop → Type 0
 Inside c =
     let a = c.before.before.before.before.before.args in
     let l = c.before.loop-g in
-    (l.at + a.m ≡ a.start + (l.g + 1 - a.first) * a.m) × (a.start + (l.g + 1 - a.first) * a.m ≤ length l.numbers-1)
+    (l.at + a.m ≡ a.start + (l.g + 1 - a.first) * a.m) × (a.start + (l.g + 1 - a.first) * a.m ≤ length l.numbers)
 
 inside : (c : tie.In-loop-g invariant-loop decreases-loop) → Inside c
 inside c =
@@ -39,7 +39,7 @@ inside c =
     (omega arith, omega (arith, l.invariant.0.long))
 
 -- the numbers after a turn
-turned : (c : tie.Joined-not-is_live invariant-loop decreases-loop) → (let a = c.before.before.before.before.before.before.before.args in let l = c.before.before.before.loop-g in Blank a.m a.start a.first (l.g + 1 - a.first) a.words.now a.numbers.now c.if-not-is_live.numbers-1)
+turned : (c : tie.Joined-not-is_live invariant-loop decreases-loop) → (let a = c.before.before.before.before.before.before.before.args in let l = c.before.before.before.loop-g in Blank a.m a.start a.first (l.g + 1 - a.first) a.words.now a.numbers.now c.if-not-is_live.numbers)
 turned c =
     let a = c.before.before.before.before.before.before.before.args in
     let l = c.before.before.before.loop-g in
@@ -50,14 +50,14 @@ turned c =
     let id : l.g ≡ a.first + n = omega arith in
     let lives = c.before.is_live.ensures ∙ ap (is_live a.words.now) id in
     ⊎_elim
-    {C = Blank a.m a.start a.first (l.g + 1 - a.first) a.words.now a.numbers.now c.if-not-is_live.numbers-1}
+    {C = Blank a.m a.start a.first (l.g + 1 - a.first) a.words.now a.numbers.now c.if-not-is_live.numbers}
     (λ w.
-    blank-dead a.m a.start a.first a.words.now a.numbers.now n (l.g + 1 - a.first) l.numbers-1 next l.invariant.0 fits c.if-not-is_live.numbers-1
-    (sym lives ∙ not-true c.before.is_live.result w.0.taken)
-    (w.5 ∙ w.2.ensures ∙ ap₂ (λ (at k : ℕ). replaced l.numbers-1 (replicate k no_support) at k) l.invariant.1.1.1 c.before.before.before.before.wide-each.ensures.0))
+    blank-dead a.m a.start a.first a.words.now a.numbers.now n (l.g + 1 - a.first) l.numbers next l.invariant.0 fits c.if-not-is_live.numbers
+    (sym lives ∙ not-true c.before.is_live.result w.if-not-is_live.true-raw)
+    (w.numbers-is ∙ w.blank.ensures ∙ ap₂ (λ (at k : ℕ). replaced l.numbers (replicate k no_support) at k) l.invariant.1.1.1 c.before.before.before.before.wide-each.ensures.0))
     (λ w.
-    subst (Blank a.m a.start a.first (l.g + 1 - a.first) a.words.now a.numbers.now) (sym w.1)
-    (blank-live a.m a.start a.first a.words.now a.numbers.now n (l.g + 1 - a.first) l.numbers-1 next l.invariant.0 fits (sym lives ∙ not-false c.before.is_live.result w.0.left)))
+    subst (Blank a.m a.start a.first (l.g + 1 - a.first) a.words.now a.numbers.now) (sym w.numbers-is)
+    (blank-live a.m a.start a.first a.words.now a.numbers.now n (l.g + 1 - a.first) l.numbers next l.invariant.0 fits (sym lives ∙ not-false c.before.is_live.result w.if-not-is_live.false-raw)))
     c.if-not-is_live.branch-raw
 
 loop-holds : tie.Need-loop-g-init invariant-loop decreases-loop
@@ -86,7 +86,7 @@ returns c =
     let a = c.before.before.before.before.before.args in
     let l = c.before.loop-g in
     let e : l.g - a.first ≡ a.end - a.first = omega arith in
-    subst (λ (n : ℕ). Blank a.m a.start a.first n a.words.now a.numbers.now l.numbers-1) e l.invariant.0
+    subst (λ (n : ℕ). Blank a.m a.start a.first n a.words.now a.numbers.now l.numbers) e l.invariant.0
 
 pub blank_dead_spec : {M : Type 1} → statement M
 blank_dead_spec =

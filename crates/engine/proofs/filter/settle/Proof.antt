@@ -48,16 +48,16 @@ sound s = s.requires.0.1.sound
 
 -- the start of the function, from the loop's test on
 abbrev entry : tie.At-loop-taken invariant-loop decreases-loop → tie.Start invariant-loop decreases-loop
-entry c = c.before.before.before.before.before.before.before.before.before.before.before.before
+entry c = c.before.before.before.before.before.before.before.before.before.before.before.before.before
 
 -- the loop's test, from the visit on
 abbrev test : tie.After-visit-waiting invariant-loop decreases-loop → tie.At-loop-taken invariant-loop decreases-loop
 test c = c.before.before.before.before.before.before.before
 
 -- how many numbers there are
-wanted : (c : tie.After-wide invariant-loop decreases-loop) → let G = given c.before.before.before.before.before.before.before in c.wide.result ≡ needed (network G) (listed G)
+wanted : (c : tie.After-wide invariant-loop decreases-loop) → let G = given c.before.before.before.before.before.before.before.before in c.wide.result ≡ needed (network G) (listed G)
 wanted c =
-    let s = c.before.before.before.before.before.before.before in
+    let s = c.before.before.before.before.before.before.before.before in
     let a = s.args in
     c.wide.ensures.0
     ∙ s.requires.0.1.places (length a.members.now) (omega arith)
@@ -65,9 +65,9 @@ wanted c =
     ∙ needed-outline (given s).lists (listed (given s))
 
 -- the numbers once they are filled
-fills : (c : tie.After-fill invariant-loop decreases-loop) → (let s = c.before.before.before.before.before.before.before.before in let n = needed (network (given s)) (listed (given s)) in c.fill.new.0 ≡ replicate n no_support ++ drop n s.args.numbers.now)
+fills : (c : tie.After-fill invariant-loop decreases-loop) → (let s = c.before.before.before.before.before.before.before.before.before in let n = needed (network (given s)) (listed (given s)) in c.fill.new.numbers ≡ replicate n no_support ++ drop n s.args.numbers.now)
 fills c =
-    let s = c.before.before.before.before.before.before.before.before in
+    let s = c.before.before.before.before.before.before.before.before.before in
     c.fill.ensures ∙ ap (λ (n : ℕ). replicate n no_support ++ drop n s.args.numbers.now) (wanted c.before)
 
 -- the pair taken is one
@@ -76,18 +76,18 @@ pair-below c = omega arith
 
 loop-holds : tie.Need-loop-taken-init invariant-loop decreases-loop
 loop-holds c =
-    let s = c.before.before.before.before.before.before.before.before.before.before.before in
+    let s = c.before.before.before.before.before.before.before.before.before.before.before.before in
     let a = s.args in
     let G = given s in
     let fill = c.before.before.before.fill in
     let f : (i : ℕ) → Fits w64 (get_or c.full-waiting.result.words i 0) = λ i. search rules in
     record {
       sixteen = words_of c.full-waiting.result.words (search rules) f;
-      working = filled-working G (sound s) a.words.now a.numbers.now fill.new.0 s.requires.1 (fills c.before.before.before);
+      working = filled-working G (sound s) a.words.now a.numbers.now fill.new.numbers s.requires.1 (fills c.before.before.before);
       shrunk = shrunk-refl G a.words.now s.requires.0.0.small;
       beyond = refl;
       long = refl;
-      rest = full-rest G (sound s) c.full-waiting.result.words a.words.now fill.new.0 (length a.members.now) refl c.full-waiting.ensures;
+      rest = full-rest G (sound s) c.full-waiting.result.words a.words.now fill.new.numbers (length a.members.now) refl c.full-waiting.ensures;
     }
 
 -- the queue that a visit gives back has sixteen words
@@ -110,8 +110,8 @@ loop-less c =
     let t = test v in
     let s = entry t in
     let take = v.before.before.before.before.before.before.take-taken in
-    weight-less (given s) (sound s) t.loop-taken.waiting.words t.loop-taken.inv.sixteen take.result.pair take.ensures.0 (pair-below v.before.before.before.before) take.result.rest.words take.ensures.1
-    s.args.words.now s.args.numbers.now t.loop-taken.words t.loop-taken.numbers v.visit-waiting.result.words v.visit-waiting.new.1.1.1.1.1.1.1.1.0 v.visit-waiting.new.1.1.1.1.1.1.1.1.1.0 v.visit-waiting.ensures
+    weight-less (given s) (sound s) t.loop-taken.waiting.words t.loop-taken.invariant.sixteen take.result.pair take.ensures.0 (pair-below v.before.before.before.before) take.result.rest.words take.ensures.1
+    s.args.words.now s.args.numbers.now t.loop-taken.words t.loop-taken.numbers v.visit-waiting.result.words v.visit-waiting.new.words v.visit-waiting.new.numbers v.visit-waiting.ensures
 
 loop-again : tie.Need-loop-taken-preserved invariant-loop decreases-loop
 loop-again c =
@@ -119,9 +119,9 @@ loop-again c =
     let t = test v in
     let s = entry t in
     let take = v.before.before.before.before.before.before.take-taken in
-    underway (given s) (sound s) t.loop-taken.waiting.words t.loop-taken.inv.sixteen take.result.pair take.ensures.0 (pair-below v.before.before.before.before) take.result.rest.words take.ensures.1
-    s.args.words.now t.before.before.before.before.fill.last.0 t.loop-taken.words t.loop-taken.numbers v.visit-waiting.result.words v.visit-waiting.new.1.1.1.1.1.1.1.1.0 v.visit-waiting.new.1.1.1.1.1.1.1.1.1.0 v.visit-waiting.ensures
-    (visit-words v) t.loop-taken.inv
+    underway (given s) (sound s) t.loop-taken.waiting.words t.loop-taken.invariant.sixteen take.result.pair take.ensures.0 (pair-below v.before.before.before.before) take.result.rest.words take.ensures.1
+    s.args.words.now t.before.before.before.before.fill.new.numbers t.loop-taken.words t.loop-taken.numbers v.visit-waiting.result.words v.visit-waiting.new.words v.visit-waiting.new.numbers v.visit-waiting.ensures
+    (visit-words v) t.loop-taken.invariant
 
 blank-all-requires : tie.Need-blank_all-requires invariant-loop decreases-loop
 blank-all-requires c κs =
@@ -141,7 +141,7 @@ finished : (c : tie.Then-wide-members invariant-loop decreases-loop) → (let t 
 finished c =
     let t = c.before.before.before in
     let take = c.before.before.take-taken in
-    all_done (given (entry t)) (sound (entry t)) t.loop-taken.words t.loop-taken.numbers t.loop-taken.waiting.words take.result.pair take.ensures.0 (omega arith) t.loop-taken.invariant.rest-1
+    all_done (given (entry t)) (sound (entry t)) t.loop-taken.words t.loop-taken.numbers t.loop-taken.waiting.words take.result.pair take.ensures.0 (omega arith) t.loop-taken.invariant.rest
 
 returns : tie.Need-returns invariant-loop decreases-loop
 returns c =
@@ -152,12 +152,12 @@ returns c =
     let a = s.args in
     let l = t.loop-taken in
     let done = finished c.before.before.before.before.before.before in
-    let final = c.before.before.blank_all.new.1.1.1.1.1.0 in
+    let final = c.before.before.blank_all.new.numbers in
     let n = needed N (listed G) in
-    let beyond = l.invariant.beyond ∙ filled-beyond G (sound s) a.words.now a.numbers.now t.before.before.before.before.fill.new.0 s.requires.1 (fills t.before.before.before.before) in (
-      words-end G (sound s) l.words l.numbers-1 done a.words.now l.invariant.shrunk,
-      numbers-end G (sound s) l.words l.numbers-1 done final (blanked-network G.lists c.before.before.blank_all.ensures) a.numbers.now beyond
-          ∙ ap (λ (T : TupleSet). support_list N (listed G) T ++ drop n a.numbers.now) (left G (sound s) l.words l.numbers-1 done a.words.now l.invariant.shrunk),
+    let beyond = l.invariant.beyond ∙ filled-beyond G (sound s) a.words.now a.numbers.now t.before.before.before.before.fill.new.numbers s.requires.1 (fills t.before.before.before.before) in (
+      words-end G (sound s) l.words l.numbers done a.words.now l.invariant.shrunk,
+      numbers-end G (sound s) l.words l.numbers done final (blanked-network G.lists c.before.before.blank_all.ensures) a.numbers.now beyond
+          ∙ ap (λ (T : TupleSet). support_list N (listed G) T ++ drop n a.numbers.now) (left G (sound s) l.words l.numbers done a.words.now l.invariant.shrunk),
     )
 
 same_length : tie.Need-shape_of-numbers invariant-loop decreases-loop
@@ -167,7 +167,7 @@ same_length c =
     let a = s.args in
     c.before.before.blank_all.ensures.long
     ∙ t.loop-taken.invariant.long
-    ∙ filled-long (given s) (sound s) a.words.now a.numbers.now t.before.before.before.before.fill.new.0 s.requires.1 (fills t.before.before.before.before)
+    ∙ filled-long (given s) (sound s) a.words.now a.numbers.now t.before.before.before.before.fill.new.numbers s.requires.1 (fills t.before.before.before.before)
 
 pub settle_spec : {M : Type 1} → statement M
 settle_spec =
@@ -176,11 +176,11 @@ settle_spec =
     invariant-loop
     decreases-loop
     (λ c. search rules)
-    (λ c. let s = c.before.before.before.before.before in omega (arith, (sound s).paired.list.short))
+    (λ c. let s = c.before.before.before.before.before.before in omega (arith, (sound s).paired.list.short))
     (λ c κs. search rules)
-    (λ c κs. let s = c.before.before.before.before.before.before.before in omega (arith, wanted c, s.requires.1.room))
-    (λ c. let s = c.before.before.before.before.before.before.before.before.before.before in omega (arith, (sound s).paired.list.short))
-    (λ c κs. let s = c.before.before.before.before.before.before.before.before.before.before in omega (arith, (sound s).paired.list.short))
+    (λ c κs. let s = c.before.before.before.before.before.before.before.before in omega (arith, wanted c, s.requires.1.room))
+    (λ c. let s = c.before.before.before.before.before.before.before.before.before.before.before in omega (arith, (sound s).paired.list.short))
+    (λ c κs. let s = c.before.before.before.before.before.before.before.before.before.before.before in omega (arith, (sound s).paired.list.short))
     loop-holds
     (λ c κs. search rules)
     (λ c κs. search rules)

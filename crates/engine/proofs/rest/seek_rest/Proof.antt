@@ -95,7 +95,7 @@ row t =
 
 seeking-requires : tie.Need-seeking-pending-requires
 seeking-requires c κs =
-    let t = c.before in
+    let t = c in
     let w = read t in
     let a = entry w in
     let first = t.before.tuple_start-first.result in
@@ -106,12 +106,12 @@ seeking-requires c κs =
 seek-together-requires : tie.Need-seek_together-left-requires
 seek-together-requires c κs =
     let k = c.before.before.before in
-    let w = read k.before.before in
+    let w = read k.before in
     let a = entry w in (
       (((asked a).leaner.long, k.seeking-pending.ensures.long), subst (λ (Q : Joint). SoundJoint Q a.args.index.now) (sym (joint-is w)) (sound-joint (asked a))),
       (
         subst (λ (Q : Joint). Room Q a.args.start (length a.args.numbers.now)) (sym (joint-is w)) (room-joint (asked a)),
-        omega (arith, ap {B = ℕ} length (part-is w), member-count (asked a), w.before.before.if-m-lt2.left),
+        omega (arith, ap {B = ℕ} length (part-is w), member-count (asked a), w.before.before.if-m-lt2.false),
       ),
     )
 
@@ -120,15 +120,15 @@ abbrev sought : tie.After-seek_together-left → tie.After-seeking-pending
 sought t = t.before.before.before.before
 
 abbrev left-words : tie.After-seek_together-left → List ℕ
-left-words t = t.seek_together-left.new.1.1.1.1.1.1.1.0
+left-words t = t.seek_together-left.new.pending
 
 abbrev left-numbers : tie.After-seek_together-left → List ℕ
-left-numbers t = t.seek_together-left.new.1.1.1.1.1.1.1.1.0
+left-numbers t = t.seek_together-left.new.numbers
 
-found : (t : tie.After-seek_together-left) → (let k = sought t in let a = entry (read k.before.before) in Together (joined (asked a)) a.args.start a.args.lean.now k.seeking-pending.result (left-words t) a.args.numbers.now (left-numbers t) t.seek_together-left.result)
+found : (t : tie.After-seek_together-left) → (let k = sought t in let a = entry (read k.before) in Together (joined (asked a)) a.args.start a.args.lean.now k.seeking-pending.result (left-words t) a.args.numbers.now (left-numbers t) t.seek_together-left.result)
 found t =
     let k = sought t in
-    let w = read k.before.before in
+    let w = read k.before in
     let a = entry w in
     subst (λ (Q : Joint). Together Q a.args.start a.args.lean.now k.seeking-pending.result (left-words t) a.args.numbers.now (left-numbers t) t.seek_together-left.result) (joint-is w) t.seek_together-left.ensures
 
@@ -141,7 +141,7 @@ returns-2 : tie.Need-returns-then-left-eq0
 returns-2 c =
     let t = c.before.before.before in
     let k = sought t in
-    let a = entry (read k.before.before) in
+    let a = entry (read k.before) in
     rested (asked a) k.seeking-pending.ensures (found t) a.requires.1 (λ D. D)
 
 returns-3 : tie.Need-returns
@@ -149,7 +149,7 @@ returns-3 c =
     let e = c.before.before.before in
     let t = e.before.before.before in
     let k = sought t in
-    let a = entry (read k.before.before) in
+    let a = entry (read k.before) in
     let long = (found t).frames.long in
     subst (Rested (G a) a.args.p a.args.from a.args.words.now a.args.numbers.now a.args.doomed.now (left-numbers t))
     (sym (c.put_back.ensures ∙ whole_back (left-words t) a.args.doomed.now long a.requires.1))
@@ -172,10 +172,10 @@ seek_rest_spec =
     (λ c. omega (arith, member-few c.before.before))
     (λ c κs. omega (arith, member-few c.before.before))
     seeking-requires
-    (λ c. let w = read c.before.before in omega (arith, div-mul-le_self w.wide-pair.result (each w)))
+    (λ c. let w = read c.before in omega (arith, div-mul-le_self w.wide-pair.result (each w)))
     (λ c. search rules)
     (λ c. search rules)
-    (λ c. within (read c.before.before))
+    (λ c. within (read c.before))
     seek-together-requires
     (λ c. search rules)
     returns-2

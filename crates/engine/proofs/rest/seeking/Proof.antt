@@ -70,15 +70,15 @@ set-requires c κs =
     let s = entry l in
     omega (arith, i.loop-g-test.true, s.requires.few, l.loop-g.invariant.0.array.long)
 
-raises-joined : (j : tie.Joined-not-holds invariant-loop decreases-loop) → (let s = entry j.before.before.before.before in Raises s.args.words.now s.args.from j.if-not-holds.pending-1)
+raises-joined : (j : tie.Joined-not-holds invariant-loop decreases-loop) → (let s = entry j.before.before.before.before in Raises s.args.words.now s.args.from j.if-not-holds.pending)
 raises-joined j =
     let i = j.before.before.before in
     let l = i.before in
     let s = entry l in
     ⊎_elim
-    {C = Raises s.args.words.now s.args.from j.if-not-holds.pending-1}
-    (λ t. subst (Raises s.args.words.now s.args.from) (sym (t.4 ∙ t.2.ensures)) (raises-more l.loop-g.invariant.0 l.loop-g.g l.loop-g.invariant.1.0 (l.loop-g.invariant.1.2 i.loop-g-test.true)))
-    (λ t. subst (Raises s.args.words.now s.args.from) (sym t.1) l.loop-g.invariant.0)
+    {C = Raises s.args.words.now s.args.from j.if-not-holds.pending}
+    (λ t. subst (Raises s.args.words.now s.args.from) (sym (t.pending-is ∙ t.set.ensures)) (raises-more l.loop-g.invariant.0 l.loop-g.g l.loop-g.invariant.1.0 (l.loop-g.invariant.1.2 i.loop-g-test.true)))
+    (λ t. subst (Raises s.args.words.now s.args.from) (sym t.pending-is) l.loop-g.invariant.0)
     j.if-not-holds.branch-raw
 
 add-next : tie.Need-overflow_add-g invariant-loop decreases-loop

@@ -67,7 +67,7 @@ returns-2 : tie.Need-returns
 returns-2 c =
     let w = c.before.before in
     let b = w.before.before in
-    let lean = c.lean_once_hard.new.1.1.1.1.1.1.1.0 in
+    let lean = c.lean_once_hard.new.words in
     subst (λ (place : ℕ). LeanFrom (G b).lists (combination_of (G b) (a b).args.p) place (a b).args.lean.now lean) (place_is w)
     (subst (λ (ms : List ℕ). LeanFrom (G b).lists ms (w.wide-2.result % b.before.wide-each.result) (a b).args.lean.now lean) (is-part b) c.lean_once_hard.ensures)
 

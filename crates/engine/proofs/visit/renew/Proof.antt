@@ -46,14 +46,14 @@ each-is c = c.wide-each.ensures.0
 -- ---- What is held
 
 abbrev begun : tie.After-wide → tie.After-wide-each
-begun c = c.before.before.before.before.before.before.before
+begun c = c.before.before.before.before.before.before
 
 base-is : (c : tie.After-wide) → (let w = begun c in let a = entry w in c.wide.result / w.wide-each.result * w.wide-each.result ≡ a.args.p / a.args.m * a.args.m)
 base-is c = ap₂ (λ (q n : ℕ). q / n * n) c.wide.ensures.0 (each-is (begun c))
 
-loaded-is : (c : tie.After-load-held) → (let a = entry c.before.before.before.before in c.load-held.result ≡ loaded (seeker a))
+loaded-is : (c : tie.After-load-held) → (let a = entry c.before.before.before in c.load-held.result ≡ loaded (seeker a))
 loaded-is c =
-    let w = c.before.before.before.before in
+    let w = c.before.before.before in
     let a = entry w in
     c.load-held.ensures
     ∙ ap₂ (λ (n at : ℕ). take n (drop at a.args.numbers.now) ++ replicate (max_members - n) 0) (each-is w) a.requires.1.0.seek.place
@@ -66,7 +66,7 @@ is-index c e =
 
 load-requires : tie.Need-load-held-requires
 load-requires c κs =
-    let w = c.before.before.before in
+    let w = c.before.before in
     let a = entry w in
     (omega (arith, each-is w, inside a), omega (arith, each-is w, (sound a).paired.list.few))
 
@@ -81,7 +81,7 @@ all-live-requires c κs =
     subst (λ (n : ℕ). Chosen ws ts ms (c.wide.result / w.wide-each.result * w.wide-each.result) n l.load-held.result) (sym (each-is w))
     (subst (λ (b : ℕ). Chosen ws ts ms b a.args.m l.load-held.result) (sym (base-is c))
     (subst (Chosen ws ts ms (a.args.p / a.args.m * a.args.m) a.args.m) (sym (loaded-is l))
-    (chosen (seeker a) (is-index l.before.before))))
+    (chosen (seeker a) (is-index l.before))))
 
 returns : tie.Need-returns-then-all_live
 returns c =
@@ -91,7 +91,7 @@ returns c =
     let a = entry w in
     let live : ℕ → ℕ → List ℕ → Bool = λ b n is. all_live a.args.words.now a.args.starts.now a.args.members.now b n is in (
       renewed-held (seeker a)
-          (is-index l.before.before)
+          (is-index l.before)
           (sym
           (c.before.all_live.ensures
           ∙ ap₂ (λ (b n : ℕ). live b n l.load-held.result) (base-is q) (each-is w)

@@ -42,8 +42,8 @@ module _ (a : tie.Start) where
 
 -- ---- A twin
 
-abbrev entry : tie.After-take-twin-arg3 → tie.Start
-entry c = c.before.before.before.before.before.before.before
+abbrev entry : tie.After-take_twin-arg-2-1 → tie.Start
+entry c = c.before.before.before.before.before.before
 
 take-twin-requires : tie.Need-take_twin-twin-requires
 take-twin-requires c κs =
@@ -66,7 +66,7 @@ start c = entry c.before.before.before
 
 -- the numbers after it
 abbrev numbers_after : tie.After-slice_known-2-1 → List ℕ
-numbers_after c = c.before.before.take_twin-twin.new.1.1.1.1.1.1.0
+numbers_after c = c.before.before.take_twin-twin.new.numbers
 
 -- what comes of it
 came : (c : tie.After-slice_known-2-1) (t : Twin) → c.before.before.take_twin-twin.result ≡ t → (let a = start c in Outcome (G a) a.args.p a.args.x a.args.words.now a.args.numbers.now t (numbers_after c))
@@ -85,7 +85,7 @@ returns c =
 -- ---- It fell
 
 abbrev fell : tie.After-tuple_start → tie.After-slice_known-2-1
-fell c = c.before.before.before.before.before.before
+fell c = c.before.before.before.before.before
 
 id-is : (c : tie.After-tuple_start) → (let a = start (fell c) in c.tuple_start.result + a.args.x ≡ tuple_id (G a) a.args.p a.args.x)
 id-is c =
@@ -136,7 +136,7 @@ returns-3 c =
     let e = s.before.before.before.before.before.before in
     let k = e.before.before in
     let a = start k in (
-      subst (λ (ns : List ℕ). Renewed (G a) a.args.p a.args.x a.args.words.now ns (is_found s.seek.result) s.seek.new.1.1.1.1.1.1.0 s.seek.new.1.1.1.1.1.1.1.0) (same e) s.seek.ensures.0,
+      subst (λ (ns : List ℕ). Renewed (G a) a.args.p a.args.x a.args.words.now ns (is_found s.seek.result) s.seek.new.words s.seek.new.numbers) (same e) s.seek.ensures.0,
       (k.before.before.take_twin-twin.ensures.1, s.seek.ensures.1),
     )
 

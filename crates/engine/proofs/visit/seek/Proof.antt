@@ -91,8 +91,8 @@ low-is c =
     let a = entry w in
     ⊎_elim
     {C = c.if-numbers-at.low ≡ low_of (seeker a)}
-    (λ t. t.3 ∙ loaded-is w t.2.ensures ∙ sym (low_held (seeker a) (λ e. t.0.taken (lead_is a ∙ e))))
-    (λ t. t.1 ∙ c.before.before.put-low.ensures ∙ ap (λ (q : ℕ). set (replicate max_members 0) q a.args.x) (place_is w) ∙ sym (low-none (seeker a) (sym (lead_is a) ∙ t.0.left)))
+    (λ t. t.low-is ∙ loaded-is w t.load-low.ensures ∙ sym (low_held (seeker a) (λ e. t.if-numbers-at.true (lead_is a ∙ e))))
+    (λ t. t.low-is ∙ c.before.before.put-low.ensures ∙ ap (λ (q : ℕ). set (replicate max_members 0) q a.args.x) (place_is w) ∙ sym (low-none (seeker a) (sym (lead_is a) ∙ t.if-numbers-at.false)))
     c.if-numbers-at.branch-raw
 
 -- the combination
@@ -121,9 +121,9 @@ answer-is c =
     ∙ lean-searched (seeker a) (lean a)
 
 -- what is known of fresh tuples afterwards
-beside : (c : tie.After-first_support-found) → (let a = entry c.before.before.before.before.before.before.before.before in Beside (G a) a.args.p a.args.lean.now c.first_support-found.new.1.1.1.1.1.1.1.1.1.1.0)
+beside : (c : tie.After-first_support-found) → (let a = entry c.before.before.before.before.before.before.before.before in Beside (G a) a.args.p a.args.lean.now c.first_support-found.new.fresh)
 beside c =
-    (c.first_support-found.ensures.1.0.0, subst (λ (Q : Search). MeetsBeside Q c.first_support-found.new.1.1.1.1.1.1.1.1.1.1.0) (search_is c.before.before.before.before.before) c.first_support-found.ensures.1.0.1)
+    (c.first_support-found.ensures.1.0.0, subst (λ (Q : Search). MeetsBeside Q c.first_support-found.new.fresh) (search_is c.before.before.before.before.before) c.first_support-found.ensures.1.0.1)
 
 -- ---- The tuple's id
 
@@ -146,7 +146,7 @@ id_below c = let a = entry (looked c) in omega (arith, id-is c, tuple-below (sou
 
 load-requires : tie.Need-load-low-requires
 load-requires c κs =
-    let w = c.before.before.before.before in
+    let w = c.before.before.before in
     let a = entry w in
     (omega (arith, each-is w, inside a), omega (arith, each-is w, (sound a).paired.list.few))
 

@@ -82,7 +82,7 @@ member-few : (c : tie.After-wide invariant-loop decreases-loop) → get_or c.bef
 member-few c = let a = c.before.before.before.before.before.before.before in omega (arith, member_is c, member_below (sound a).laid.framed (sound a).paired a.args.p (in_members a))
 
 abbrev entry : tie.After-wide-start invariant-loop decreases-loop → tie.Start invariant-loop decreases-loop
-entry c = c.before.before.before.before.before.before.before.before.before.before.before.before.before
+entry c = c.before.before.before.before.before.before.before.before.before.before.before.before.before.before
 
 abbrev first : tie.After-wide-start invariant-loop decreases-loop → ℕ
 first c = c.before.before.before.before.tuple_start-first.result
@@ -94,8 +94,8 @@ row : (c : tie.After-wide-start invariant-loop decreases-loop) → Row (G (entry
 row c =
     let a = entry c in
     row-of (sound a) a.args.p (first c) (end c) (in_members a)
-    (c.before.before.before.before.tuple_start-first.ensures ∙ ap (tuple_start a.args.starts.now) (member_is c.before.before.before.before.before.before))
-    (c.before.before.before.tuple_start-end.ensures ∙ ap (λ (r : ℕ). tuple_start a.args.starts.now (r + 1)) (member_is c.before.before.before.before.before.before))
+    (c.before.before.before.before.tuple_start-first.ensures ∙ ap (tuple_start a.args.starts.now) (member_is c.before.before.before.before.before.before.before))
+    (c.before.before.before.tuple_start-end.ensures ∙ ap (λ (r : ℕ). tuple_start a.args.starts.now (r + 1)) (member_is c.before.before.before.before.before.before.before))
 
 -- where the pair's numbers begin
 begin-is : (c : tie.After-wide-start invariant-loop decreases-loop) → (let a = entry c in c.wide-start.result ≡ support_start (network (G a)) a.args.m a.args.members.now a.args.p)
@@ -137,13 +137,13 @@ abbrev turning : tie.After-renew_or_fall-kind invariant-loop decreases-loop → 
 turning c = c.before.before.before.before.before.before.before.before.before.before.before
 
 abbrev words-after : tie.After-renew_or_fall-kind invariant-loop decreases-loop → List ℕ
-words-after c = c.renew_or_fall-kind.new.1.1.1.1.1.1.0
+words-after c = c.renew_or_fall-kind.new.words
 
 abbrev numbers_after : tie.After-renew_or_fall-kind invariant-loop decreases-loop → List ℕ
-numbers_after c = c.renew_or_fall-kind.new.1.1.1.1.1.1.1.0
+numbers_after c = c.renew_or_fall-kind.new.numbers
 
 abbrev sought-after : tie.After-renew_or_fall-kind invariant-loop decreases-loop → List ℕ
-sought-after c = c.renew_or_fall-kind.new.1.1.1.1.1.1.1.1.0
+sought-after c = c.renew_or_fall-kind.new.sought
 
 -- the visit under way, once tuple g is done
 abbrev Turned : tie.After-renew_or_fall-kind invariant-loop decreases-loop → Queue → Bool → Type 0
@@ -159,8 +159,8 @@ turned-kept c e =
     let b = begun i in
     let a = entry b in
     let l = i.before.loop-g in
-    going-kept (sound a) (in_members a) l.inv.0.going
-    (row-index (row b) l.inv.0.from_First i.loop-g-test.taken)
+    going-kept (sound a) (in_members a) l.invariant.0.going
+    (row-index (row b) l.invariant.0.from_first i.loop-g-test.true)
     c.renew_or_fall-kind.ensures.0 e
 
 turned-removed : (c : tie.After-renew_or_fall-kind invariant-loop decreases-loop) (waiting : Queue) → is_found c.renew_or_fall-kind.result ≡ false → (let i = turning c in let a = entry (begun i) in (q : ℕ) → q < length a.args.members.now → is_live waiting.words q ≡ false → (is_live i.before.loop-g.waiting.words q ≡ false) × (queues a.args.m a.args.members.now a.args.p q ≡ false)) → Turned c waiting true
@@ -169,10 +169,10 @@ turned-removed c waiting e waits =
     let b = begun i in
     let a = entry b in
     let l = i.before.loop-g in
-    going-removed (sound a) (in_members a) l.inv.0.going
-    (row-index (row b) l.inv.0.from_First i.loop-g-test.taken)
+    going-removed (sound a) (in_members a) l.invariant.0.going
+    (row-index (row b) l.invariant.0.from_first i.loop-g-test.true)
     c.renew_or_fall-kind.ensures.0
-    (index-lives (row b) l.inv.0 i.loop-g-test.taken)
+    (index-lives (row b) l.invariant.0 i.loop-g-test.true)
     waiting.words waits e
 
 noted : (c : tie.After-renew_or_fall-kind invariant-loop decreases-loop) → (let i = turning c in let b = begun i in let a = entry b in Noted (G a) (words-after c) a.args.p (suc (i.before.loop-g.g - first b)) (sought-after c))
@@ -181,15 +181,15 @@ noted c =
     let b = begun i in
     let a = entry b in
     let l = i.before.loop-g in
-    going-noted (sound a) (in_members a) l.inv.0.going
-    (row-index (row b) l.inv.0.from_First i.loop-g-test.taken)
+    going-noted (sound a) (in_members a) l.invariant.0.going
+    (row-index (row b) l.invariant.0.from_first i.loop-g-test.true)
     c.renew_or_fall-kind.ensures.0
-    (index-lives (row b) l.inv.0 i.loop-g-test.taken)
-    l.inv.1
+    (index-lives (row b) l.invariant.0 i.loop-g-test.true)
+    l.invariant.1
     c.renew_or_fall-kind.ensures.1.0
 
 abbrev fresh-after : tie.After-renew_or_fall-kind invariant-loop decreases-loop → List ℕ
-fresh-after c = c.renew_or_fall-kind.new.1.1.1.1.1.1.1.1.1.1.1.1.1.1.1.0
+fresh-after c = c.renew_or_fall-kind.new.fresh
 
 abbrev renewed : tie.Joined-kind-ne-FOUND invariant-loop decreases-loop → tie.After-renew_or_fall-kind invariant-loop decreases-loop
 renewed c = c.before.before.before
@@ -204,14 +204,14 @@ turned c =
     let joins : (waiting : Queue) (shrunk : Bool) → c.if-kind-ne-FOUND.waiting ≡ waiting → c.if-kind-ne-FOUND.shrunk ≡ shrunk → Turned n waiting shrunk → Turned n c.if-kind-ne-FOUND.waiting c.if-kind-ne-FOUND.shrunk =
     λ waiting shrunk e f t. subst (λ (q : Queue). Turned n q c.if-kind-ne-FOUND.shrunk) (sym e) (subst (Turned n waiting) (sym f) t) in
     ⊎_elim
-    (λ w. joins w.2.result true w.3 w.4 (turned-removed n w.2.result (ne_eqb (n.renew_or_fall-kind.result % 2) 1 w.0.taken) (requeued-waits (sound a) a.args.p l.waiting.words w.2.result.words w.2.ensures)))
+    (λ w. joins w.requeue-waiting.result true w.waiting-is w.shrunk-is (turned-removed n w.requeue-waiting.result (ne_eqb (n.renew_or_fall-kind.result % 2) 1 w.if-kind-ne-FOUND.true) (requeued-waits (sound a) a.args.p l.waiting.words w.requeue-waiting.result.words w.requeue-waiting.ensures)))
     (⊎_elim
     (λ w.
-    let e = not-false l.shrunk w.1.left in
-    joins l.waiting true w.2 (w.3 ∙ e)
-    (turned-removed n l.waiting (ne_eqb (n.renew_or_fall-kind.result % 2) 1 w.0.taken)
-    (still-waits (sound a) (in_members a) l.inv.0.going e)))
-    (λ w. joins l.waiting l.shrunk w.1 w.2 (turned-kept n (eq-eqb (n.renew_or_fall-kind.result % 2) 1 w.0.left))))
+    let e = not-false l.shrunk w.if-not-shrunk.false-raw in
+    joins l.waiting true w.waiting-is (w.shrunk-is ∙ e)
+    (turned-removed n l.waiting (ne_eqb (n.renew_or_fall-kind.result % 2) 1 w.if-kind-ne-FOUND.true)
+    (still-waits (sound a) (in_members a) l.invariant.0.going e)))
+    (λ w. joins l.waiting l.shrunk w.waiting-is w.shrunk-is (turned-kept n (eq-eqb (n.renew_or_fall-kind.result % 2) 1 w.if-kind-ne-FOUND.false))))
     c.if-kind-ne-FOUND.branch-raw
 
 -- ---- After the words are made lean
@@ -220,7 +220,7 @@ abbrev joined : tie.After-lean_at-tried invariant-loop decreases-loop → tie.Jo
 joined c = c.before.before
 
 abbrev lean-after : tie.After-lean_at-tried invariant-loop decreases-loop → List ℕ
-lean-after c = c.lean_at-tried.new.1.1.1.1.1.1.1.1.0
+lean-after c = c.lean_at-tried.new.lean
 
 beside : (c : tie.After-lean_at-tried invariant-loop decreases-loop) → (let n = renewed (joined c) in let a = entry (begun (turning n)) in Beside (G a) a.args.p (lean-after c) (fresh-after n))
 beside c =
@@ -237,10 +237,10 @@ lean c =
     let b = begun i in
     let a = entry b in
     let l = i.before.loop-g in
-    let x-in = row-index (row b) l.inv.0.from_First i.loop-g-test.taken in
-    let room : tuple_id (G a) a.args.p (l.g - first b) < 64 * length l.words = omega (arith, tuple-below (sound a) a.args.p (l.g - first b) (in_members a) x-in, l.inv.0.going.working.space.enough) in
+    let x-in = row-index (row b) l.invariant.0.from_first i.loop-g-test.true in
+    let room : tuple_id (G a) a.args.p (l.g - first b) < 64 * length l.words = omega (arith, tuple-below (sound a) a.args.p (l.g - first b) (in_members a) x-in, l.invariant.0.going.working.space.enough) in
     lean-both (G a).lists (combination_of (G a) a.args.p) (a.args.p % a.args.m)
-    (renewed-lean (sound a) (in_members a) x-in room n.renew_or_fall-kind.ensures.0 l.inv.3)
+    (renewed-lean (sound a) (in_members a) x-in room n.renew_or_fall-kind.ensures.0 l.invariant.3)
     c.lean_at-tried.ensures.0
 
 -- ---- After the rest was sought
@@ -251,18 +251,18 @@ doomed c =
     let b = begun i in
     let a = entry b in
     let l = i.before.loop-g in
-    going-doomed (sound a) (in_members a) l.inv.0.going
-    (row-index (row b) l.inv.0.from_First i.loop-g-test.taken)
+    going-doomed (sound a) (in_members a) l.invariant.0.going
+    (row-index (row b) l.invariant.0.from_first i.loop-g-test.true)
     c.renew_or_fall-kind.ensures.0
-    (index-lives (row b) l.inv.0 i.loop-g-test.taken)
-    l.doomed-1
-    l.inv.5
+    (index-lives (row b) l.invariant.0 i.loop-g-test.true)
+    l.doomed
+    l.invariant.5
 
 abbrev leaned : tie.After-seek_rest_once_due-effort invariant-loop decreases-loop → tie.After-lean_at-tried invariant-loop decreases-loop
-leaned c = c.before.before.before.before.before.before.before
+leaned c = c.before.before.before.before.before.before
 
 abbrev numbers-rested : tie.After-seek_rest_once_due-effort invariant-loop decreases-loop → List ℕ
-numbers-rested c = c.seek_rest_once_due-effort.new.1.1.1.1.1.1.1.1.1.0
+numbers-rested c = c.seek_rest_once_due-effort.new.numbers
 
 rested : (c : tie.After-seek_rest_once_due-effort invariant-loop decreases-loop) → (let j = joined (leaned c) in let n = renewed j in let i = turning n in let b = begun i in let a = entry b in VisitOf (G a) a.args.p a.args.queue.words a.args.words.now a.args.numbers.now j.if-kind-ne-FOUND.waiting.words (words-after n) (numbers-rested c) j.if-kind-ne-FOUND.shrunk (suc (i.before.loop-g.g - first b)))
 rested c =
@@ -271,7 +271,7 @@ rested c =
     let b = begun i in
     let a = entry b in
     let l = i.before.loop-g in
-    going-rested (sound a) (in_members a) (turned j) (row-index (row b) l.inv.0.from_First i.loop-g-test.taken) (omega (arith, (row b).is-first, l.inv.0.from_First)) c.seek_rest_once_due-effort.ensures
+    going-rested (sound a) (in_members a) (turned j) (row-index (row b) l.invariant.0.from_first i.loop-g-test.true) (omega (arith, (row b).is-first, l.invariant.0.from_first)) c.seek_rest_once_due-effort.ensures
 
 -- ---- The needs
 
@@ -302,7 +302,7 @@ renew-or-fall-requires c κs =
               sound = sound a;
               working = l.invariant.0.going.working;
               pair = in_members a;
-              index = row-index (row b) l.invariant.0.from_First i.loop-g-test.true;
+              index = row-index (row b) l.invariant.0.from_first i.loop-g-test.true;
               lives = index-lives (row b) l.invariant.0 i.loop-g-test.true;
             };
             indexed = a.requires.1.prepared.indexed;
@@ -325,7 +325,7 @@ lean-at-requires : tie.Need-lean_at-tried-requires invariant-loop decreases-loop
 lean-at-requires c κs =
     let i = turning (renewed c.before) in
     let a = entry (begun i) in
-    (i.before.loop-g.inv.3.long, record { sound = sound a; pair = in_members a })
+    (i.before.loop-g.invariant.3.long, record { sound = sound a; pair = in_members a })
 
 steps-now-requires : tie.Need-steps_now-steps-requires invariant-loop decreases-loop
 steps-now-requires c κs =
@@ -338,11 +338,11 @@ id-small : (n : tie.After-renew_or_fall-kind invariant-loop decreases-loop) → 
 id-small n =
     let i = turning n in
     let b = begun i in
-    omega (arith, i.loop-g-test.taken, row-total (row b), tuples-few (sound (entry b)).laid.framed)
+    omega (arith, i.loop-g-test.true, row-total (row b), tuples-few (sound (entry b)).laid.framed)
 
 seek-rest-once-due-requires : tie.Need-seek_rest_once_due-effort-requires invariant-loop decreases-loop
 seek-rest-once-due-requires c κs =
-    let k = c.before.before.before.before.before.before in
+    let k = c.before.before.before.before.before in
     let j = joined k in
     let i = turning (renewed j) in
     let b = begun i in
@@ -355,10 +355,10 @@ seek-rest-once-due-requires c κs =
         leaner = lean k;
         pair = in_members a;
         begin = begin-is b;
-        after_first = omega (arith, (row b).is-first, l.inv.0.from_First);
-        before-end = omega (arith, (row b).is-first, (row b).is-end, i.loop-g-test.taken);
+        after_first = omega (arith, (row b).is-first, l.invariant.0.from_first);
+        before-end = omega (arith, (row b).is-first, (row b).is-end, i.loop-g-test.true);
       },
-      l.inv.4,
+      l.invariant.4,
     )
 
 add-next : tie.Need-overflow_add-g-in-loop-g invariant-loop decreases-loop
@@ -371,7 +371,7 @@ next-requires-2 c κs =
     let i = turning n in
     let b = begun i in
     let a = entry b in
-    row-asks (row b) (words-after n) (i.before.loop-g.g + 1) (turned j).working.space.enough (omega (arith, i.loop-g-test.taken))
+    row-asks (row b) (words-after n) (i.before.loop-g.g + 1) (turned j).working.space.enough (omega (arith, i.loop-g-test.true))
 
 loop-less : tie.Need-loop-g-smaller invariant-loop decreases-loop
 loop-less c =
@@ -380,8 +380,8 @@ loop-less c =
     let b = begun i in
     let a = entry b in
     let l = i.before.loop-g in
-    let f = next-ahead (words-after n) i.loop-g-test.taken in
-    omega (arith, f.0, f.1, c.next-g-in-loop-g.ensures, i.loop-g-test.taken)
+    let f = next-ahead (words-after n) i.loop-g-test.true in
+    omega (arith, f.0, f.1, c.next-g-in-loop-g.ensures, i.loop-g-test.true)
 
 loop-again : tie.Need-loop-g-preserved invariant-loop decreases-loop
 loop-again c =
@@ -393,10 +393,10 @@ loop-again c =
     let b = begun i in
     let a = entry b in
     let l = i.before.loop-g in
-    let f = next-ahead (words-after n) i.loop-g-test.taken in (
+    let f = next-ahead (words-after n) i.loop-g-test.true in (
       subst (WalkAt (G a) a.args.p (first b) (end b) a.args.queue.words a.args.words.now a.args.numbers.now j.if-kind-ne-FOUND.waiting.words (words-after n) (numbers-rested r) j.if-kind-ne-FOUND.shrunk) (sym c.next-g-in-loop-g.ensures)
-          (come-more (row b) l.inv.0 i.loop-g-test.taken (rested r)),
-      noted_more (omega (arith, f.0, c.next-g-in-loop-g.ensures, l.inv.0.from_First)) (noted n),
+          (come-more (row b) l.invariant.0 i.loop-g-test.true (rested r)),
+      noted_more (omega (arith, f.0, c.next-g-in-loop-g.ensures, l.invariant.0.from_first)) (noted n),
       beside k,
       lean k,
       r.seek_rest_once_due-effort.ensures.long,
@@ -428,11 +428,11 @@ visit_spec =
     (λ c κs. omega (arith, member-few c.before.before))
     (λ c κs. search rules)
     (λ c. omega (arith, c.wide-2.ensures.1))
-    (λ c. let a = c.before.before.before.before.before.before.before.before.before.before.before in omega (arith, c.wide-2.ensures.0, in_members a, (sound a).paired.list.short))
+    (λ c. let a = c.before.before.before.before.before.before.before.before.before.before.before.before in omega (arith, c.wide-2.ensures.0, in_members a, (sound a).paired.list.short))
     (λ c κs. search rules)
     next-requires
     loop-holds
-    (λ c. c.before.loop-g.invariant.0.from_First)
+    (λ c. c.before.loop-g.invariant.0.from_first)
     (λ c κs. search rules)
     (λ c κs. search rules)
     (λ c. omega (arith, place-small c))
@@ -441,7 +441,7 @@ visit_spec =
     requeue-requires
     lean-at-requires
     steps-now-requires
-    (λ c. omega (arith, id-small (renewed (joined c.before.before.before.before.before))))
+    (λ c. omega (arith, id-small (renewed (joined c.before.before.before.before))))
     seek-rest-once-due-requires
     add-next
     next-requires-2

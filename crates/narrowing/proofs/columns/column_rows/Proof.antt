@@ -16,7 +16,7 @@ returns-2 : tie.Need-returns
 returns-2 c d =
     let else = c.before in
     let found = else.before in
-    let a = found.before.before.args in
+    let a = found.args in
     let e = found.column_of-c.ensures in
     record {
       column = found.column_of-c.result;

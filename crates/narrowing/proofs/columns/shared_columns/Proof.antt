@@ -21,7 +21,7 @@ decreases-loop index scope-a scope-b s columns₀ i₀ columns i = length scope-
 loop-again : tie.Need-loop-i-preserved invariant-loop decreases-loop
 loop-again c =
     let turn = c.before.before in
-    let l = turn.before.loop-i in
+    let l = turn.loop-i in
     let s = turn.before.before.before.before in
     let a = s.args in
     let n = c.column_rows.result in (
@@ -35,7 +35,7 @@ loop-again c =
 
 returns : tie.Need-returns invariant-loop decreases-loop
 returns c =
-    let l = c.before.loop-i in
+    let l = c.loop-i in
     record { long = l.invariant.1.0; at = λ i h. l.invariant.1.1 i (omega (arith, c.loop-i-test.false, l.invariant.0)) }
 
 pub shared_columns_spec : {M : Type 1} → statement M

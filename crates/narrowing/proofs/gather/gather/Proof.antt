@@ -24,8 +24,8 @@ module _ (c : tie.After-tuple_start-end) where
   abbrev s : ℕ
   s = start.args.s
 
-  own-ids : IdsOf (network_in L) start.args.index.now s c.before.tuple_start-start.result c.tuple_start-end.result
-  own-ids = ids-of laid start.requires.1.0.indexed s _ _ start.requires.1.1 c.before.tuple_start-start.ensures c.tuple_start-end.ensures
+  own-ids : IdsOf (network_in L) start.args.index.now s c.tuple_start-start.result c.tuple_start-end.result
+  own-ids = ids-of laid start.requires.1.0.indexed s _ _ start.requires.1.1 c.tuple_start-start.ensures c.tuple_start-end.ensures
 
 abbrev ids : tie.After-rows_for-n → tie.After-tuple_start-end
 ids c = c.before.before
@@ -43,9 +43,9 @@ returns c =
     let w = ids found in
     let p = (start w).requires in
     let a = (start w).args in
-    let rows = found.rows_for-n.new.1.1.1.1.1.1.1.0 in (
+    let rows = found.rows_for-n.new.rows in (
       c.gather_rows.ensures.long,
-      joins-gathers (network_in (L w)) a.r a.x a.s w.before.tuple_start-start.result w.tuple_start-end.result (own-ids w).begin (own-ids w).stop (in_rows a.index.now rows found.rows_for-n.result) a.from.now a.to.now _
+      joins-gathers (network_in (L w)) a.r a.x a.s w.tuple_start-start.result w.tuple_start-end.result (own-ids w).begin (own-ids w).stop (in_rows a.index.now rows found.rows_for-n.result) a.from.now a.to.now _
           (λ z h g. agreeing-rows (laid w) p.1.0.indexed a.r a.x a.s z p.1.0.own h g found.rows_for-n.ensures)
           c.gather_rows.ensures,
     )

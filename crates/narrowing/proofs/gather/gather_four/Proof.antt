@@ -21,10 +21,10 @@ module _ (c : tie.In-loop-i invariant-loop decreases-loop) where
   abbrev start : tie.Start invariant-loop decreases-loop
   start = c.before.before
 
-  few : c.before.loop-i.i < 64
+  few : c.loop-i.i < 64
   few = omega (arith, c.loop-i-test.true, start.requires.1.1.0)
 
-  within : (k : ℕ) → k < 4 → get_or (four start.args.a start.args.b start.args.c start.args.d) k 0 + c.before.loop-i.i < index_words
+  within : (k : ℕ) → k < 4 → get_or (four start.args.a start.args.b start.args.c start.args.d) k 0 + c.loop-i.i < index_words
   within k h = omega (arith, c.loop-i-test.true, start.requires.1.1.1, start.requires.1.0.inside k h)
 
 loop-holds : tie.Need-loop-i-init invariant-loop decreases-loop
@@ -35,17 +35,17 @@ loop-holds c =
 loop-again : tie.Need-loop-i-preserved invariant-loop decreases-loop
 loop-again c =
     let turn = c.before.before.before.before.before.before in
-    let l = turn.before.loop-i in
+    let l = turn.loop-i in
     let a = (start turn.before.before.before).args in
     let test = in_rows a.index.now (four a.a a.b a.c a.d) 4 in
     joins-on test a.from.now (64 * a.first) (64 * l.i) (64 * (l.i + 1)) a.to.now l.to _ l.invariant
-    (joins_part test a.from.now l.i (64 * l.i) (64 * (l.i + 1)) _ l.to l.invariant.long (few turn) (omega arith) (omega arith)
+    (joins_part test a.from.now l.i (64 * l.i) (64 * (l.i + 1)) _ l.to l.invariant.long (few turn.before.before.before) (omega arith) (omega arith)
     (λ j h _ _. bits-four a.index.now a.a a.b a.c a.d l.i (get_or a.from.now l.i 0) j h))
 
 returns : tie.Need-returns invariant-loop decreases-loop
 returns c =
-    let l = c.before.loop-i in
-    let a = c.before.before.args in
+    let l = c.loop-i in
+    let a = c.args in
     joins-within (in_rows a.index.now (four a.a a.b a.c a.d) 4) a.from.now (omega arith) (omega (arith, c.loop-i-test.false)) l.invariant
 
 pub gather_four_spec : {M : Type 1} → statement M
@@ -59,21 +59,21 @@ gather_four_spec =
     (λ c. few c.before)
     (λ c. omega (arith, few c.before.before))
     (λ c. few c.before.before.before)
-    (λ c. omega (arith, within c.before.before 0 (omega arith)))
-    (λ c. omega (arith, within c.before.before 0 (omega arith)))
-    (λ c. within c.before.before 0 (omega arith))
-    (λ c. omega (arith, within c.before.before.before 1 (omega arith)))
-    (λ c. omega (arith, within c.before.before.before 1 (omega arith)))
-    (λ c. within c.before.before.before 1 (omega arith))
-    (λ c. omega (arith, within c.before.before.before.before 2 (omega arith)))
-    (λ c. omega (arith, within c.before.before.before.before 2 (omega arith)))
-    (λ c. within c.before.before.before.before 2 (omega arith))
-    (λ c. omega (arith, within c.before.before.before.before.before 3 (omega arith)))
-    (λ c. omega (arith, within c.before.before.before.before.before 3 (omega arith)))
-    (λ c. within c.before.before.before.before.before 3 (omega arith))
-    (λ c. omega (arith, few c.before.before.before.before.before.before))
-    (λ c. few c.before.before.before.before.before.before)
-    (λ c. omega (arith, few c.before.before.before.before.before.before))
-    (λ c. omega (arith, c.before.before.before.before.before.before.loop-i-test.true))
+    (λ c. omega (arith, within c.before.before.before.before 0 (omega arith)))
+    (λ c. omega (arith, within c.before.before.before.before 0 (omega arith)))
+    (λ c. within c.before.before.before.before.before 0 (omega arith))
+    (λ c. omega (arith, within c.before.before.before.before.before.before 1 (omega arith)))
+    (λ c. omega (arith, within c.before.before.before.before.before.before 1 (omega arith)))
+    (λ c. within c.before.before.before.before.before.before 1 (omega arith))
+    (λ c. omega (arith, within c.before.before.before.before.before.before.before 2 (omega arith)))
+    (λ c. omega (arith, within c.before.before.before.before.before.before.before 2 (omega arith)))
+    (λ c. within c.before.before.before.before.before.before.before 2 (omega arith))
+    (λ c. omega (arith, within c.before.before.before.before.before.before.before.before 3 (omega arith)))
+    (λ c. omega (arith, within c.before.before.before.before.before.before.before.before 3 (omega arith)))
+    (λ c. within c.before.before.before.before.before.before.before.before 3 (omega arith))
+    (λ c. omega (arith, few c.before.before.before.before.before.before.before.before.before))
+    (λ c. few c.before.before.before.before.before.before.before.before.before)
+    (λ c. omega (arith, few c.before.before.before.before.before.before.before.before.before))
+    (λ c. omega (arith, c.loop-i-test.true))
     loop-again
     returns)

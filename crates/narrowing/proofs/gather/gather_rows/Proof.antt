@@ -21,5 +21,5 @@ gather_rows_spec =
     (λ c.
     let words = c.before in
     let first = words.before in
-    let a = first.before.before.args in
+    let a = first.args in
     joins-within (in_rows a.index.now a.rows.now a.n) a.from.now (omega (arith, first.wide.ensures.0)) (omega (arith, words.words_for.ensures)) c.gather_words.ensures))

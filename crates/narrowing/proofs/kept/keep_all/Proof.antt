@@ -20,7 +20,7 @@ module _ (c : tie.In-loop-i invariant-loop decreases-loop) where
   abbrev start : tie.Start invariant-loop decreases-loop
   start = c.before.before
 
-  few : c.before.loop-i.i < 64
+  few : c.loop-i.i < 64
   few = omega (arith, c.loop-i-test.true, start.requires.1.1.0.0)
 
 loop-holds : tie.Need-loop-i-init invariant-loop decreases-loop
@@ -31,7 +31,7 @@ loop-holds c =
 loop-again : tie.Need-loop-i-preserved invariant-loop decreases-loop
 loop-again c =
     let turn = c.before.before in
-    let l = turn.before.loop-i in
+    let l = turn.loop-i in
     let a = (start turn.before).args in
     let now = l.invariant.1.1 in
     let on : 64 * a.from ≤ 64 * l.i = omega (arith, l.invariant.0) in
@@ -47,8 +47,8 @@ loop-again c =
 
 returns : tie.Need-returns invariant-loop decreases-loop
 returns c =
-    let l = c.before.loop-i in
-    let a = c.before.before.args in
+    let l = c.loop-i in
+    let a = c.args in
     let e : l.i ≡ a.to = omega (arith, c.loop-i-test.false, l.invariant.1.0) in
     subst (λ (k : ℕ). Keeps (in_rows a.index.now a.rows.now a.n) (64 * a.from) (64 * k) a.words.now l.words l.any) e l.invariant.1.1
 
@@ -61,10 +61,10 @@ keep_all_spec =
     loop-holds
     (λ c. omega (arith, few c))
     (λ c. few c.before)
-    (λ c κs. let s = start c.before.before in (s.requires.1.0, omega (arith, c.before.loop-i-test.true, s.requires.1.1.0.1)))
+    (λ c κs. let s = start c.before.before in (s.requires.1.0, omega (arith, c.loop-i-test.true, s.requires.1.1.0.1)))
     (λ c. omega (arith, few c.before.before.before))
-    (λ c. few c.before.before)
-    (λ c. omega (arith, few c.before.before))
-    (λ c. omega (arith, c.before.before.loop-i-test.true))
+    (λ c. few c.before.before.before)
+    (λ c. omega (arith, few c.before.before.before))
+    (λ c. omega (arith, c.loop-i-test.true))
     loop-again
     returns)

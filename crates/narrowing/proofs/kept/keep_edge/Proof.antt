@@ -14,7 +14,7 @@ few s = omega (arith, s.requires.1.1.0)
 returns : tie.Need-returns
 returns c =
     let found = c.before in
-    let mask = found.before.before.between-mask in
+    let mask = found.between-mask in
     let s = found.before.before.before in
     let a = s.args in
     let ws = a.words.now in
@@ -35,6 +35,6 @@ keep_edge_spec =
     (λ c κs. let s = c.before.before in (s.requires.1.0, omega (arith, s.requires.1.1.1)))
     (λ c. omega (arith, few c.before.before.before.before))
     (λ c. few c.before.before.before.before)
-    (λ c. omega (arith, few c.before.before.before.before))
-    (λ c. few c.before.before.before.before)
+    (λ c. omega (arith, few c.before.before.before.before.before))
+    (λ c. few c.before.before.before.before.before)
     returns)

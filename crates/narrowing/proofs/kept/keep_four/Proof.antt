@@ -23,10 +23,10 @@ module _ (c : tie.In-loop-i invariant-loop decreases-loop) where
   abbrev start : tie.Start invariant-loop decreases-loop
   start = c.before.before
 
-  few : c.before.loop-i.i < 64
+  few : c.loop-i.i < 64
   few = omega (arith, c.loop-i-test.true, start.requires.1.1.0.0)
 
-  within : (k : ℕ) → k < 4 → get_or (four start.args.a start.args.b start.args.c start.args.d) k 0 + c.before.loop-i.i < index_words
+  within : (k : ℕ) → k < 4 → get_or (four start.args.a start.args.b start.args.c start.args.d) k 0 + c.loop-i.i < index_words
   within k h = omega (arith, c.loop-i-test.true, start.requires.1.1.0.1, start.requires.1.0.inside k h)
 
 loop-holds : tie.Need-loop-i-init invariant-loop decreases-loop
@@ -37,7 +37,7 @@ loop-holds c =
 loop-again : tie.Need-loop-i-preserved invariant-loop decreases-loop
 loop-again c =
     let turn = c.before.before.before.before.before in
-    let l = turn.before.loop-i in
+    let l = turn.loop-i in
     let a = (start turn.before.before).args in
     let now = l.invariant.1.1 in
     let on : 64 * a.from ≤ 64 * l.i = omega (arith, l.invariant.0) in
@@ -53,8 +53,8 @@ loop-again c =
 
 returns : tie.Need-returns invariant-loop decreases-loop
 returns c =
-    let l = c.before.loop-i in
-    let a = c.before.before.args in
+    let l = c.loop-i in
+    let a = c.args in
     let e : l.i ≡ a.to = omega (arith, c.loop-i-test.false, l.invariant.1.0) in
     subst (λ (n : ℕ). Keeps (in_rows a.index.now (four a.a a.b a.c a.d) 4) (64 * a.from) (64 * n) a.words.now l.words l.any) e l.invariant.1.1
 
@@ -69,19 +69,19 @@ keep_four_spec =
     (λ c. few c.before)
     (λ c. omega (arith, within c.before.before 0 (omega arith)))
     (λ c. omega (arith, within c.before.before 0 (omega arith)))
-    (λ c. within c.before 0 (omega arith))
-    (λ c. omega (arith, within c.before.before 1 (omega arith)))
-    (λ c. omega (arith, within c.before.before 1 (omega arith)))
-    (λ c. within c.before.before 1 (omega arith))
-    (λ c. omega (arith, within c.before.before.before 2 (omega arith)))
-    (λ c. omega (arith, within c.before.before.before 2 (omega arith)))
-    (λ c. within c.before.before.before 2 (omega arith))
-    (λ c. omega (arith, within c.before.before.before.before 3 (omega arith)))
-    (λ c. omega (arith, within c.before.before.before.before 3 (omega arith)))
-    (λ c. within c.before.before.before.before 3 (omega arith))
-    (λ c. omega (arith, few c.before.before.before.before.before))
-    (λ c. few c.before.before.before.before.before)
-    (λ c. omega (arith, few c.before.before.before.before.before))
-    (λ c. omega (arith, c.before.before.before.before.before.loop-i-test.true))
+    (λ c. within c.before.before.before 0 (omega arith))
+    (λ c. omega (arith, within c.before.before.before.before 1 (omega arith)))
+    (λ c. omega (arith, within c.before.before.before.before 1 (omega arith)))
+    (λ c. within c.before.before.before.before 1 (omega arith))
+    (λ c. omega (arith, within c.before.before.before.before.before 2 (omega arith)))
+    (λ c. omega (arith, within c.before.before.before.before.before 2 (omega arith)))
+    (λ c. within c.before.before.before.before.before 2 (omega arith))
+    (λ c. omega (arith, within c.before.before.before.before.before.before 3 (omega arith)))
+    (λ c. omega (arith, within c.before.before.before.before.before.before 3 (omega arith)))
+    (λ c. within c.before.before.before.before.before.before 3 (omega arith))
+    (λ c. omega (arith, few c.before.before.before.before.before.before.before))
+    (λ c. few c.before.before.before.before.before.before.before)
+    (λ c. omega (arith, few c.before.before.before.before.before.before.before))
+    (λ c. omega (arith, c.loop-i-test.true))
     loop-again
     returns)

@@ -16,10 +16,10 @@ module _ (c : tie.After-four_of-f) where
   start = c.before.before.before
 
   some : 0 < start.args.n
-  some = omega (arith, c.before.before.if-n-eq0.false)
+  some = omega (arith, c.if-n-eq0.false)
 
   few : start.args.n ≤ 4
-  few = ltb-false 4 start.args.n c.before.if-n-gt4.false-raw
+  few = ltb-false 4 start.args.n c.if-n-gt4.false-raw
 
 keep-four-requires : tie.Need-keep_four-requires
 keep-four-requires c κs =
@@ -59,9 +59,9 @@ pub keep_middle_spec : {M : Type 1} → statement M
 keep_middle_spec =
     tie.close
     (tie.spec
-    (λ c κs. c.before.before.requires)
+    (λ c κs. c.requires)
     (λ c. c.keep_all.ensures)
-    (λ c κs. (omega (arith, c.before.if-n-eq0.false), c.before.before.requires.1.0.few))
+    (λ c κs. (omega (arith, c.if-n-eq0.false), c.requires.1.0.few))
     keep-four-requires
     returns-2
     keep-four-requires-2

@@ -23,7 +23,7 @@ returns-3 c =
     let begun = c.before.before in
     let else = begun.before.before in
     let found = else.before in
-    let a = found.before.before.before.before.args in
+    let a = found.args in
     let i = found.column_of-i.result in
     let e = found.column_of-i.ensures in
     adds-as

@@ -30,18 +30,18 @@ module _ (c : tie.In-loop-i invariant-loop decreases-loop) where
   start = chosen.before.before.before
 
   some : start.args.start ≡ 0 → ⊥
-  some = chosen.before.before.if-start-eq0.false
+  some = chosen.if-start-eq0.false
 
-  reached : loop.loop.i < digit_count start.args.index.now
-  reached = omega (arith, c.loop-i-test.true, c.before.digit_count.ensures)
+  reached : loop.loop-i.i < digit_count start.args.index.now
+  reached = omega (arith, c.loop-i-test.true, c.digit_count.ensures)
 
-  below : loop.loop.hash < hashes
-  below = omega (arith, loop.loop.inv.1.1.0, hash-below start.args.index.now start.args.value loop.loop.i)
+  below : loop.loop-i.hash < hashes
+  below = omega (arith, loop.loop-i.invariant.1.1.0, hash-below start.args.index.now start.args.value loop.loop-i.i)
 
-  few : loop.loop.k < start.args.n + 4
-  few = omega (arith, reached, loop.loop.inv.1.0, start.requires.1.0.few)
+  few : loop.loop-i.k < start.args.n + 4
+  few = omega (arith, reached, loop.loop-i.invariant.1.0, start.requires.1.0.few)
 
-  room : loop.loop.k < 32
+  room : loop.loop-i.k < 32
   room = omega (arith, few, start.requires.1.1.0)
 
 -- its row
@@ -51,11 +51,11 @@ value_row c =
     let l = (loop t).loop-i in
     let a = (start t).args in
     record {
-      definite = sym (chosen t).before.is_any.ensures ∙ (chosen t).if-is_any.false;
+      definite = sym (chosen t).is_any.ensures ∙ (chosen t).if-is_any.false;
       some = some t;
       digit = l.i;
       few = reached t;
-      begins = c.row_of.ensures ∙ row_is a.index.now a.start a.value l.i l.hash l.inv.1.1.0;
+      begins = c.row_of.ensures ∙ row_is a.index.now a.start a.value l.i l.hash l.invariant.1.1.0;
     }
 
 loop-again : tie.Need-loop-i-preserved invariant-loop decreases-loop
@@ -65,12 +65,12 @@ loop-again c =
     let l = (loop t.before).loop-i in
     let a = (start t.before).args in
     let index = a.index.now in (
-      omega (arith, reached t),
+      omega (arith, reached t.before),
       (
-        omega (arith, l.inv.1.0),
+        omega (arith, l.invariant.1.0),
         (
-          c.hash_behind-hash.ensures ∙ ap (hash_behind index) l.inv.1.1.0 ∙ sym (hash-next index a.value l.i),
-          adds-more a.n l.k r.row_of.result a.rows.now l.rows (room t) (few t) (value_row r) l.inv.1.1.1,
+          c.hash_behind-hash.ensures ∙ ap (hash_behind index) l.invariant.1.1.0 ∙ sym (hash-next index a.value l.i),
+          adds-more a.n l.k r.row_of.result a.rows.now l.rows (room t.before) (few t.before) (value_row r.before) l.invariant.1.1.1,
         ),
       ),
     )
@@ -84,16 +84,16 @@ add_value_spec =
     (λ c. let s = c.before in adds_none s.args.n s.requires.0)
     (λ c κs. search rules)
     (λ c. let s = c.before.before.before in adds_none s.args.n s.requires.0)
-    (λ c κs. c.before.before.before.requires.1.0)
+    (λ c κs. c.requires.1.0)
     (λ c. let s = c.before.before.before.before in (omega arith, (omega arith, (c.hash_of-hash.ensures, adds_none s.args.n s.requires.0))))
     (λ c κs. search rules)
     (λ c κs. ((start c).requires.1.0, ((start c).requires.1.1.1 (some c), (below c, reached c))))
     (λ c. let s = start c.before in omega (arith, value-within s.requires.1.0 s.requires.1.1.1 (value_row c)))
     (λ c. omega (arith, room c.before))
-    (λ c. room c.before)
-    (λ c κs. let t = c.before in ((start t).requires.1.0, below t))
-    (λ c. omega (arith, room c.before.before))
-    (λ c. let t = c.before.before in omega (arith, reached t, (start t).requires.1.0.few))
-    (λ c. omega (arith, reached c.before.before))
+    (λ c. room c.before.before)
+    (λ c κs. let t = c.before in ((start t.before).requires.1.0, below t.before))
+    (λ c. omega (arith, room c.before.before.before))
+    (λ c. let t = c.before.before.before in omega (arith, reached t, (start t).requires.1.0.few))
+    (λ c. omega (arith, reached c.before.before.before))
     loop-again
-    (λ c. c.before.before.loop-i.invariant.1.1.1))
+    (λ c. c.loop-i.invariant.1.1.1))

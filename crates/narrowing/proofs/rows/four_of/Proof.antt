@@ -14,7 +14,7 @@ four_of_spec =
     tie.close
     (tie.spec
     (λ c κs. c.requires)
-    (λ c κs. c.before.requires)
-    (λ c κs. c.before.before.requires)
-    (λ c κs. c.before.before.before.requires)
+    (λ c κs. c.requires)
+    (λ c κs. c.requires)
+    (λ c κs. c.requires)
     returns)

@@ -40,5 +40,5 @@ in_all_spec =
     (tie.spec
     in-rows-requires
     returns
-    (λ c κs. let p = c.before.before.requires in (p.0, p.1.1))
+    (λ c κs. let p = c.requires in (p.0, p.1.1))
     returns-2)

@@ -22,14 +22,14 @@ module _ (c : tie.In-loop-k invariant-loop decreases-loop) where
   abbrev start : tie.Start invariant-loop decreases-loop
   start = c.before.before
 
-  few : c.before.loop-k.k < 32
+  few : c.loop-k.k < 32
   few = omega (arith, c.loop-k-test.true, start.requires.0.few)
 
 -- the row reached
 within : (c : tie.After-wide invariant-loop decreases-loop) → c.wide.result + (start c.before.before.before).args.i < index_words
 within c =
     let turn = c.before.before in
-    omega (arith, c.wide.ensures.0, (start turn.before).requires.0.inside turn.before.loop-k.k turn.loop-k-test.true, (start turn.before).requires.1)
+    omega (arith, c.wide.ensures.0, (start turn.before).requires.0.inside turn.loop-k.k turn.loop-k-test.true, (start turn.before).requires.1)
 
 loop-holds : tie.Need-loop-k-init invariant-loop decreases-loop
 loop-holds c = let a = c.args in (omega arith, bits_none a.index.now a.rows.now a.i a.word)
@@ -37,17 +37,17 @@ loop-holds c = let a = c.args in (omega arith, bits_none a.index.now a.rows.now 
 loop-again : tie.Need-loop-k-preserved invariant-loop decreases-loop
 loop-again c =
     let turn = c.before.before.before in
-    let l = turn.before.loop-k in
+    let l = turn.loop-k in
     let a = (start turn.before.before).args in (
       omega (arith, turn.loop-k-test.true),
-      subst (λ (first : ℕ). BitsInRows a.index.now (l.k + 1) a.rows.now a.i a.word (bit_and l.w (get_or a.index.now (first + a.i) 0))) (sym c.before.wide.ensures.0)
+      subst (λ (first : ℕ). BitsInRows a.index.now (l.k + 1) a.rows.now a.i a.word (bit_and l.w (get_or a.index.now (first + a.i) 0))) (sym c.wide.ensures.0)
           (bits-more a.index.now a.rows.now a.i l.k a.word l.w l.invariant.1),
     )
 
 returns : tie.Need-returns invariant-loop decreases-loop
 returns c =
-    let l = c.before.loop-k in
-    let a = c.before.before.args in
+    let l = c.loop-k in
+    let a = c.args in
     let e : l.k ≡ a.n = omega (arith, c.loop-k-test.false, l.invariant.0) in
     subst (λ (k : ℕ). BitsInRows a.index.now k a.rows.now a.i a.word l.w) e l.invariant.1
 

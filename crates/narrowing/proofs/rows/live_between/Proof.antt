@@ -19,12 +19,12 @@ module _ (c : tie.In-loop-i invariant-loop decreases-loop) where
   abbrev start : tie.Start invariant-loop decreases-loop
   start = c.before.before.before.before
 
-  few : c.before.loop-i.i < 64
-  few = omega (arith, c.loop-i-test.true, c.before.before.before.words_for-last.ensures, start.requires.1)
+  few : c.loop-i.i < 64
+  few = omega (arith, c.loop-i-test.true, c.words_for-last.ensures, start.requires.1)
 
 loop-holds : tie.Need-loop-i-init invariant-loop decreases-loop
 loop-holds c =
-    let a = c.before.before.args in
+    let a = c.args in
     let e : c.wide-i.result ≡ a.start / 64 = omega (arith, c.wide-i.ensures.0) in (
       omega (arith, e),
       subst (λ (i : ℕ). Filled (a.start / 64) i a.start a.end a.words.now (replicate 64 0)) (sym e) (filled_none (a.start / 64) a.start a.end a.words.now),
@@ -33,15 +33,15 @@ loop-holds c =
 loop-again : tie.Need-loop-i-preserved invariant-loop decreases-loop
 loop-again c =
     let turn = c.before.before in
-    let l = turn.before.loop-i in
+    let l = turn.loop-i in
     let a = (start turn.before).args in
     (omega (arith, l.invariant.0), filled_more (a.start / 64) a.start a.end a.words.now l.i c.between.result l.alive l.invariant.0 (few turn.before) c.between.ensures l.invariant.1)
 
 returns : tie.Need-returns invariant-loop decreases-loop
 returns c =
-    let l = c.before.loop-i in
+    let l = c.loop-i in
     let counted = c.before.before.before in
-    let a = counted.before.args in
+    let a = counted.args in
     filled-all (a.start / 64) a.start a.end a.words.now l.i l.alive (omega arith) (omega (arith, c.loop-i-test.false, counted.words_for-last.ensures)) l.invariant.1
 
 pub live_between_spec : {M : Type 1} → statement M
@@ -57,8 +57,8 @@ live_between_spec =
     (λ c. few c.before)
     (λ c κs. few c.before.before)
     (λ c. omega (arith, few c.before.before.before))
-    (λ c. few c.before.before)
-    (λ c. omega (arith, few c.before.before))
-    (λ c. omega (arith, c.before.before.loop-i-test.true))
+    (λ c. few c.before.before.before)
+    (λ c. omega (arith, few c.before.before.before))
+    (λ c. omega (arith, c.loop-i-test.true))
     loop-again
     returns)

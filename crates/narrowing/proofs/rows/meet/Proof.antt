@@ -18,14 +18,14 @@ meet-both-requires : tie.Need-meet_both-requires
 meet-both-requires c κs =
     let s = start c.before in
     let one : 0 < s.args.n = omega (arith, c.if-n-eq1.true) in
-    let e = c.before.wide-a.ensures.0 in
+    let e = c.wide-a.ensures.0 in
     (both-within s.args.index.now s.args.rows.now s.args.n 0 0 _ _ one one e e s.requires.0, s.requires.1)
 
 returns-2 : tie.Need-returns-then-n-eq1
 returns-2 c e g l h live inside =
     let t = c.before in
     let a = (start t.before).args in
-    c.meet_both.ensures e g l h live (one-twice a.index.now a.rows.now a.n _ g t.if-n-eq1.true t.before.wide-a.ensures.0 ∙ inside)
+    c.meet_both.ensures e g l h live (one-twice a.index.now a.rows.now a.n _ g t.if-n-eq1.true t.wide-a.ensures.0 ∙ inside)
 
 -- ---- Two rows
 
@@ -43,7 +43,7 @@ returns-3 c e g l h live inside =
     let t = c.before.before.before in
     let first = t.before.before in
     let a = (start first).args in
-    c.meet_both-then-n-eq2.ensures e g l h live (two-both a.index.now a.rows.now a.n _ _ g t.if-n-eq2.true first.wide-a.ensures.0 c.before.wide.ensures.0 ∙ inside)
+    c.meet_both-then-n-eq2.ensures e g l h live (two-both a.index.now a.rows.now a.n _ _ g t.if-n-eq2.true first.wide-a.ensures.0 c.wide.ensures.0 ∙ inside)
 
 -- ---- More
 
@@ -51,7 +51,7 @@ meet-all-requires : tie.Need-meet_all-requires
 meet-all-requires c κs =
     let first = c.before.before in
     let s = start first in
-    (s.requires.0, (omega (arith, c.if-n-eq2.false, c.before.if-n-eq1.false, first.before.before.if-n-eq0.false), s.requires.1))
+    (s.requires.0, (omega (arith, c.if-n-eq2.false, c.if-n-eq1.false, first.if-n-eq0.false), s.requires.1))
 
 pub meet_spec : {M : Type 1} → statement M
 meet_spec =

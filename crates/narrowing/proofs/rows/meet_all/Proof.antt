@@ -20,7 +20,7 @@ module _ (c : tie.In-loop-i invariant-loop decreases-loop) where
   abbrev start : tie.Start invariant-loop decreases-loop
   start = c.before.before
 
-  few : c.before.loop-i.i < 64
+  few : c.loop-i.i < 64
   few = omega (arith, c.loop-i-test.true, start.requires.1.1.0)
 
 loop-again : tie.Need-loop-i-preserved invariant-loop decreases-loop
@@ -28,7 +28,7 @@ loop-again c =
     let found = c.before in
     let turn = found.before.before in
     let a = (start turn.before).args in
-    let l = turn.before.loop-i in
+    let l = turn.loop-i in
     apart_more a.index.now a.rows.now l.i a.n a.from a.words.now (found.in_all.ensures c.if-in_all.false) l.invariant
 
 pub meet_all_spec : {M : Type 1} → statement M
@@ -40,9 +40,9 @@ meet_all_spec =
     (λ c g l h e f. omega arith)
     (λ c. omega (arith, few c))
     (λ c. few c.before)
-    (λ c κs. let s = start c.before.before in (s.requires.0, (s.requires.1.0, omega (arith, c.before.loop-i-test.true, s.requires.1.1.1))))
+    (λ c κs. let s = start c.before.before in (s.requires.0, (s.requires.1.0, omega (arith, c.loop-i-test.true, s.requires.1.1.1))))
     (λ c e. absurd (false≢true (sym e)))
     (λ c. omega (arith, few c.before.before.before.before))
-    (λ c. omega (arith, c.before.before.before.loop-i-test.true))
+    (λ c. omega (arith, c.loop-i-test.true))
     loop-again
-    (λ c e g l h. c.before.loop-i.invariant g l (omega (arith, c.loop-i-test.false))))
+    (λ c e g l h. c.loop-i.invariant g l (omega (arith, c.loop-i-test.false))))

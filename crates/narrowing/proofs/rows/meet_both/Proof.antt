@@ -23,20 +23,20 @@ module _ (c : tie.In-loop-i invariant-loop decreases-loop) where
   abbrev start : tie.Start invariant-loop decreases-loop
   start = c.before.before
 
-  few : c.before.loop-i.i < 64
+  few : c.loop-i.i < 64
   few = omega (arith, c.loop-i-test.true, start.requires.1.0)
 
-  within_a : start.args.a + c.before.loop-i.i < index_words
+  within_a : start.args.a + c.loop-i.i < index_words
   within_a = omega (arith, c.loop-i-test.true, start.requires.1.1, start.requires.0.inside 0 (omega arith))
 
-  within_b : start.args.b + c.before.loop-i.i < index_words
+  within_b : start.args.b + c.loop-i.i < index_words
   within_b = omega (arith, c.loop-i-test.true, start.requires.1.1, start.requires.0.inside 1 (omega arith))
 
 loop-again : tie.Need-loop-i-preserved invariant-loop decreases-loop
 loop-again c e =
     let turn = c.before.before.before in
     let a = (start turn.before.before).args in
-    let l = turn.before.loop-i in
+    let l = turn.loop-i in
     let none = or-none l.any _ e in
     apart_more a.index.now (both a.a a.b) l.i 2 a.from a.words.now
     (subst (BitsInRows a.index.now 2 (both a.a a.b) l.i (get_or a.words.now l.i 0)) none.1 (bits-both a.index.now a.a a.b l.i (get_or a.words.now l.i 0)))
@@ -44,7 +44,7 @@ loop-again c e =
 
 returns : tie.Need-returns invariant-loop decreases-loop
 returns c e g l h =
-    let w = c.before.loop-i in
+    let w = c.loop-i in
     w.invariant (eqb-true w.any 0 (not-false (eqb w.any 0) e)) g l (omega (arith, c.loop-i-test.false))
 
 pub meet_both_spec : {M : Type 1} → statement M
@@ -58,11 +58,11 @@ meet_both_spec =
     (λ c. few c.before)
     (λ c. omega (arith, within_a c.before.before))
     (λ c. omega (arith, within_a c.before.before))
-    (λ c. within_a c.before)
-    (λ c. omega (arith, within_b c.before.before))
-    (λ c. omega (arith, within_b c.before.before))
-    (λ c. within_b c.before.before)
-    (λ c. omega (arith, few c.before.before.before))
-    (λ c. omega (arith, c.before.before.before.loop-i-test.true))
+    (λ c. within_a c.before.before.before)
+    (λ c. omega (arith, within_b c.before.before.before.before))
+    (λ c. omega (arith, within_b c.before.before.before.before))
+    (λ c. within_b c.before.before.before.before)
+    (λ c. omega (arith, few c.before.before.before.before.before))
+    (λ c. omega (arith, c.loop-i-test.true))
     loop-again
     returns)

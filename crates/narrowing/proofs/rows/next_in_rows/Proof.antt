@@ -91,16 +91,16 @@ module _ (c : tie.After-in_rows invariant-loop decreases-loop) where
   abbrev start : tie.Start invariant-loop decreases-loop
   start = loop.before
 
-  left : BitsInRows start.args.index.now start.args.n start.args.rows.now (loop.loop.at / 64) (get_or start.args.words.now (loop.loop.at / 64) 0) c.in_rows.result
+  left : BitsInRows start.args.index.now start.args.n start.args.rows.now (loop.loop-at.at / 64) (get_or start.args.words.now (loop.loop-at.at / 64) 0) c.in_rows.result
   left =
-      rw (sym c.before.before.wide-i.ensures.0)
+      rw (sym c.wide-i.ensures.0)
       c.in_rows.ensures
 
   fits : c.in_rows.result < 2 ^ 64
   fits = c.in_rows.type_inv
 
-  inside : loop.loop.at < start.args.end
-  inside = c.before.before.before.loop-at-test.true
+  inside : loop.loop-at.at < start.args.end
+  inside = c.loop-at-test.true
 
 few : (s : tie.Start invariant-loop decreases-loop) → s.args.end ≤ 4096
 few s = s.requires.1.0.1
@@ -109,7 +109,7 @@ in-rows-requires : tie.Need-in_rows-requires invariant-loop decreases-loop
 in-rows-requires c κs =
     let l = c.before.before in
     let s = l.before.before in
-    (s.requires.0.1, omega (arith, c.before.wide-i.ensures.0, s.requires.1.0.0, l.loop-at-test.true))
+    (s.requires.0.1, omega (arith, c.wide-i.ensures.0, s.requires.1.0.0, l.loop-at-test.true))
 
 returns : tie.Need-returns-then-g-end invariant-loop decreases-loop
 returns c =
@@ -118,10 +118,10 @@ returns c =
     let a = (start r).args in
     let z = zeros a.index.now a.rows.now a.n a.words.now l.at r.in_rows.result (left r) in
     record {
-      from_on = omega (arith, l.inv.0);
+      from_on = omega (arith, l.invariant.0);
       to_end = omega (arith, c.if-g-end.true);
-      lives = λ h. found-lives a.index.now a.rows.now a.n a.words.now l.at r.in_rows.result (left r) (fits r) c.before.if-w-ne0.true;
-      none_before = none_then a.index.now a.rows.now a.n a.words.now a.start l.at _ l.inv.1 (none-to-found a.index.now a.rows.now a.n a.words.now l.at r.in_rows.result (left r) (fits r) c.before.if-w-ne0.true);
+      lives = λ h. found-lives a.index.now a.rows.now a.n a.words.now l.at r.in_rows.result (left r) (fits r) c.if-w-ne0.true;
+      none_before = none_then a.index.now a.rows.now a.n a.words.now a.start l.at _ l.invariant.1 (none-to-found a.index.now a.rows.now a.n a.words.now l.at r.in_rows.result (left r) (fits r) c.if-w-ne0.true);
     }
 
 returns-2 : tie.Need-returns-else-g-end invariant-loop decreases-loop
@@ -129,7 +129,7 @@ returns-2 c =
     let r = c.before.before in
     let l = (loop r).loop-at in
     let a = (start r).args in
-    let before = none_then a.index.now a.rows.now a.n a.words.now a.start l.at _ l.inv.1 (none-to-found a.index.now a.rows.now a.n a.words.now l.at r.in_rows.result (left r) (fits r) c.before.if-w-ne0.true) in
+    let before = none_then a.index.now a.rows.now a.n a.words.now a.start l.at _ l.invariant.1 (none-to-found a.index.now a.rows.now a.n a.words.now l.at r.in_rows.result (left r) (fits r) c.if-w-ne0.true) in
     record {
       from_on = omega (arith, (start r).requires.1.1);
       to_end = omega arith;
@@ -142,7 +142,7 @@ loop-again c =
     let r = c.before in
     let l = (loop r).loop-at in
     let a = (start r).args in
-    (omega (arith, l.inv.0), none_then a.index.now a.rows.now a.n a.words.now a.start l.at _ l.inv.1 (none-of-empty a.index.now a.rows.now a.n a.words.now l.at r.in_rows.result (left r) c.if-w-ne0.false))
+    (omega (arith, l.invariant.0), none_then a.index.now a.rows.now a.n a.words.now a.start l.at _ l.invariant.1 (none-of-empty a.index.now a.rows.now a.n a.words.now l.at r.in_rows.result (left r) c.if-w-ne0.false))
 
 returns-3 : tie.Need-returns invariant-loop decreases-loop
 returns-3 c =
@@ -151,7 +151,7 @@ returns-3 c =
       from_on = s.requires.1.1;
       to_end = omega arith;
       lives = λ h. absurd (omega arith);
-      none_before = λ h a b. c.before.loop-at.invariant.1 h a (omega (arith, c.loop-at-test.false));
+      none_before = λ h a b. c.loop-at.invariant.1 h a (omega (arith, c.loop-at-test.false));
     }
 
 pub next_in_rows_spec : {M : Type 1} → statement M
@@ -163,7 +163,7 @@ next_in_rows_spec =
     (λ c. (omega arith, λ h a b. absurd (omega arith)))
     (λ c κs. search rules)
     (λ c. omega (arith, c.wide-i.ensures.1))
-    (λ c. let s = c.before.before.before in omega (arith, c.wide-i.ensures.0, few s.before, c.before.loop-at-test.true))
+    (λ c. let s = c.before.before.before in omega (arith, c.wide-i.ensures.0, few s.before, c.loop-at-test.true))
     in-rows-requires
     (λ c. search rules)
     (λ c. search rules)

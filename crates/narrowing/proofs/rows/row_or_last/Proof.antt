@@ -10,14 +10,14 @@ use Rattle.narrowing.proofs.rows.row_or_last.Tie as tie
 returns : tie.Need-returns-then-k-n
 returns c =
     let t = c.before.before in
-    let a = t.before.args in
+    let a = t.args in
     let own : a.k ≡ min a.k (a.n - 1) = omega (arith, t.if-k-n.true) in
     c.wide.ensures.0 ∙ ap (λ (j : ℕ). get_or a.rows.now j 0) own
 
 returns-2 : tie.Need-returns
 returns-2 c =
     let t = c.before.before in
-    let a = t.before.args in
+    let a = t.args in
     let last : a.n - 1 ≡ min a.k (a.n - 1) = omega (arith, t.if-k-n.false) in
     c.wide-2.ensures.0 ∙ ap (λ (j : ℕ). get_or a.rows.now j 0) last
 

@@ -21,10 +21,10 @@ module _ (c : tie.In-loop-rows invariant-loop decreases-loop) where
   abbrev start : tie.Start invariant-loop decreases-loop
   start = c.before.before.before.before.before.before
 
-  below : c.before.before.loop-rows.j < length start.args.scope_b.now
-  below = omega (arith, c.before.wide.ensures.0, c.loop-rows-test.true)
+  below : c.loop-rows.j < length start.args.scope_b.now
+  below = omega (arith, c.wide.ensures.0, c.loop-rows-test.true)
 
-  few : c.before.before.loop-rows.j < 8
+  few : c.loop-rows.j < 8
   few = omega (arith, below, start.requires.0.1.1)
 
 loop-holds : tie.Need-loop-rows-init invariant-loop decreases-loop
@@ -33,7 +33,7 @@ loop-holds c = let s = c.before.before.before in (omega arith, record { long = s
 add-column-requires : tie.Need-add_column-n-requires invariant-loop decreases-loop
 add-column-requires c κs =
     let turn = c.before.before.before in
-    let l = turn.before.before.loop-rows in
+    let l = turn.loop-rows in
     let p = (start turn).requires in
     ((l.invariant.1.long, (omega (arith, few turn, l.invariant.0), p.0.1.0)), (p.1.0, (p.1.1, few turn)))
 
@@ -41,7 +41,7 @@ loop-again : tie.Need-loop-rows-preserved invariant-loop decreases-loop
 loop-again c =
     let read = c.before.before.before in
     let turn = read.before in
-    let l = turn.before.before.loop-rows in
+    let l = turn.loop-rows in
     let a = (start turn).args in
     let added = c.add_column-n.ensures in
     let h : c.add_column-n.result ≤ 32 = omega (arith, few turn, l.invariant.0, added.few) in
@@ -62,9 +62,9 @@ rows_between_spec =
     (λ c κs. search rules)
     (λ c κs. search rules)
     (λ c. search rules)
-    (λ c. omega (arith, below c.before.before, c.before.wide-in-loop-rows.ensures.0))
+    (λ c. omega (arith, below c.before.before, c.wide-in-loop-rows.ensures.0))
     add-column-requires
     (λ c. omega (arith, few c.before.before.before.before))
     (λ c. omega (arith, below c.before.before.before.before))
     loop-again
-    (λ c. c.before.before.loop-rows.invariant.1))
+    (λ c. c.loop-rows.invariant.1))

@@ -25,8 +25,8 @@ module _ (c : tie.After-place_of-q) where
   abbrev laid : SoundLists L
   laid = start.requires.1.0.laid
 
-  own : Within laid start.args.r start.args.x start.requires.1.0.own c.before.place_of-p.result
-  own = place-within laid start.args.r start.args.x start.requires.1.0.own c.before.place_of-p.result c.before.place_of-p.ensures
+  own : Within laid start.args.r start.args.x start.requires.1.0.own c.place_of-p.result
+  own = place-within laid start.args.r start.args.x start.requires.1.0.own c.place_of-p.result c.place_of-p.ensures
 
   other : (c.place_of-q.result.scope ≤ c.place_of-q.result.scope_end) × (c.place_of-q.result.scope_end ≤ length start.args.variables.now)
   other = (
@@ -42,7 +42,7 @@ rows-between-requires c κs =
     let w = places c.before.before.before.before in
     let s = start w in
     let a = s.args in (
-      (s.requires.0, (place-lengths (laid w) a.r a.x s.requires.1.0.own w.before.place_of-p.result w.before.place_of-p.ensures, place-few (laid w) a.s s.requires.1.1 w.place_of-q.result 0 w.place_of-q.ensures)),
+      (s.requires.0, (place-lengths (laid w) a.r a.x s.requires.1.0.own w.place_of-p.result w.place_of-p.ensures, place-few (laid w) a.s s.requires.1.1 w.place_of-q.result 0 w.place_of-q.ensures)),
       (s.requires.1.0.indexed.plan, s.requires.1.1),
     )
 
@@ -58,8 +58,8 @@ returns c =
     let w = places c.before.before.before.before.before in
     let s = start w in
     let a = s.args in
-    let p = w.before.place_of-p.result in
-    let e = w.before.place_of-p.ensures in
+    let p = w.place_of-p.result in
+    let e = w.place_of-p.ensures in
     let h = below-limit (laid w) a.r a.x s.requires.1.0.own in
     let columns = width_in a.starts.now a.r in
     shared-as

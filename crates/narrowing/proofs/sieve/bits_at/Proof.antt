@@ -10,6 +10,6 @@ pub bits_at_spec : {M : Type 1} → statement M
 bits_at_spec =
     tie.close
     (tie.spec
-    (λ c κs. c.before.before.requires)
+    (λ c κs. c.requires)
     (λ c κs. search rules)
-    (λ c. c.bits_of.ensures ∙ ap bits_of c.before.value_at.ensures))
+    (λ c. c.bits_of.ensures ∙ ap bits_of c.value_at.ensures))

@@ -17,16 +17,16 @@ small v = omega (arith, mixed-below v)
 returns : tie.Need-returns-then-is_any
 unfolding bits_of
 returns c =
-    let v = c.before.before.args.value in
-    ap (λ (b : Bool). all_or b (bit_of v)) (sym (sym c.before.is_any.ensures ∙ c.if-is_any.true))
+    let v = c.args.value in
+    ap (λ (b : Bool). all_or b (bit_of v)) (sym (sym c.is_any.ensures ∙ c.if-is_any.true))
 
 returns-2 : tie.Need-returns
 unfolding bits_of
 returns-2 c =
-    let v = c.before.before.before.args.value in
+    let v = c.args.value in
     ap (λ (h : ℕ). 1 * 2 ^ (h / 67108864) % 2 ^ 64) c.mix.ensures
     ∙ one_shl (bit_of v) (small v)
-    ∙ ap (λ (b : Bool). all_or b (bit_of v)) (sym (sym c.before.before.is_any.ensures ∙ c.before.if-is_any.false))
+    ∙ ap (λ (b : Bool). all_or b (bit_of v)) (sym (sym c.is_any.ensures ∙ c.if-is_any.false))
 
 pub bits_of_spec : {M : Type 1} → statement M
 bits_of_spec =
@@ -35,5 +35,5 @@ bits_of_spec =
     (λ c κs. search rules)
     returns
     (λ c κs. search rules)
-    (λ c. omega (arith, c.mix.ensures, small c.before.before.before.args.value))
+    (λ c. omega (arith, c.mix.ensures, small c.args.value))
     returns-2)

@@ -35,13 +35,13 @@ module _ (c : tie.After-tuple_start-end invariant-loop decreases-loop) where
   words = start.args.words.now
 
   abbrev first : ℕ
-  first = c.before.tuple_start-first.result
+  first = c.tuple_start-first.result
 
   abbrev end : ℕ
   end = c.tuple_start-end.result
 
   first-is : first ≡ first_id network start.args.s
-  first-is = c.before.tuple_start-first.ensures ∙ tuple-start start.requires.1.laid.framed start.args.s (omega (arith, start.requires.1.relation))
+  first-is = c.tuple_start-first.ensures ∙ tuple-start start.requires.1.laid.framed start.args.s (omega (arith, start.requires.1.relation))
 
   end_is : end ≡ first_id network start.args.s + size network start.args.s
   end_is = c.tuple_start-end.ensures ∙ tuple-end start.requires.1.laid.framed start.args.s start.requires.1.relation
@@ -61,17 +61,17 @@ module _ (c : tie.In-loop-g invariant-loop decreases-loop) where
   known = c.before.before.before.before
 
   abbrev g : ℕ
-  g = c.before.loop-g.g
+  g = c.loop-g.g
 
   -- the tuple's index
   abbrev y : ℕ
   y = g - first known
 
   index : y < size (network known) (start known).args.s
-  index = omega (arith, first-is known, end_is known, c.loop-g-test.true, c.before.loop-g.invariant.0.0)
+  index = omega (arith, first-is known, end_is known, c.loop-g-test.true, c.loop-g.invariant.0.0)
 
   id : first_id (network known) (start known).args.s + y ≡ g
-  id = omega (arith, first-is known, c.before.loop-g.invariant.0.0)
+  id = omega (arith, first-is known, c.loop-g.invariant.0.0)
 
   ahead : First (is_live (words known)) (g + 1) (end known) (next_live (words known) (g + 1) (end known))
   ahead = next-is known (g + 1) (omega (arith, c.loop-g-test.true))
@@ -91,7 +91,7 @@ loop-again c =
     let t = done.before in
     let k = known t in
     let a = (start k).args in
-    let l = t.before.loop-g in
+    let l = t.loop-g in
     let f = ahead t in
     let e = c.next-g-in-loop-g.ensures in (
       (omega (arith, e, f.from-i, l.invariant.0.0), omega (arith, e, f.to_end)),
@@ -103,7 +103,7 @@ loop-again c =
 returns : tie.Need-returns invariant-loop decreases-loop
 returns c =
     let k = c.before.before.before.before in
-    λ z h live. c.before.loop-g.invariant.1 z h (omega (arith, h, end_is k, c.loop-g-test.false)) live
+    λ z h live. c.loop-g.invariant.1 z h (omega (arith, h, end_is k, c.loop-g-test.false)) live
 
 pub mask_of_spec : {M : Type 1} → statement M
 mask_of_spec =
@@ -111,12 +111,12 @@ mask_of_spec =
     (tie.spec
     invariant-loop
     decreases-loop
-    (λ c κs. omega (arith, c.before.before.requires.1.relation))
+    (λ c κs. omega (arith, c.requires.1.relation))
     (λ c. search rules)
-    (λ c κs. omega (arith, c.before.before.before.requires.1.relation))
+    (λ c κs. omega (arith, c.requires.1.relation))
     (λ c κs. let k = c.before in next-asks k (first k) (omega (arith, first-is k, end_is k)))
     loop-holds
-    (λ c. c.before.loop-g.invariant.0.0)
+    (λ c. c.loop-g.invariant.0.0)
     (λ c κs. let k = known c in (record { laid = (start k).requires.1.laid; own = index c }, (start k).requires.1.inside))
     (λ c. let t = c.before.before in omega (arith, few (known t), t.loop-g-test.true))
     (λ c κs. let t = c.before.before in next-asks (known t) (g t + 1) (omega (arith, t.loop-g-test.true)))

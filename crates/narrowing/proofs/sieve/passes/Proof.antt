@@ -23,30 +23,30 @@ module _ (c : tie.After-variable_start-a_end) where
   abbrev network : Network
   network = network_in (record { variables = start.args.variables.now; values = start.args.values.now; starts = start.args.starts.now })
 
-  rises : c.before.variable_start-a.result ≤ c.variable_start-a_end.result
+  rises : c.variable_start-a.result ≤ c.variable_start-a_end.result
   rises =
-      omega (arith, c.before.variable_start-a.ensures.0, c.variable_start-a_end.ensures.0, scope-rises start.requires.laid.framed start.args.r (few start))
+      omega (arith, c.variable_start-a.ensures.0, c.variable_start-a_end.ensures.0, scope-rises start.requires.laid.framed start.args.r (few start))
 
-  width_is : c.variable_start-a_end.result - c.before.variable_start-a.result ≡ width network start.args.r
+  width_is : c.variable_start-a_end.result - c.variable_start-a.result ≡ width network start.args.r
   width_is =
-      omega (arith, c.before.variable_start-a.ensures.0, c.variable_start-a_end.ensures.0, width-in start.requires.laid.framed start.args.r (few start))
+      omega (arith, c.variable_start-a.ensures.0, c.variable_start-a_end.ensures.0, width-in start.requires.laid.framed start.args.r (few start))
 
 returns : tie.Need-returns-then-a_end-a
 returns c =
     let read = c.before.before in
     let a = (start read).args in
-    sym (passes_none (network read) a.r a.x a.sieve (omega (arith, c.if-a_end-a.true, width_is read, c.before.wide.ensures.0)))
+    sym (passes_none (network read) a.r a.x a.sieve (omega (arith, c.if-a_end-a.true, width_is read, c.wide.ensures.0)))
 
 -- the column is one of the relation's
 inside : (c : tie.Else-a_end-a) → let read = c.before.before in (start read).args.sieve.column < width (network read) (start read).args.r
-inside c = omega (arith, c.if-a_end-a.false, width_is c.before.before, c.before.wide.ensures.0)
+inside c = omega (arith, c.if-a_end-a.false, width_is c.before.before, c.wide.ensures.0)
 
 returns-2 : tie.Need-returns
 returns-2 c =
     let e = c.before.before in
     let read = e.before.before in
     let a = (start read).args in
-    sym (passes-bits (network read) a.r a.x a.sieve c.before.bits_at.result c.before.bits_at.ensures (inside e))
+    sym (passes-bits (network read) a.r a.x a.sieve c.bits_at.result c.bits_at.ensures (inside e))
 
 pub passes_spec : {M : Type 1} → statement M
 passes_spec =

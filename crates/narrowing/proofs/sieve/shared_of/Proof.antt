@@ -10,7 +10,7 @@ use Rattle.model.specs.Network.{Network, scope_of}
 use Rattle.layout.specs.Setting.{Lists, network_in}
 use Rattle.layout.proofs.SoundStarts.{scope-rises}
 use Rattle.layout.proofs.Places.{scope-within, scope-is, scope-few}
-use Rattle.narrowing.specs.Sieve.{Shares}
+use Rattle.narrowing.specs.Sieve.{CommonColumns}
 use Rattle.narrowing.proofs.sieve.shared_of.Statement.{statement}
 use Rattle.narrowing.proofs.sieve.shared_of.Tie as tie
 
@@ -25,34 +25,34 @@ module _ (c : tie.After-variable_start-b_end) where
   N = network_in (given start)
 
   abbrev a : ℕ
-  a = c.before.before.before.variable_start-a.result
+  a = c.variable_start-a.result
 
   abbrev a-end : ℕ
-  a-end = c.before.before.variable_start-a_end.result
+  a-end = c.variable_start-a_end.result
 
   abbrev b : ℕ
-  b = c.before.variable_start-b.result
+  b = c.variable_start-b.result
 
   abbrev b_end : ℕ
   b_end = c.variable_start-b_end.result
 
   rises-a : a ≤ a-end
-  rises-a = omega (arith, c.before.before.before.variable_start-a.ensures.0, c.before.before.variable_start-a_end.ensures.0, scope-rises start.requires.0.framed start.args.r start.requires.1.0)
+  rises-a = omega (arith, c.variable_start-a.ensures.0, c.variable_start-a_end.ensures.0, scope-rises start.requires.0.framed start.args.r start.requires.1.0)
 
   within_a : a-end ≤ length (given start).variables
-  within_a = omega (arith, c.before.before.variable_start-a_end.ensures.0, scope-within start.requires.0 start.args.r start.requires.1.0)
+  within_a = omega (arith, c.variable_start-a_end.ensures.0, scope-within start.requires.0 start.args.r start.requires.1.0)
 
   rises-b : b ≤ b_end
-  rises-b = omega (arith, c.before.variable_start-b.ensures.0, c.variable_start-b_end.ensures.0, scope-rises start.requires.0.framed start.args.s start.requires.1.1)
+  rises-b = omega (arith, c.variable_start-b.ensures.0, c.variable_start-b_end.ensures.0, scope-rises start.requires.0.framed start.args.s start.requires.1.1)
 
   within_b : b_end ≤ length (given start).variables
   within_b = omega (arith, c.variable_start-b_end.ensures.0, scope-within start.requires.0 start.args.s start.requires.1.1)
 
   scope-a : take (a-end - a) (drop a (given start).variables) ≡ scope_of N start.args.r
-  scope-a = ap₂ (λ (n m : ℕ). take (n - m) (drop m (given start).variables)) c.before.before.variable_start-a_end.ensures.0 c.before.before.before.variable_start-a.ensures.0 ∙ scope-is start.requires.0 start.args.r start.requires.1.0
+  scope-a = ap₂ (λ (n m : ℕ). take (n - m) (drop m (given start).variables)) c.variable_start-a_end.ensures.0 c.variable_start-a.ensures.0 ∙ scope-is start.requires.0 start.args.r start.requires.1.0
 
   scope-b : take (b_end - b) (drop b (given start).variables) ≡ scope_of N start.args.s
-  scope-b = ap₂ (λ (n m : ℕ). take (n - m) (drop m (given start).variables)) c.variable_start-b_end.ensures.0 c.before.variable_start-b.ensures.0 ∙ scope-is start.requires.0 start.args.s start.requires.1.1
+  scope-b = ap₂ (λ (n m : ℕ). take (n - m) (drop m (given start).variables)) c.variable_start-b_end.ensures.0 c.variable_start-b.ensures.0 ∙ scope-is start.requires.0 start.args.s start.requires.1.1
 
 -- both scopes are short
 shared-columns-requires : tie.Need-shared_columns-requires
@@ -65,8 +65,8 @@ shared-columns-requires c κs =
 returns : tie.Need-returns
 returns c =
     let k = c.before.before.before in
-    subst (λ (xs : List ℕ). Shares xs (scope_of (N k) (start k).args.s) c.shared_columns.result) (scope-a k)
-    (subst (λ (ys : List ℕ). Shares (take (a-end k - a k) (drop (a k) (given (start k)).variables)) ys c.shared_columns.result) (scope-b k) c.shared_columns.ensures)
+    subst (λ (xs : List ℕ). CommonColumns xs (scope_of (N k) (start k).args.s) c.shared_columns.result) (scope-a k)
+    (subst (λ (ys : List ℕ). CommonColumns (take (a-end k - a k) (drop (a k) (given (start k)).variables)) ys c.shared_columns.result) (scope-b k) c.shared_columns.ensures.1)
 
 pub shared_of_spec : {M : Type 1} → statement M
 shared_of_spec =

@@ -12,16 +12,16 @@ pub sieve_for_spec : {M : Type 1} → statement M
 sieve_for_spec =
     tie.close
     (tie.spec
-    (λ c κs. c.before.before.requires.1)
+    (λ c κs. c.requires.1)
     (λ c. search rules)
     (λ c.
     let s = c.before.before.before.before in
-    sieves-mask s.requires.1.0 s.args.r s.args.s s.args.words.now c.before.shared_of-shared.result _ refl c.before.shared_of-shared.ensures (λ h. absurd (h c.if-column.true)))
+    sieves-mask s.requires.1.0 s.args.r s.args.s s.args.words.now c.shared_of-shared.result _ refl c.shared_of-shared.ensures (λ h. absurd (h c.if-column.true)))
     (λ c κs.
     let s = c.before.before.before.before in
-    let f = c.before.shared_of-shared.ensures.same c.if-column.false in
+    let f = c.shared_of-shared.ensures.same c.if-column.false in
     (s.requires.0, record { laid = s.requires.1.0; relation = s.requires.1.1.1; inside = omega (arith, f.1, scope-length s.requires.1.0 s.args.s s.requires.1.1.1) }))
     (λ c.
     let e = c.before in
     let s = e.before.before.before.before in
-    sieves-mask s.requires.1.0 s.args.r s.args.s s.args.words.now e.before.shared_of-shared.result _ refl e.before.shared_of-shared.ensures (λ h. c.mask_of-bits.ensures)))
+    sieves-mask s.requires.1.0 s.args.r s.args.s s.args.words.now e.shared_of-shared.result _ refl e.shared_of-shared.ensures (λ h. c.mask_of-bits.ensures)))

@@ -14,17 +14,17 @@ abbrev start : tie.After-wide → tie.Start
 start c = c.before.before.before.before
 
 -- the value stands in the list
-inside : (c : tie.After-wide) → c.before.place_of-p.result.tuple + c.wide.result < length (start c).args.values.now
+inside : (c : tie.After-wide) → c.place_of-p.result.tuple + c.wide.result < length (start c).args.values.now
 inside c =
     let s = start c in
-    omega (arith, place-below s.requires.0.laid s.args.r s.args.x s.args.column s.requires.0.own s.requires.1 c.before.place_of-p.result c.before.place_of-p.ensures, c.wide.ensures.0)
+    omega (arith, place-below s.requires.0.laid s.args.r s.args.x s.args.column s.requires.0.own s.requires.1 c.place_of-p.result c.place_of-p.ensures, c.wide.ensures.0)
 
 returns : tie.Need-returns
 returns c =
     let w = c.before.before in
     let s = start w in
-    ap (λ (n : ℕ). get_or s.args.values.now (w.before.place_of-p.result.tuple + n) 0) w.wide.ensures.0
-    ∙ place-value s.requires.0.laid s.args.r s.args.x s.args.column s.requires.0.own s.requires.1 w.before.place_of-p.result w.before.place_of-p.ensures
+    ap (λ (n : ℕ). get_or s.args.values.now (w.place_of-p.result.tuple + n) 0) w.wide.ensures.0
+    ∙ place-value s.requires.0.laid s.args.r s.args.x s.args.column s.requires.0.own s.requires.1 w.place_of-p.result w.place_of-p.ensures
 
 pub value_at_spec : {M : Type 1} → statement M
 value_at_spec =

@@ -50,7 +50,7 @@ module _ (c : tie.After-line-n) where
   kind : get_or c.before.before.before.answer_fields-fields.result 0 0 ≡ (answer_numbers start.args.answer).kind
   kind = ap (λ (xs : List ℕ). get_or xs 0 0) c.before.before.before.answer_fields-fields.ensures
 
-  first : Appended (line_text (answer_line (answer_numbers start.args.answer))) start.args.out.now 0 c.line-n.new.0 c.line-n.result
+  first : Appended (line_text (answer_line (answer_numbers start.args.answer))) start.args.out.now 0 c.line-n.new.out c.line-n.result
   first = appended-same (ap line_text c.before.before.before.answer_fields-fields.ensures) c.line-n.ensures
 
   -- it leaves room for the tuples

@@ -63,7 +63,7 @@ returns-2 : (t : ℕ) → digits-lts.Need-returns (callees t) (digits-at t) digi
 returns-2 t c =
     let d = c.before.before.digits-n in
     appended-same (sym (decimal-large (entry t c).args.v (omega arith) (omega arith)))
-    (appended_then d.ensures (appended-byte d.new.0 d.result _ (omega (arith, (last t c).1, d.ensures.long))))
+    (appended_then d.ensures (appended-byte d.new.out d.result _ (omega (arith, (last t c).1, d.ensures.long))))
 
 pub +digits_spec : {M : Type 1} → statement M
 +digits_spec =
@@ -84,5 +84,5 @@ pub +digits_spec : {M : Type 1} → statement M
     (λ c. omega arith)
     (λ c. omega (arith, (last t c).1, c.before.before.digits-n.ensures.long))
     (λ c. omega (arith, (last t c).0, (entry t c).requires.1))
-    (λ c. simp length-set c.before.before.digits-n.auto.0)
+    (λ c. simp length-set c.before.before.digits-n.auto.out)
     (returns-2 t)

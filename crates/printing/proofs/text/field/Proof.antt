@@ -9,14 +9,14 @@ use Rattle.printing.proofs.text.field.Statement.{statement}
 use Rattle.printing.proofs.text.field.Tie as tie
 
 -- there is room behind the digits
-behind : (c : tie.After-digits-n) → c.digits-n.result < length c.digits-n.new.0
+behind : (c : tie.After-digits-n) → c.digits-n.result < length c.digits-n.new.out
 behind c =
     let entry = c.before.before.before in
     let e = appended-end (omega (arith, entry.requires)) c.digits-n.ensures in
     omega (arith, e, entry.requires, c.digits-n.ensures.long)
 
 returns : tie.Need-returns
-returns c = let d = c.before.before.digits-n in appended_then d.ensures (appended-byte d.new.0 d.result _ (behind c.before.before))
+returns c = let d = c.before.before.digits-n in appended_then d.ensures (appended-byte d.new.out d.result _ (behind c.before.before))
 
 pub field_spec : {M : Type 1} → statement M
 field_spec =

@@ -122,7 +122,7 @@ module _ (c : tie.After-wide invariant-loop decreases-loop) where
   room : place + width (read turn) ≤ length values
   room =
       let k = read turn in
-      omega (arith, place_is, tuple-inside (entry k).requires.0.0 (r k) (entry k).requires.0.1 (start k) (end k) (first k) (width k) (start-read k) (end_read k) (first_read k) (width_read k) g turn.before.loop-g.inv.0 turn.loop-g-test.taken)
+      omega (arith, place_is, tuple-inside (entry k).requires.0.0 (r k) (entry k).requires.0.1 (start k) (end k) (first k) (width k) (start-read k) (end_read k) (first_read k) (width_read k) g turn.before.loop-g.invariant.0 turn.loop-g-test.true)
 
   abbrev part : List ℕ
   part = take (place + width (read turn) - place) (drop place values)
@@ -137,7 +137,7 @@ module _ (c : tie.After-wide invariant-loop decreases-loop) where
       let k = read turn in
       let w : place + width k - place ≡ width k = omega arith in
       ap₂ (λ (n i : ℕ). r k ∷ (g - start k) ∷ take n (drop i values)) w place_is
-      ∙ tuple-line-is (entry k).requires.0.0 (r k) (entry k).requires.0.1 (start k) (end k) (first k) (width k) (start-read k) (end_read k) (first_read k) (width_read k) g turn.before.loop-g.inv.0 turn.loop-g-test.taken
+      ∙ tuple-line-is (entry k).requires.0.0 (r k) (entry k).requires.0.1 (start k) (end k) (first k) (width k) (start-read k) (end_read k) (first_read k) (width_read k) g turn.before.loop-g.invariant.0 turn.loop-g-test.true
 
 loop-holds : tie.Need-loop-g-init invariant-loop decreases-loop
 loop-holds c =
@@ -155,10 +155,10 @@ tuple-line-requires c κs =
     let l = (turn w).before.loop-g in
     let k = read (turn w) in
     let e = part_length w in
-    let here = over-cons (line k) (live k) (g w) (end k) (turn w).loop-g-test.true (l.inv.2 (turn w).loop-g-test.true) in
+    let here = over-cons (line k) (live k) (g w) (end k) (turn w).loop-g-test.true (l.invariant.2 (turn w).loop-g-test.true) in
     let whole = ap₂ (text_over (line k) (live k)) (start-read k) (end_read k) in (
       omega (arith, has_width k),
-      omega (arith, (entry k).requires.1, l.inv.3.long, remains-length (omega (arith, (entry k).requires.1)) l.inv.3, ap length here, length-append (line_text (line k (g w))) (text_over (line k) (live k) (g w + 1) (end k)), ap length whole, ap (λ (vs : List ℕ). length (line_text vs)) (its-line w)),
+      omega (arith, (entry k).requires.1, l.invariant.3.long, remains-length (omega (arith, (entry k).requires.1)) l.invariant.3, ap length here, length-append (line_text (line k (g w))) (text_over (line k) (live k) (g w + 1) (end k)), ap length whole, ap (λ (vs : List ℕ). length (line_text vs)) (its-line w)),
     )
 
 -- ---- The next live id
@@ -170,7 +170,7 @@ module _ (c : tie.After-next-g-in-loop-g invariant-loop decreases-loop) where
   onward : First (live (read (turn written))) (g written + 1) (end (read (turn written))) c.next-g-in-loop-g.result
   onward =
       let k = read (turn written) in
-      subst (First (live k) (g written + 1) (end k)) (sym c.next-g-in-loop-g.ensures) (next_live-first (entry k).args.words.now (g written + 1) (end k) (omega (arith, (turn written).loop-g-test.taken)))
+      subst (First (live k) (g written + 1) (end k)) (sym c.next-g-in-loop-g.ensures) (next_live-first (entry k).args.words.now (g written + 1) (end k) (omega (arith, (turn written).loop-g-test.true)))
 
 loop-again : tie.Need-loop-g-preserved invariant-loop decreases-loop
 loop-again c =
@@ -179,11 +179,11 @@ loop-again c =
     let l = (turn w).before.loop-g in
     let t = c.before.before.before.tuple_line-n in
     let f = onward c in (
-      omega (arith, f.from-i, l.inv.0),
+      omega (arith, f.from-i, l.invariant.0),
       f.to_end,
       f.passes,
       remains-same (sym (over_first (line k) (live k) (g w + 1) (end k) c.next-g-in-loop-g.result f))
-          (remains-then (remains-same (over-cons (line k) (live k) (g w) (end k) (turn w).loop-g-test.taken (l.inv.2 (turn w).loop-g-test.taken)) l.inv.3) (appended-same (ap line_text (its-line w)) t.ensures)),
+          (remains-then (remains-same (over-cons (line k) (live k) (g w) (end k) (turn w).loop-g-test.true (l.invariant.2 (turn w).loop-g-test.true)) l.invariant.3) (appended-same (ap line_text (its-line w)) t.ensures)),
     )
 
 returns : tie.Need-returns invariant-loop decreases-loop
@@ -222,7 +222,7 @@ relation_lines_spec =
     tuple-line-requires
     (λ c. search rules)
     (λ c κs. let turn = c.before.before.before.before.before.before in asks (read turn) (turn.before.loop-g.g + 1) (omega (arith, turn.loop-g-test.true)))
-    (λ c. omega (arith, (onward c).from-i, (onward c).to_end, (turn (written c)).loop-g-test.taken))
+    (λ c. omega (arith, (onward c).from-i, (onward c).to_end, (turn (written c)).loop-g-test.true))
     loop-again
     (λ c. c.before.loop-g.invariant.3.long)
     returns)

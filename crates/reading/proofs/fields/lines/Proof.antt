@@ -38,12 +38,12 @@ module _ (c : tie.In-loop-i invariant-loop decreases-loop) where
   inside = omega (arith, among, start.requires.2)
 
 -- behind all lines the list is still as lent
-kept : (c : tie.After-line-from invariant-loop decreases-loop) → (let a = (start c.before.before).args in let end = a.start + a.k * a.n in drop end c.line-from.new.1.1.1.1.0 ≡ drop end a.into.now)
+kept : (c : tie.After-line-from invariant-loop decreases-loop) → (let a = (start c.before.before).args in let end = a.start + a.k * a.n in drop end c.line-from.new.into ≡ drop end a.into.now)
 kept c =
     let turn = c.before.before in
     let a = (start turn).args in
     let l = turn.before.loop-i in
-    drop-later (l.to + a.n) (a.start + a.k * a.n) c.line-from.new.1.1.1.1.0 l.into-1 (among turn) c.line-from.ensures.1 ∙ l.invariant.5
+    drop-later (l.to + a.n) (a.start + a.k * a.n) c.line-from.new.into l.into (among turn) c.line-from.ensures.1 ∙ l.invariant.5
 
 loop-holds : tie.Need-loop-i-init invariant-loop decreases-loop
 loop-holds c =
@@ -62,7 +62,7 @@ returns c =
     let turn = after.before.before in
     let a = turn.before.before.before.before.args in
     let l = turn.before.loop-i in (
-      sym (lines-stop a.top (a.k - (l.i + 1)) (a.k - l.i) a.n a.text.now (drop l.from a.text.now) (take l.to l.into-1) (take (l.to + a.n) after.line-from.new.1.1.1.1.0) after.line-from.result (omega arith) after.line-from.ensures.0 c.if-from-eq0.true)
+      sym (lines-stop a.top (a.k - (l.i + 1)) (a.k - l.i) a.n a.text.now (drop l.from a.text.now) (take l.to l.into) (take (l.to + a.n) after.line-from.new.into) after.line-from.result (omega arith) after.line-from.ensures.0 c.if-from-eq0.true)
           ∙ l.invariant.4,
       kept after,
     )
@@ -77,7 +77,7 @@ loop-again c =
       positive after.line-from.result c.if-from-eq0.false,
       next_place a.start l.to l.i a.n l.invariant.2,
       search rules,
-      sym (lines_more a.top (a.k - (l.i + 1)) (a.k - l.i) a.n a.text.now (drop l.from a.text.now) (take l.to l.into-1) (take (l.to + a.n) after.line-from.new.1.1.1.1.0) after.line-from.result (omega arith) after.line-from.ensures.0 c.if-from-eq0.false)
+      sym (lines_more a.top (a.k - (l.i + 1)) (a.k - l.i) a.n a.text.now (drop l.from a.text.now) (take l.to l.into) (take (l.to + a.n) after.line-from.new.into) after.line-from.result (omega arith) after.line-from.ensures.0 c.if-from-eq0.false)
           ∙ l.invariant.4,
       kept after,
     )
@@ -90,9 +90,9 @@ returns-2 c =
     let i : l.i ≡ a.k = omega arith in
     let all : a.start + a.k * a.n ≡ l.to = ap (λ (j : ℕ). a.start + j * a.n) (sym i) ∙ sym l.invariant.2 in
     let none_left : 0 ≡ a.k - l.i = omega arith in (
-      ap (λ (j : ℕ). found_at l.from (take j l.into-1) t) all
-          ∙ lines_end a.top a.n t (take l.to l.into-1) l.from l.invariant.1
-          ∙ ap (λ (j : ℕ). behind (take l.to l.into-1) (read_lines a.top j a.n (drop l.from t))) none_left
+      ap (λ (j : ℕ). found_at l.from (take j l.into) t) all
+          ∙ lines_end a.top a.n t (take l.to l.into) l.from l.invariant.1
+          ∙ ap (λ (j : ℕ). behind (take l.to l.into) (read_lines a.top j a.n (drop l.from t))) none_left
           ∙ l.invariant.4,
       l.invariant.5,
     )

@@ -18,7 +18,7 @@ use Rattle.reading.proofs.relations.record_at.Tie as tie
 
 -- the line as it was read
 abbrev numbers : tie.After-line-next → List ℕ
-numbers c = c.line-next.new.1.1.1.1.0
+numbers c = c.line-next.new.into
 
 line_read : (c : tie.After-line-next) → (let t = c.before.before.before.args.text.now in found_at c.line-next.result (numbers c) t ≡ read_line max_field 2 (drop c.before.before.before.args.at t))
 line_read c =

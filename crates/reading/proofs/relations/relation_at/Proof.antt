@@ -56,7 +56,7 @@ returns-2 c =
     let r = read.before.record_at-r.result in
     let t = a.text.now in
     let us = take a.variable a.variables.now in
-    let absent = map-none (λ (vs : List ℕ). us ++ vs) t after.line-scope_end.result (take (a.variable + r.width) after.line-scope_end.new.1.1.1.1.0) (read_line max_field r.width (drop r.next t)) after.line-scope_end.ensures.0 c.if-scope_end-eq0.true in (
+    let absent = map-none (λ (vs : List ℕ). us ++ vs) t after.line-scope_end.result (take (a.variable + r.width) after.line-scope_end.new.into) (read_line max_field r.width (drop r.next t)) after.line-scope_end.ensures.0 c.if-scope_end-eq0.true in (
       sym (ap (map_read (append (unlisted us (take a.value a.values.now)))) (relation-scopeless a.room (drop a.at t) (record_of r) (drop r.next t) (record-some read) absent)),
       (read.before.record_at-r.ensures.1.0, read.before.record_at-r.ensures.1.1, after.line-scope_end.ensures.1, refl),
     )
@@ -79,8 +79,8 @@ returns-3 c =
     let r = read.before.record_at-r.result in
     let t = a.text.now in (
       relation-found a.room (drop a.at t) (record_of r) (drop r.next t) (record-some read)
-          t (take a.variable a.variables.now) (take (a.variable + r.width) Line-read.line-scope_end.new.1.1.1.1.0)
-          (take a.value a.values.now) (take (a.value + r.tuples * r.width) after.lines-next.new.1.1.1.1.1.0)
+          t (take a.variable a.variables.now) (take (a.variable + r.width) Line-read.line-scope_end.new.into)
+          (take a.value a.values.now) (take (a.value + r.tuples * r.width) after.lines-next.new.into)
           Line-read.line-scope_end.result after.lines-next.result Line-read.line-scope_end.ensures.0 after.before.before.if-scope_end-eq0.false after.lines-next.ensures.0,
       (read.before.record_at-r.ensures.1.0, read.before.record_at-r.ensures.1.1, Line-read.line-scope_end.ensures.1, after.lines-next.ensures.1),
     )

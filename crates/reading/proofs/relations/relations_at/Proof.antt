@@ -66,15 +66,15 @@ module _ (c : tie.After-relation_at-found invariant-loop decreases-loop) where
   found = c.relation_at-found.result
 
   abbrev scopes : List ℕ
-  scopes = take (turn.before.loop-r.variable + found.width) c.relation_at-found.new.1.1.1.0
+  scopes = take (turn.before.loop-r.variable + found.width) c.relation_at-found.new.variables
 
   abbrev tuple-values : List ℕ
-  tuple-values = take (turn.before.loop-r.value + found.tuples * found.width) c.relation_at-found.new.1.1.1.1.1.0
+  tuple-values = take (turn.before.loop-r.value + found.tuples * found.width) c.relation_at-found.new.values
 
   abbrev passed : Network
   passed =
       let l = turn.before.loop-r in
-      standing l.variables-1 l.values-1 l.shape l.variable l.value l.r
+      standing l.variables l.values l.shape l.variable l.value l.r
 
   abbrev relation : Relation
   relation = record_of found
@@ -83,8 +83,8 @@ module _ (c : tie.After-relation_at-found invariant-loop decreases-loop) where
   stops : found.next ≡ 0 → read_relations start.args.count max_tuples (drop start.args.at text) ≡ none
   stops z =
       let l = turn.before.loop-r in
-      let absent = map-none (append (unlisted passed.variables-1 passed.values-1)) text found.next (single relation scopes tuple-values) (read_relation l.room (drop l.from text)) c.relation_at-found.ensures.0 z in
-      sym l.inv.9
+      let absent = map-none (append (unlisted passed.variables passed.values)) text found.next (single relation scopes tuple-values) (read_relation l.room (drop l.from text)) c.relation_at-found.ensures.0 z in
+      sym l.invariant.9
       ∙ relations-stop (start.args.count - (l.r + 1)) (start.args.count - l.r) l.room (drop l.from text) (omega arith) passed absent
 
   -- the relations still to read, behind this one
@@ -92,7 +92,7 @@ module _ (c : tie.After-relation_at-found invariant-loop decreases-loop) where
   goes_on n =
       let l = turn.before.loop-r in
       sym (relations-more (start.args.count - (l.r + 1)) (start.args.count - l.r) l.room (drop l.from text) (omega arith) text passed relation scopes tuple-values found.next c.relation_at-found.ensures.0 n)
-      ∙ l.inv.9
+      ∙ l.invariant.9
 
   -- its values are few
   few : found.tuples * found.width ≤ found.tuples * max_width
@@ -143,17 +143,17 @@ loop-again c =
       positive f.next c.before.before.before.before.before.if-from-eq0.false,
       search rules,
       search rules,
-      length-set l.shape.widths l.r f.width ∙ l.inv.4,
-      length-set l.shape.tuples l.r f.tuples ∙ l.inv.5,
+      length-set l.shape.widths l.r f.width ∙ l.invariant.4,
+      length-set l.shape.tuples l.r f.tuples ∙ l.invariant.5,
       omega (arith, e.1.0),
       omega (arith, few read, e.1.1),
-      l.inv.8,
+      l.invariant.8,
       ap (λ (Rs : List Relation). map_read (append (record { relations = Rs; variables = scopes read; values = tuple-values read })) (read_relations k (l.room - f.tuples) (drop f.next (text read))))
-          (records-more l.r l.shape.widths l.shape.tuples f.width f.tuples (omega (arith, below-limit (turn read), l.inv.4)) (omega (arith, below-limit (turn read), l.inv.5)))
+          (records-more l.r l.shape.widths l.shape.tuples f.width f.tuples (omega (arith, below-limit (turn read), l.invariant.4)) (omega (arith, below-limit (turn read), l.invariant.5)))
           ∙ goes_on read c.before.before.before.before.before.if-from-eq0.false,
-      blank-more l.r l.shape.widths l.shape.tuples f.width f.tuples (below-limit (turn read)) (omega (arith, below-limit (turn read), l.inv.4)) (omega (arith, below-limit (turn read), l.inv.5)) l.inv.10,
-      e.1.2 ∙ drop-later l.variable (l.variable + f.width) l.variables-1 (start read).args.variables.now (omega arith) l.inv.11,
-      e.1.3 ∙ drop-later l.value (l.value + f.tuples * f.width) l.values-1 (start read).args.values.now (omega arith) l.inv.12,
+      blank-more l.r l.shape.widths l.shape.tuples f.width f.tuples (below-limit (turn read)) (omega (arith, below-limit (turn read), l.invariant.4)) (omega (arith, below-limit (turn read), l.invariant.5)) l.invariant.10,
+      e.1.2 ∙ drop-later l.variable (l.variable + f.width) l.variables (start read).args.variables.now (omega arith) l.invariant.11,
+      e.1.3 ∙ drop-later l.value (l.value + f.tuples * f.width) l.values (start read).args.values.now (omega arith) l.invariant.12,
     )
 
 returns : tie.Need-returns-after-loop-r invariant-loop decreases-loop
@@ -164,8 +164,8 @@ returns c =
     let t = a.text.now in
     let all : l.shape.count ≡ l.r = omega (arith, l.invariant.8) in
     let none_left : 0 ≡ a.count - l.r = omega arith in
-    let N = standing l.variables-1 l.values-1 l.shape l.variable l.value l.r in (
-      ap (λ (i : ℕ). found_at l.from (standing l.variables-1 l.values-1 l.shape l.variable l.value i) t) all
+    let N = standing l.variables l.values l.shape l.variable l.value l.r in (
+      ap (λ (i : ℕ). found_at l.from (standing l.variables l.values l.shape l.variable l.value i) t) all
           ∙ relations-end l.room t N l.from l.invariant.1
           ∙ ap (λ (i : ℕ). map_read (append N) (read_relations i l.room (drop l.from t))) none_left
           ∙ l.invariant.9,

@@ -94,7 +94,7 @@ returns c =
     let n = c.before in
     let l = (turn n).before.loop-r in
     let at = (entry n).args in
-    lowest (outline at.starts.now) (living_in at.starts.now at.words.now) (r n) (omega (arith, counted (turn n).before.before, l.inv.1)) l.inv.0
+    lowest (outline at.starts.now) (living_in at.starts.now at.words.now) (r n) (omega (arith, counted (turn n).before.before, l.invariant.1)) l.invariant.0
     (λ _. passed n ∙ ap not (le-ltb (next n) (end n) (omega (arith, found n, c.if-next-end.true, n.before.before.tuple_start-end.ensures))))
 
 loop-again : tie.Need-loop-r-preserved invariant-loop decreases-loop

@@ -48,7 +48,7 @@ needed-requires c κs =
     let a = (start o).args in
     let I = instance (start o) in
     let starts = o.test_checked-opening.result.starts in
-    let e = o.test_checked-opening.ensures.starts-1 passed.if-opening-ne0.false in (
+    let e = o.test_checked-opening.ensures.starts passed.if-opening-ne0.false in (
       (opened-laid a.shape a.variables.now a.values.now starts e (network-sound passed)).framed,
       opened-paired a.shape a.variables.now a.values.now starts e (network-sound passed) a.m a.members.now (first_fault-back (network_faults I.network) (combination_faults I) (sound passed)),
     )
@@ -64,7 +64,7 @@ returns-2 c =
     (c.supports_fault-fault.ensures
     ∙ ap (λ (n : ℕ). supports_refusal n a.numbers)
     (c.before.needed.ensures
-    ∙ opened-needed a.shape a.variables.now a.values.now o.test_checked-opening.result.starts (o.test_checked-opening.ensures.starts-1 passed.if-opening-ne0.false) (network-sound passed) (combinations_of I)))
+    ∙ opened-needed a.shape a.variables.now a.values.now o.test_checked-opening.result.starts (o.test_checked-opening.ensures.starts passed.if-opening-ne0.false) (network-sound passed) (combinations_of I)))
 
 pub checked_spec : {M : Type 1} → statement M
 checked_spec =

@@ -33,7 +33,7 @@ fault-requires c κs =
     let passed = c.before.before in
     let o = passed.before.before in
     let a = (start o).args in
-    opened-laid a.shape a.variables.now a.values.now o.network_checked-opening.result.starts (o.network_checked-opening.ensures.starts-1 passed.if-opening-ne0.false) (sound passed)
+    opened-laid a.shape a.variables.now a.values.now o.network_checked-opening.result.starts (o.network_checked-opening.ensures.starts passed.if-opening-ne0.false) (sound passed)
 
 returns-2 : tie.Need-returns
 returns-2 c =
@@ -44,7 +44,7 @@ returns-2 c =
     opened-back o.network_checked-opening.result (network_faults I.network) (relations_of a.shape) o.network_checked-opening.ensures (combination_faults I) c.fault-fault.result refl passed.if-opening-ne0.false
     (c.fault-fault.ensures
     ∙ ap (λ (J : Instance). refusal (first_fault (combination_faults J)))
-    (opened-instance a.shape a.variables.now a.values.now o.network_checked-opening.result.starts (o.network_checked-opening.ensures.starts-1 passed.if-opening-ne0.false) (sound passed) a.m a.members.now))
+    (opened-instance a.shape a.variables.now a.values.now o.network_checked-opening.result.starts (o.network_checked-opening.ensures.starts passed.if-opening-ne0.false) (sound passed) a.m a.members.now))
 
 pub instance_checked_spec : {M : Type 1} → statement M
 instance_checked_spec =

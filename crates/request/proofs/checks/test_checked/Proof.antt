@@ -44,7 +44,7 @@ returns-2 c =
     (c.words_fault-fault.ensures
     ∙ ap (λ (n : ℕ). words_refusal n a.words)
     (c.before.tuple_count.ensures
-    ∙ opened-total a.shape a.variables.now a.values.now o.instance_checked-opening.result.starts (o.instance_checked-opening.ensures.starts-1 passed.if-opening-ne0.false) (sound passed)))
+    ∙ opened-total a.shape a.variables.now a.values.now o.instance_checked-opening.result.starts (o.instance_checked-opening.ensures.starts passed.if-opening-ne0.false) (sound passed)))
 
 pub test_checked_spec : {M : Type 1} → statement M
 test_checked_spec =

@@ -25,8 +25,8 @@ module _ (c : tie.Joined-at-lt-VARIABLES) where
       let e = read.wide-at.ensures.0 in
       ⊎_elim
       {C = ChoiceAdded a.firsts.now a.seconds.now a.x a.v c.if-at-lt-VARIABLES.firsts c.if-at-lt-VARIABLES.seconds}
-      (λ w. choice-kept a.firsts.now a.seconds.now a.x a.v k w.3.result c.if-at-lt-VARIABLES.firsts c.if-at-lt-VARIABLES.seconds e (omega (arith, w.0.taken, entry.requires.0)) (omega (arith, w.0.taken, entry.requires.1)) w.3.ensures w.4 w.5)
-      (λ w. choice-outside a.firsts.now a.seconds.now a.x a.v c.if-at-lt-VARIABLES.firsts c.if-at-lt-VARIABLES.seconds (omega (arith, w.0.left, e)) w.1 w.2)
+      (λ w. choice-kept a.firsts.now a.seconds.now a.x a.v k w.joined-both.result c.if-at-lt-VARIABLES.firsts c.if-at-lt-VARIABLES.seconds e (omega (arith, w.if-at-lt-VARIABLES.true, entry.requires.0)) (omega (arith, w.if-at-lt-VARIABLES.true, entry.requires.1)) w.joined-both.ensures w.firsts-is w.seconds-is)
+      (λ w. choice-outside a.firsts.now a.seconds.now a.x a.v c.if-at-lt-VARIABLES.firsts c.if-at-lt-VARIABLES.seconds (omega (arith, w.if-at-lt-VARIABLES.false, e)) w.firsts-is w.seconds-is)
       c.if-at-lt-VARIABLES.branch-raw
 
   next-is : read.wide-at.result + 1 ≡ entry.args.x + 1

@@ -29,13 +29,13 @@ loop-again c =
     let added = c.before.before in
     let turn = added.before.before.before.before.before in
     let l = turn.before.loop-i in
-    paired-next _ _ l.firsts-1 l.seconds-1 l.bound l.i l.invariant (within turn).0 (within turn).1 _ _ _ _ _ refl refl added.add_choice-bound.ensures.0 added.add_choice-bound.ensures.1
+    paired-next _ _ l.firsts l.seconds l.bound l.i l.invariant (within turn).0 (within turn).1 _ _ _ _ _ refl refl added.add_choice-bound.ensures.0 added.add_choice-bound.ensures.1
 
 returns : tie.Need-returns invariant-loop decreases-loop
 returns c =
     let read = c.before.before in
     let l = c.before.loop-i in
-    paired-end _ _ l.firsts-1 l.seconds-1 l.bound l.i l.invariant (omega (arith, c.loop-i-test.false, read.lesser-count.ensures))
+    paired-end _ _ l.firsts l.seconds l.bound l.i l.invariant (omega (arith, c.loop-i-test.false, read.lesser-count.ensures))
 
 pub paired_spec : {M : Type 1} → statement M
 paired_spec =

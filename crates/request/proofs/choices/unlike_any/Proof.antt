@@ -38,13 +38,13 @@ second-read c =
     omega (arith, low t, c.wide-in-loop-removed-2.ensures.0, (start t.before.before).requires.2)
 
 -- the words after the first addition
-first-added : (c : tie.After-removed-in-loop-removed-1 invariant-loop decreases-loop) → (let t = (earlier c).before in let l = t.before.before.loop-removed in let a = (start t.before.before).args in Added l.removed-1 c.before.add_unlike.new.1.1.1.1.1.0 (removed_by (network_in (lists (λ x. x.now) a.variables a.values a.starts)) (choose l.x (get_or a.firsts.now l.x 0))))
+first-added : (c : tie.After-removed-in-loop-removed-1 invariant-loop decreases-loop) → (let t = (earlier c).before in let l = t.before.before.loop-removed in let a = (start t.before.before).args in Added l.removed c.before.add_unlike.new.removed (removed_by (network_in (lists (λ x. x.now) a.variables a.values a.starts)) (choose l.x (get_or a.firsts.now l.x 0))))
 first-added c =
     let w = earlier c in
     let t = w.before in
     let l = t.before.before.loop-removed in
     let a = (start t.before.before).args in
-    subst (λ (k : ℕ). Added l.removed-1 c.before.add_unlike.new.1.1.1.1.1.0 (removed_by (network_in (lists (λ x. x.now) a.variables a.values a.starts)) (choose l.x (get_or a.firsts.now k 0)))) w.wide-in-loop-removed.ensures.0 c.before.add_unlike.ensures
+    subst (λ (k : ℕ). Added l.removed c.before.add_unlike.new.removed (removed_by (network_in (lists (λ x. x.now) a.variables a.values a.starts)) (choose l.x (get_or a.firsts.now k 0)))) w.wide-in-loop-removed.ensures.0 c.before.add_unlike.ensures
 
 loop-again : tie.Need-loop-removed-preserved invariant-loop decreases-loop
 loop-again c =
@@ -54,13 +54,13 @@ loop-again c =
     let l = t.before.before.loop-removed in
     let a = (start t.before.before).args in
     let N = network_in (lists (λ x. x.now) a.variables a.values a.starts) in
-    gathered_next N a.firsts.now a.seconds.now l.removed-1 l.x l.inv _ _ (low t) (first-added one)
-    (subst (λ (k : ℕ). Added one.before.add_unlike.new.1.1.1.1.1.0 c.before.add_unlike-in-loop-removed.new.1.1.1.1.1.0 (removed_by N (choose l.x (get_or a.seconds.now k 0)))) w.wide-in-loop-removed-2.ensures.0 c.before.add_unlike-in-loop-removed.ensures)
+    gathered_next N a.firsts.now a.seconds.now l.removed l.x l.invariant _ _ (low t) (first-added one)
+    (subst (λ (k : ℕ). Added one.before.add_unlike.new.removed c.before.add_unlike-in-loop-removed.new.removed (removed_by N (choose l.x (get_or a.seconds.now k 0)))) w.wide-in-loop-removed-2.ensures.0 c.before.add_unlike-in-loop-removed.ensures)
 
 returns : tie.Need-returns invariant-loop decreases-loop
 returns c =
     let l = c.before.before.loop-removed in
-    gathered-end _ _ _ l.removed-1 l.x l.invariant (omega (arith, c.loop-removed-test.false, c.before.wide.ensures.0))
+    gathered-end _ _ _ l.removed l.x l.invariant (omega (arith, c.loop-removed-test.false, c.before.wide.ensures.0))
 
 pub unlike_any_spec : {M : Type 1} → statement M
 unlike_any_spec =

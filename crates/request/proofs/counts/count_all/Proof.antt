@@ -29,11 +29,11 @@ module _ (c : tie.In-loop-counts invariant-loop decreases-loop) where
   abbrev start : tie.Start invariant-loop decreases-loop
   start = loop.before.before.before
 
-  reached : loop.loop.r < length loop.loop.counts
+  reached : loop.loop-counts.r < length loop.loop-counts.counts
   reached = omega (arith, c.loop-counts-test.true, c.before.wide.ensures.0)
 
-  relation : loop.loop.r < length (records_in start.args.starts.now)
-  relation = omega (arith, reached, loop.loop.inv.1.0, start.requires.1)
+  relation : loop.loop-counts.r < length (records_in start.args.starts.now)
+  relation = omega (arith, reached, loop.loop-counts.invariant.1.0, start.requires.1)
 
 loop-again : tie.Need-loop-counts-preserved invariant-loop decreases-loop
 loop-again c =
@@ -44,9 +44,9 @@ loop-again c =
     let P : ℕ → ℕ → Type 0 = λ k n. n ≡ live_count (outline a.starts.now) (living_in a.starts.now a.words.now) k in (
       omega (arith, reached t, length-set l.counts c.wide-in-loop-counts.result c.before.live_count.result),
       (
-        length-set l.counts c.wide-in-loop-counts.result c.before.live_count.result ∙ l.inv.1.0,
+        length-set l.counts c.wide-in-loop-counts.result c.before.live_count.result ∙ l.invariant.1.0,
         subst (λ (i : ℕ). (k : ℕ) → k < l.r + 1 → get_or (set l.counts i c.before.live_count.result) k 0 ≡ live_count (outline a.starts.now) (living_in a.starts.now a.words.now) k) (sym is)
-            (first-set P l.counts l.r c.before.live_count.result (reached t) l.inv.1.1 c.before.live_count.ensures),
+            (first-set P l.counts l.r c.before.live_count.result (reached t) l.invariant.1.1 c.before.live_count.ensures),
       ),
     )
 

@@ -25,7 +25,7 @@ returns : tie.Need-returns-then-fault-ne0
 returns c = record { starts = refl; faulty = λ d. refl; none = λ z. absurd (c.if-fault-ne0.true z) }
 
 wrong : tie.After-counts_true → Bool
-wrong c = let a = c.before.before.before.before.before.before.args in untrue (outline a.opening.starts-1) a.words.now a.counts.now
+wrong c = let a = c.before.before.before.before.before.before.args in untrue (outline a.opening.starts) a.words.now a.counts.now
 
 returns-2 : tie.Need-returns-then-counts_true
 unfolding wrong

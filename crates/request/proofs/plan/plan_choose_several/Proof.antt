@@ -42,7 +42,7 @@ returns-2 c xs vs lists S m members words numbers wrong opened =
     let a = (start (passed t).before).args in
     let N = network_of S a.variables.now a.values.now in
     let M = network (G S a.variables.now a.values.now m members words numbers wrong (choose_several xs vs) a.opening opened) in
-    planned-own S a.variables.now a.values.now m members words numbers wrong (choose_several xs vs) a.opening opened (passed t).if-fault-ne0.left t.choices_fault-fault.result
+    planned-own S a.variables.now a.values.now m members words numbers wrong (choose_several xs vs) a.opening opened (passed t).if-fault-ne0.false t.choices_fault-fault.result
     (t.choices_fault-fault.ensures ∙ choices-refusal N a.choices xs vs lists)
     c.unlike_any-removed.result
     (λ z. (full c, kept-holds M c.unlike_any-removed.result a.choices xs vs lists (choices-low N a.choices xs vs lists (sym t.choices_fault-fault.ensures ∙ z)) c.unlike_any-removed.ensures))
@@ -55,5 +55,5 @@ plan_choose_several_spec =
     (λ c κs. search rules)
     (λ c. search rules)
     (λ c. search rules)
-    (λ c κs. let e = passed c.before.before.before in ((start e.before).requires e.if-fault-ne0.left, search rules, search rules))
+    (λ c κs. let e = passed c.before.before.before in ((start e.before).requires e.if-fault-ne0.false, search rules, search rules))
     returns-2)

@@ -21,7 +21,7 @@ nothing-held : (N : Network) → Holds (replicate 64 0) (removed_by N filter)
 unfolding removes
 nothing-held N g h = none-is_live 64 g ∙ sym (and-false (ltb g (total N)))
 
-plans : (o : Opening) → Dec (o.fault ≡ 0) → PlansFrom (record { fault = o.fault; starts = o.starts-1; removed = replicate 64 0 }) o filter
+plans : (o : Opening) → Dec (o.fault ≡ 0) → PlansFrom (record { fault = o.fault; starts = o.starts; removed = replicate 64 0 }) o filter
 plans o (yes z) S variables values m members words numbers wrong opened =
     planned-own S variables values m members words numbers wrong filter o opened z o.fault z (replicate 64 0)
     (λ _. (blank-full, nothing-held (network (G S variables values m members words numbers wrong filter o opened))))

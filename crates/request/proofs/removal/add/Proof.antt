@@ -18,17 +18,17 @@ module _ (c : tie.Joined-wide_id-lt-MAX_TUPLES) where
   abbrev entry : tie.Start
   entry = read.before.before
 
-  words_are : c.if-wide_id-lt-MAX_TUPLES.words-1 ≡ added entry.args.g entry.args.words.now
+  words_are : c.if-wide_id-lt-MAX_TUPLES.words ≡ added entry.args.g entry.args.words.now
   words_are =
       let g = entry.args.g in
       let ws = entry.args.words.now in
       ⊎_elim
-      {C = c.if-wide_id-lt-MAX_TUPLES.words-1 ≡ added g ws}
-      (λ w. w.5 ∙ w.2.ensures ∙ sym (added-inside g ws (omega (arith, w.0.taken, read.wide-wide_id.ensures.0))))
-      (λ w. w.1 ∙ sym (added-outside g ws (omega (arith, w.0.left, read.wide-wide_id.ensures.0))))
+      {C = c.if-wide_id-lt-MAX_TUPLES.words ≡ added g ws}
+      (λ w. w.words-is ∙ w.set.ensures ∙ sym (added-inside g ws (omega (arith, w.if-wide_id-lt-MAX_TUPLES.true, read.wide-wide_id.ensures.0))))
+      (λ w. w.words-is ∙ sym (added-outside g ws (omega (arith, w.if-wide_id-lt-MAX_TUPLES.false, read.wide-wide_id.ensures.0))))
       c.if-wide_id-lt-MAX_TUPLES.branch-raw
 
-  still-long : length c.if-wide_id-lt-MAX_TUPLES.words-1 ≡ length entry.args.words.now
+  still-long : length c.if-wide_id-lt-MAX_TUPLES.words ≡ length entry.args.words.now
   still-long = ap length words_are ∙ added-length entry.args.g entry.args.words.now
 
   next-is : read.wide-wide_id.result + 1 ≡ entry.args.g + 1

@@ -38,7 +38,7 @@ loop-again c =
     let turn = c.before.before.before.before in
     let entry = start turn.before.before in
     let l = turn.before.loop-r in
-    unlike-next entry.requires.0 entry.args.x entry.args.v entry.args.removed.now l.removed-1 l.r l.invariant _ (exists turn) c.before.before.unlike_in.ensures
+    unlike-next entry.requires.0 entry.args.x entry.args.v entry.args.removed.now l.removed l.r l.invariant _ (exists turn) c.before.before.unlike_in.ensures
 
 returns : tie.Need-returns-then-is_any invariant-loop decreases-loop
 returns c =
@@ -50,7 +50,7 @@ returns-2 c =
     let read = c.before.before in
     let entry = start read in
     let l = c.before.loop-r in
-    unlike-end entry.requires.0 entry.args.x entry.args.v entry.args.removed.now l.removed-1 l.r l.invariant
+    unlike-end entry.requires.0 entry.args.x entry.args.v entry.args.removed.now l.removed l.r l.invariant
     (omega (arith, c.loop-r-test.false, read.relation_count-count.ensures, relation-count entry.requires.0.framed))
 
 pub add_unlike_spec : {M : Type 1} → statement M

@@ -19,10 +19,10 @@ loop-again c =
     let a = c.before in
     let turn = a.before.before.before in
     let l = turn.before.loop-i in
-    filled_next _ l.words-1 l.bound l.i l.invariant _ _ _ turn.loop-i-test.true refl a.add-bound.ensures.0 a.add-bound.ensures.1
+    filled_next _ l.words l.bound l.i l.invariant _ _ _ turn.loop-i-test.true refl a.add-bound.ensures.0 a.add-bound.ensures.1
 
 returns : tie.Need-returns invariant-loop decreases-loop
-returns c = let l = c.before.loop-i in filled-end _ l.words-1 l.bound l.i l.invariant c.loop-i-test.false
+returns c = let l = c.before.loop-i in filled-end _ l.words l.bound l.i l.invariant c.loop-i-test.false
 
 pub listed_spec : {M : Type 1} → statement M
 listed_spec =

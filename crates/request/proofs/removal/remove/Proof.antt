@@ -26,14 +26,14 @@ loop-again : tie.Need-loop-i-preserved invariant-loop decreases-loop
 loop-again c =
     let turn = c.before.before in
     let l = turn.before.loop-i in
-    (cut-next _ _ l.words-1 l.i l.invariant.0 (within turn).0, search rules)
+    (cut-next _ _ l.words l.i l.invariant.0 (within turn.before).0, search rules)
 
 returns : tie.Need-returns invariant-loop decreases-loop
 returns c =
     let read = c.before.before in
     let start = read.before.before in
     let l = c.before.loop-i in
-    cut-end _ _ l.words-1 l.i l.invariant.0 start.args.n start.requires (λ i _. (read.before.slice_known-1.given i).fits) (omega (arith, read.words_for-end.ensures))
+    cut-end _ _ l.words l.i l.invariant.0 start.args.n start.requires (λ i _. (read.before.slice_known-1.given i).fits) (omega (arith, read.words_for-end.ensures))
 
 pub remove_spec : {M : Type 1} → statement M
 remove_spec =
@@ -46,9 +46,9 @@ remove_spec =
     (λ c. omega (arith, within c))
     (λ c. omega (arith, within c.before))
     (λ c. omega (arith, within c.before))
-    (λ c. omega (arith, within c.before, c.before.before.before.before.before.requires.full.long))
-    (λ c. omega (arith, within c.before.before))
-    (λ c. omega (arith, within c.before.before))
+    (λ c. omega (arith, within c.before.before, c.before.before.before.before.before.requires.full.long))
+    (λ c. omega (arith, within c.before.before.before))
+    (λ c. omega (arith, within c.before.before.before))
     (λ c. search rules)
     (λ c. search rules)
     loop-again

@@ -107,15 +107,15 @@ module _ (c : tie.In-loop-g invariant-loop decreases-loop) where
       ∙ ap (λ (i : ℕ). not (fit (get_or start.args.values.now i 0) start.args.v)) (sym at_read)
       ∙ ap not e
 
-passed : (c : tie.Joined-not-fit invariant-loop decreases-loop) → (let turn = c.before.before.before in let a = (start turn).args in Added a.removed.now c.if-not-fit.removed-1 (passing a.variables.now a.values.now a.starts.now a.r a.x a.v (g turn + 1)))
+passed : (c : tie.Joined-not-fit invariant-loop decreases-loop) → (let turn = c.before.before.before in let a = (start turn).args in Added a.removed.now c.if-not-fit.removed (passing a.variables.now a.values.now a.starts.now a.r a.x a.v (g turn + 1)))
 passed c =
     let turn = c.before.before.before in
     let a = (start turn).args in
     let l = turn.before.loop-g in
     let p = removes (N turn) (choose a.x a.v) in
     ⊎_elim
-    (λ w. added-set p a.removed.now (tuple_start a.starts.now a.r) l.removed-1 (g turn) (low turn) l.invariant.1.1.1 (decided turn false (sym c.before.fit.ensures ∙ not-true _ w.0.taken)) c.if-not-fit.removed-1 (w.5 ∙ w.2.ensures))
-    (λ w. subst (λ (ws : List ℕ). Added a.removed.now ws (passing a.variables.now a.values.now a.starts.now a.r a.x a.v (g turn + 1))) (sym w.1) (added-kept p a.removed.now (tuple_start a.starts.now a.r) l.removed-1 (g turn) (low turn) l.invariant.1.1.1 (decided turn true (sym c.before.fit.ensures ∙ not-false _ w.0.left))))
+    (λ w. added-set p a.removed.now (tuple_start a.starts.now a.r) l.removed (g turn) (low turn) l.invariant.1.1.1 (decided turn false (sym c.before.fit.ensures ∙ not-true _ w.if-not-fit.true-raw)) c.if-not-fit.removed (w.removed-is ∙ w.set.ensures))
+    (λ w. subst (λ (ws : List ℕ). Added a.removed.now ws (passing a.variables.now a.values.now a.starts.now a.r a.x a.v (g turn + 1))) (sym w.removed-is) (added-kept p a.removed.now (tuple_start a.starts.now a.r) l.removed (g turn) (low turn) l.invariant.1.1.1 (decided turn true (sym c.before.fit.ensures ∙ not-false _ w.if-not-fit.false-raw))))
     c.if-not-fit.branch-raw
 
 returns : tie.Need-returns-then-width-column invariant-loop decreases-loop
@@ -168,7 +168,7 @@ returns-2 c =
     let e = entry c.before.before.before.before.before.before in
     let a = e.args in
     let done : l.g ≡ tuple_start a.starts.now (a.r + 1) = omega (arith, l.invariant.1.0, c.loop-g-test.false, c.before.before.before.before.tuple_start-end.ensures) in
-    subst (λ (k : ℕ). Added a.removed.now l.removed-1 (passing a.variables.now a.values.now a.starts.now a.r a.x a.v k)) done l.invariant.1.1.1
+    subst (λ (k : ℕ). Added a.removed.now l.removed (passing a.variables.now a.values.now a.starts.now a.r a.x a.v k)) done l.invariant.1.1.1
 
 pub unlike_in_spec : {M : Type 1} → statement M
 unlike_in_spec =

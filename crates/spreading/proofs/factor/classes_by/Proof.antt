@@ -36,8 +36,8 @@ classes_by_spec =
     let l = t.before.loop-j in (
       omega (arith, t.loop-j-test.true),
       ⊎_elim
-          (λ w. omega (arith, w.classes_of-n.ensures, w.4, l.invariant))
-          (λ w. omega (arith, w.1, l.invariant))
+          (λ w. omega (arith, w.classes_of-n.ensures, w.n-is, l.invariant))
+          (λ w. omega (arith, w.n-is, l.invariant))
           c.if-j-place.branch-raw,
     ))
     (λ c. search rules))

@@ -85,7 +85,7 @@ classes_in_spec =
     (λ c. let t = turn c in omega (arith, c.next-g-in-loop-g.ensures, (ahead c).from-i, c.before.later.ensures.0, t.loop-g-test.true))
     (λ c.
     let t = turn c in
-    (ap length c.before.before.before.before.set.ensures ∙ raised-length _ t.before.loop-g.seen ∙ t.before.loop-g.inv.0, (omega (arith, c.next-g-in-loop-g.ensures, (ahead c).from-i, c.before.later.ensures.0, t.before.loop-g.inv.1.0), omega (arith, c.next-g-in-loop-g.ensures, (ahead c).to_end))))
+    (ap length c.before.before.before.before.set.ensures ∙ raised-length _ t.before.loop-g.seen ∙ t.before.loop-g.invariant.0, (omega (arith, c.next-g-in-loop-g.ensures, (ahead c).from-i, c.before.later.ensures.0, t.before.loop-g.invariant.1.0), omega (arith, c.next-g-in-loop-g.ensures, (ahead c).to_end))))
     (λ c. search rules)
     (λ c κs. (omega arith, omega (arith, c.before.before.loop-g.invariant.0), omega arith))
     (λ c. search rules))

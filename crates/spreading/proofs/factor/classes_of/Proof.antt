@@ -78,8 +78,8 @@ classes_of_spec =
       (
         omega (arith, t.loop-c-test.true),
         ⊎_elim
-            (λ w. let r : w.classes_in.result ≤ 65535 = search rules in omega (arith, r, w.2, l.invariant))
-            (λ w. omega (arith, w.1, l.invariant))
+            (λ w. let r : w.classes_in.result ≤ 65535 = search rules in omega (arith, r, w.n-is, l.invariant))
+            (λ w. omega (arith, w.n-is, l.invariant))
             c.if-is_in.branch-raw,
       ),
     ))

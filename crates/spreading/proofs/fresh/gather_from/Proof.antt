@@ -100,7 +100,7 @@ loop-again c =
           λ h. subst (λ (k : ℕ). is_live a.fresh.now k ≡ true) (sym n) (f.passes (omega (arith, n, h))),
           (
             λ z h i. done.gather_near.ensures.1.keeps z h (l.invariant.1.1.1.0 z h i),
-            gathered-more (network read) a.r a.s a.fresh.now a.words.now l.sum done.gather_near.new.1.1.1.1.1.0 y c.next-g-in-loop-g.result
+            gathered-more (network read) a.r a.s a.fresh.now a.words.now l.sum done.gather_near.new.sum y c.next-g-in-loop-g.result
                 (λ k h i e. not-both e (f.none_before k (omega (arith, h, is-g)) (omega (arith, i, n))))
                 done.gather_near.ensures.1
                 (subst (Gathered (network read) a.r a.s a.fresh.now a.words.now l.sum) (sym is-g) l.invariant.1.1.1.1),

@@ -60,10 +60,10 @@ more c =
     let Reached : List ℕ → Type 0 = λ sum. Through N a.members.now a.place a.j a.fresh.now a.words.now a.sum.now sum (l.i + 1) in
     let over : ((l.i ≡ a.place → ⊥) → (l.i ≡ a.j → ⊥) → ⊥) → Reached l.sum = λ past. through-past N a.members.now a.place a.j a.fresh.now a.words.now a.sum.now l.sum l.i past l.invariant.0 in
     ⊎_elim
-    (λ w. subst Reached (sym w.sum-is) (through-more N a.members.now a.place a.j a.fresh.now a.words.now a.sum.now l.sum w.5.last.1.1.1.1.1.1.0 l.i w.5.ensures l.invariant.0))
+    (λ w. subst Reached (sym w.sum-is) (through-more N a.members.now a.place a.j a.fresh.now a.words.now a.sum.now l.sum w.gather_from.new.sum l.i w.gather_from.ensures l.invariant.0))
     (⊎_elim
-    (λ w. subst Reached (sym w.2) (over (λ p q. q w.1.left)))
-    (λ w. subst Reached (sym w.1) (over (λ p q. p w.0.left))))
+    (λ w. subst Reached (sym w.sum-is) (over (λ p q. q w.if-i-j.false)))
+    (λ w. subst Reached (sym w.sum-is) (over (λ p q. p w.if-i-place.false))))
     c.if-i-place.branch-raw
 
 pub gather_others_spec : {M : Type 1} → statement M

@@ -29,7 +29,7 @@ loop-again c =
     let a = turn.before.before.args in
     let words = a.words.now in
     joins-on whole words 0 (64 * l.i) (64 * (l.i + 1)) a.sum.now l.sum _ l.invariant
-    (joins_part whole words l.i (64 * l.i) (64 * (l.i + 1)) (get_or words l.i 0) l.sum-1 l.invariant.long turn.loop-i-test.true (omega arith) (omega arith) (λ j h _ _. sym (and-true (is_set (get_or words l.i 0) j))))
+    (joins_part whole words l.i (64 * l.i) (64 * (l.i + 1)) (get_or words l.i 0) l.sum l.invariant.long turn.loop-i-test.true (omega arith) (omega arith) (λ j h _ _. sym (and-true (is_set (get_or words l.i 0) j))))
 
 pub join_spec : {M : Type 1} → statement M
 join_spec =

@@ -31,7 +31,7 @@ module _ (s : tie.Start) where
   below = member_below s.requires.1.0.0.0.laid s.requires.1.0.0.1 s.args.j s.requires.0.1.1.0
 
 abbrev start : tie.After-gather_others → tie.Start
-start c = c.before.before.before.before.before.before.before.before.before
+start c = c.before.before.before.before.before.before.before.before
 
 module _ (c : tie.After-tuple_start-to) where
   abbrev gathering : tie.After-gather_others
@@ -64,8 +64,8 @@ returns-2 c =
     let r = narrowed s in
     let from = t.before.before.tuple_start-from.result in
     let to = t.tuple_start-to.result in
-    let after = k.keep.new.1.0 in
-    let sum = (gathering t).gather_others.new.1.1.1.1.1.1.0 in
+    let after = k.keep.new.words in
+    let sum = (gathering t).gather_others.new.sum in
     let kept = k.keep.ensures.1 in
     let inside = s.requires.0.1.1.0 in (
       k.keep.ensures.0,

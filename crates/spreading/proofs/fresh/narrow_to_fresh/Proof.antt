@@ -38,7 +38,7 @@ narrow-fresh-requires c κs =
     let s = start turn.before in
     let a = s.args in
     let k = turn.before.before in
-    let left = k.keep.new.1.0 in (
+    let left = k.keep.new.words in (
       (k.keep.ensures.0, (l.invariant.0, (turn.loop-j-test.true, t.if-j-place.true))),
       (
         s.requires.1.0,
@@ -63,8 +63,8 @@ loop-again c =
     let s = start turn.before in
     let Reached : List ℕ → Type 0 = λ words. (length words ≡ 64) × KeepsSupports (network s) s.args.members.now s.args.place 0 s.args.words.now words in
     ⊎_elim
-    (λ w. subst Reached (sym w.5) (w.3.ensures.0, more turn w.3.last.1.1.1.1.1.0 w.3.ensures.1.0))
-    (λ w. subst Reached (sym w.1) l.invariant)
+    (λ w. subst Reached (sym w.words-is) (w.narrow_fresh.ensures.0, more turn w.narrow_fresh.new.words w.narrow_fresh.ensures.1.0))
+    (λ w. subst Reached (sym w.words-is) l.invariant)
     c.if-j-place.branch-raw
 
 pub narrow_to_fresh_spec : {M : Type 1} → statement M
@@ -77,7 +77,7 @@ narrow_to_fresh_spec =
     (λ c κs. let s = c.before.before.before.before.before.before in (s.requires.0.0, (omega arith, omega (arith, s.requires.0.1))))
     (λ c. let s = c.before.before.before.before.before.before.before in (s.requires.0.0, keeps-none (network s) s.args.members.now s.args.place 0 s.args.words.now))
     narrow-fresh-requires
-    (λ c. let n = c.before in (n.narrow_fresh.ensures.0, (more n.before.before.before.before n.narrow_fresh.new.1.1.1.1.1.0 n.narrow_fresh.ensures.1.0, λ e. n.narrow_fresh.ensures.1.1 (not-true _ c.if-not-narrow_fresh.true-raw))))
+    (λ c. let n = c.before in (n.narrow_fresh.ensures.0, (more n.before.before.before.before n.narrow_fresh.new.words n.narrow_fresh.ensures.1.0, λ e. n.narrow_fresh.ensures.1.1 (not-true _ c.if-not-narrow_fresh.true-raw))))
     (λ c. search rules)
     (λ c. search rules)
     loop-again

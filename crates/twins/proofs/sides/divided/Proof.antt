@@ -40,8 +40,8 @@ loop-again c =
     let now : Sides → Type 0 = λ sides. Divided (N i) a.members.now a.place (l.j + 1) sides in
     ⊎_elim
     {C = now c.if-j-place.sides}
-    (λ w. subst now (sym w.4) (divided-next (N i) a.members.now a.place l.j l.sides l.invariant w.2.result w.2.ensures w.3.result w.3.ensures))
-    (λ w. subst now (sym w.1) (divided-past (N i) a.members.now a.place l.j l.sides l.invariant w.0.left))
+    (λ w. subst now (sym w.sides-is) (divided-next (N i) a.members.now a.place l.j l.sides l.invariant w.variables_of-mask.result w.variables_of-mask.ensures w.put_member-sides.result w.put_member-sides.ensures))
+    (λ w. subst now (sym w.sides-is) (divided-past (N i) a.members.now a.place l.j l.sides l.invariant w.if-j-place.false))
     c.if-j-place.branch-raw
 
 returns : tie.Need-returns invariant-loop decreases-loop

@@ -19,20 +19,20 @@ invariant-loop index row from to some₀ i₀ some i = some ≡ 0 → NoneIn ind
 abbrev decreases-loop : tie.decreases-loop-i
 decreases-loop index row from to some₀ i₀ some i = to - i
 
-within : (c : tie.In-loop-i invariant-loop decreases-loop) → c.before.before.args.row + c.before.loop-i.i < index_words
-within c = omega (arith, c.loop-i-test.true, c.before.before.requires)
+within : (c : tie.In-loop-i invariant-loop decreases-loop) → c.args.row + c.loop-i.i < index_words
+within c = omega (arith, c.loop-i-test.true, c.requires)
 
 loop-again : tie.Need-loop-i-preserved invariant-loop decreases-loop
 loop-again c e =
-    let l = c.before.before.loop-i in
-    let a = c.before.before.before.args in
-    let none = or-none l.some-1 _ e in
+    let l = c.loop-i in
+    let a = c.args in
+    let none = or-none l.some _ e in
     none_more a.index.now a.row (64 * a.from) l.i none.1 (l.invariant none.0)
 
 returns : tie.Need-returns invariant-loop decreases-loop
 returns c e g l h =
-    let w = c.before.loop-i in
-    w.invariant (eqb-true w.some-1 0 (not-false (eqb w.some-1 0) e)) g l (omega (arith, c.loop-i-test.false))
+    let w = c.loop-i in
+    w.invariant (eqb-true w.some 0 (not-false (eqb w.some 0) e)) g l (omega (arith, c.loop-i-test.false))
 
 pub has_some_spec : {M : Type 1} → statement M
 has_some_spec =
@@ -45,6 +45,6 @@ has_some_spec =
     (λ c. omega (arith, within c))
     (λ c. within c.before)
     (λ c. omega (arith, within c.before.before))
-    (λ c. omega (arith, c.before.loop-i-test.true))
+    (λ c. omega (arith, c.loop-i-test.true))
     loop-again
     returns)

@@ -23,29 +23,29 @@ module _ (c : tie.In-loop-i invariant-loop decreases-loop) where
   abbrev start : tie.Start invariant-loop decreases-loop
   start = c.before.before
 
-  within : start.args.row + c.before.loop-i.i < index_words
+  within : start.args.row + c.loop-i.i < index_words
   within = omega (arith, c.loop-i-test.true, start.requires.1.1.0)
 
-  within-other : start.args.other + c.before.loop-i.i < index_words
+  within-other : start.args.other + c.loop-i.i < index_words
   within-other = omega (arith, c.loop-i-test.true, start.requires.1.1.1)
 
 loop-again : tie.Need-loop-i-preserved invariant-loop decreases-loop
 loop-again c =
     let turn = c.before.before in
-    let l = turn.before.loop-i in
+    let l = turn.loop-i in
     let s = start turn.before in
     let a = s.args in
-    let inside : a.other + l.i < length l.index-1 = omega (arith, within-other turn, l.invariant.0) in (
-      length-set l.index-1 (a.other + l.i) _ ∙ l.invariant.0,
+    let inside : a.other + l.i < length l.index = omega (arith, within-other turn.before, l.invariant.0) in (
+      length-set l.index (a.other + l.i) _ ∙ l.invariant.0,
       (
-        join-grows a.index.now l.index-1 a.row a.other (64 * a.from) l.i s.requires.1.0 inside l.invariant.1.0,
-        join_more a.index.now l.index-1 a.row a.other (64 * a.from) l.i inside l.invariant.1.0 l.invariant.1.1,
+        join-grows a.index.now l.index a.row a.other (64 * a.from) l.i s.requires.1.0 inside l.invariant.1.0,
+        join_more a.index.now l.index a.row a.other (64 * a.from) l.i inside l.invariant.1.0 l.invariant.1.1,
       ),
     )
 
 returns : tie.Need-returns invariant-loop decreases-loop
 returns c =
-    let l = c.before.loop-i in
+    let l = c.loop-i in
     (l.invariant.0, (l.invariant.1.0, λ g u h e. l.invariant.1.1 g u (omega (arith, c.loop-i-test.false)) e))
 
 pub join_row_spec : {M : Type 1} → statement M
@@ -60,11 +60,11 @@ join_row_spec =
     (λ c. within-other c.before)
     (λ c. omega (arith, within c.before.before))
     (λ c. omega (arith, within c.before.before))
-    (λ c. within c.before)
-    (λ c. omega (arith, within-other c.before.before))
-    (λ c. omega (arith, within-other c.before.before))
-    (λ c. within-other c.before.before)
-    (λ c. omega (arith, within c.before.before))
-    (λ c. omega (arith, c.before.before.loop-i-test.true))
+    (λ c. within c.before.before)
+    (λ c. omega (arith, within-other c.before.before.before))
+    (λ c. omega (arith, within-other c.before.before.before))
+    (λ c. within-other c.before.before.before)
+    (λ c. omega (arith, within c.before.before.before))
+    (λ c. omega (arith, c.loop-i-test.true))
     loop-again
     returns)

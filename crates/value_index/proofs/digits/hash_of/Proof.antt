@@ -38,7 +38,7 @@ returns : tie.Need-returns-then-plan-eq0
 returns c = plain c.before.before.before c.if-plan-eq0.true
 
 returns-2 : tie.Need-returns
-returns-2 c = c.mix.ensures ∙ mixing c.before.before.before.before c.before.if-plan-eq0.false
+returns-2 c = c.mix.ensures ∙ mixing c.before.before.before.before c.if-plan-eq0.false
 
 pub hash_of_spec : {M : Type 1} → statement M
 hash_of_spec =

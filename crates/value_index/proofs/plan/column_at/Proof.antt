@@ -8,7 +8,7 @@ use Rattle.value_index.proofs.plan.column_at.Statement.{statement}
 use Rattle.value_index.proofs.plan.column_at.Tie as tie
 
 returns : tie.Need-returns-then-is_shared-eq1
-returns c = inr (refl, omega (arith, c.before.before.before.if-size-start.true))
+returns c = inr (refl, omega (arith, c.if-size-start.true))
 
 returns-2 : tie.Need-returns-else-is_shared-eq1
 returns-2 c = inl refl

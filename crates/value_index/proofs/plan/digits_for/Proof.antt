@@ -38,21 +38,21 @@ loop-holds : tie.Need-loop-count-init invariant-loop decreases-loop
 loop-holds c = (omega arith, (omega arith, (factor-small c, classes-few c)))
 
 div-each : tie.Need-nonzero_div-each invariant-loop decreases-loop
-div-each c = c.before.loop-count.invariant.0
+div-each c = c.loop-count.invariant.0
 
 -- a digit's share of the rows
 module _ (c : tie.In-loop-count invariant-loop decreases-loop) where
   abbrev start : tie.Start invariant-loop decreases-loop
   start = c.before.before
 
-  few : c.before.loop-count.count ≤ 4
+  few : c.loop-count.count ≤ 4
   few = omega (arith, c.loop-count-test.true)
 
-  some : 0 < start.args.rows / c.before.loop-count.count
-  some = quotient-some start.args.rows c.before.loop-count.count c.before.loop-count.invariant.0 (omega (arith, few, start.requires.0))
+  some : 0 < start.args.rows / c.loop-count.count
+  some = quotient-some start.args.rows c.loop-count.count c.loop-count.invariant.0 (omega (arith, few, start.requires.0))
 
-  short : start.args.rows / c.before.loop-count.count ≤ 1024
-  short = let d = div-le_self start.args.rows c.before.loop-count.count in omega (arith, d, start.requires.1)
+  short : start.args.rows / c.loop-count.count ≤ 1024
+  short = let d = div-le_self start.args.rows c.loop-count.count in omega (arith, d, start.requires.1)
 
 returns : tie.Need-returns-then-tells invariant-loop decreases-loop
 returns c =

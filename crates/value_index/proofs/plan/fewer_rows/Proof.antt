@@ -12,13 +12,13 @@ abbrev decreases-loop : tie.decreases-loop-fewer
 decreases-loop rows digits classes fewer₀ fewer = fewer
 
 tells-requires : tie.Need-tells-requires invariant-loop decreases-loop
-tells-requires c κs = let s = c.before.before in (omega (arith, c.before.loop-fewer.invariant.1, s.requires.1.0), s.requires.1.1)
+tells-requires c κs = let s = c.before.before in (omega (arith, c.loop-fewer.invariant.1, s.requires.1.0), s.requires.1.1)
 
 loop-less : tie.Need-loop-fewer-smaller invariant-loop decreases-loop
-loop-less c = omega (arith, c.before.before.loop-fewer-test.true)
+loop-less c = omega (arith, c.loop-fewer-test.true)
 
 loop-again : tie.Need-loop-fewer-preserved invariant-loop decreases-loop
-loop-again c = let t = c.before.before in (omega (arith, t.loop-fewer-test.true), omega (arith, t.before.loop-fewer.invariant.1))
+loop-again c = let t = c.before.before in (omega (arith, t.loop-fewer-test.true), omega (arith, t.loop-fewer.invariant.1))
 
 pub fewer_rows_spec : {M : Type 1} → statement M
 fewer_rows_spec =

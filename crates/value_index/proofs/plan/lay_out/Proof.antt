@@ -21,18 +21,18 @@ scopes : {L : Lists} → SoundLists L → ScopesWithin L.starts L.variables
 scopes laid = record { rises = λ r h. scope-rises laid.framed r h; inside = λ r h. scope-within laid r h }
 
 words-of-row-requires : tie.Need-words_of_row-words-requires
-words-of-row-requires c κs = let f = c.before.before.before.before.requires.1.framed in omega (arith, tuple-count f, tuples-few f)
+words-of-row-requires c κs = let f = c.requires.1.framed in omega (arith, tuple-count f, tuples-few f)
 
 most-columns-requires : tie.Need-most_columns-requires
-most-columns-requires c κs = scopes c.before.before.before.before.before.before.requires.1
+most-columns-requires c κs = scopes c.requires.1
 
 mul-size : tie.Need-overflow_mul-size
-mul-size c = let d = c.before.digits_for-digits in omega (arith, few d.result d.ensures)
+mul-size c = let d = c.digits_for-digits in omega (arith, few d.result d.ensures)
 
 mul-size-2 : tie.Need-overflow_mul-size-2
 mul-size-2 c =
-    let d = c.before.digits_for-digits in
-    let p = mul-le-mul (few d.result d.ensures) c.before.before.before.before.before.before.words_of_row-words.ensures.1 in
+    let d = c.digits_for-digits in
+    let p = mul-le-mul (few d.result d.ensures) c.words_of_row-words.ensures.1 in
     omega (arith, p)
 
 lay-relations-requires : tie.Need-lay_relations-requires
@@ -41,7 +41,7 @@ lay-relations-requires c κs =
     let w = d.before.before.before.before.before in
     let laid = w.before in
     let s = laid.before.before.before.before in
-    (numbered-full laid.lay_scopes.new.1.1.0 laid.lay_scopes.ensures w.words_of_row-words.result d.digits_for-digits.result, scopes s.requires.1)
+    (numbered-full laid.lay_scopes.new.index laid.lay_scopes.ensures w.words_of_row-words.result d.digits_for-digits.result, scopes s.requires.1)
 
 returns : tie.Need-returns
 returns c =
@@ -50,7 +50,7 @@ returns c =
     let laid = w.before in
     let s = laid.before.before.before.before in
     let f = s.requires.1.framed in
-    laid_out laid.lay_scopes.new.1.1.0 laid.lay_scopes.ensures w.words_of_row-words.result d.digits_for-digits.result _ c.lay_relations.ensures.1 _ c.lay_relations.ensures.0 d.digits_for-digits.ensures w.words_of_row-words.ensures.1 (omega (arith, tuple-count f, w.words_of_row-words.ensures.2))
+    laid_out laid.lay_scopes.new.index laid.lay_scopes.ensures w.words_of_row-words.result d.digits_for-digits.result _ c.lay_relations.ensures.1 _ c.lay_relations.ensures.0 d.digits_for-digits.ensures w.words_of_row-words.ensures.1 (omega (arith, tuple-count f, w.words_of_row-words.ensures.2))
 
 pub lay_out_spec : {M : Type 1} → statement M
 lay_out_spec =
@@ -69,7 +69,7 @@ lay_out_spec =
     (λ c. search rules)
     (λ c. search rules)
     mul-size
-    (λ c. let d = c.before.digits_for-digits in omega (arith, few d.result d.ensures))
+    (λ c. let d = c.digits_for-digits in omega (arith, few d.result d.ensures))
     mul-size-2
     lay-relations-requires
     returns)

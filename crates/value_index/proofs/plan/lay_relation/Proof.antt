@@ -27,11 +27,11 @@ loop-holds c =
 loop-again : tie.Need-loop-c-preserved invariant-loop decreases-loop
 loop-again c =
     let found = c.before in
-    let l = c.before.before.before.loop-c in
+    let l = c.loop-c in
     let s = c.before.before.before.before.before.before in
     let a = s.args in
-    let n = c.before.column_at-begin.result in
-    let h : l.c < 8 = omega (arith, c.before.before.loop-c-test.true) in
+    let n = c.column_at-begin.result in
+    let h : l.c < 8 = omega (arith, c.loop-c-test.true) in
     let inside : a.r * 8 + l.c < length l.index = omega (arith, h, l.invariant.1.0, s.requires.1) in (
       l.invariant.0,
       (
@@ -43,7 +43,7 @@ loop-again c =
             (
               omega (arith, h),
               subst (λ (k : ℕ). LaysRelation a.size a.r (l.c + 1) a.index.now (set l.index (k + l.c) n)) (sym l.invariant.0)
-                  (relation-more a.size a.r l.c n a.index.now l.index h inside (begins-fits l.start a.size n l.invariant.1.1.0 c.before.column_at-begin.ensures) l.invariant.1.1.1.1.1),
+                  (relation-more a.size a.r l.c n a.index.now l.index h inside (begins-fits l.start a.size n l.invariant.1.1.0 c.column_at-begin.ensures) l.invariant.1.1.1.1.1),
             ),
           ),
         ),
@@ -52,8 +52,8 @@ loop-again c =
 
 returns : tie.Need-returns invariant-loop decreases-loop
 returns c =
-    let l = c.before.loop-c in
-    let a = c.before.before.before.before.args in
+    let l = c.loop-c in
+    let a = c.args in
     let e : l.c ≡ 8 = omega (arith, c.loop-c-test.false, l.invariant.1.1.1.1.0) in
     (l.invariant.1.0, subst (λ (k : ℕ). LaysRelation a.size a.r k a.index.now l.index) e l.invariant.1.1.1.1.1)
 

@@ -19,15 +19,15 @@ abbrev decreases-loop : tie.decreases-loop-scope
 decreases-loop variables starts shared size index₀ r₀ index r = 64 - r
 
 -- the relation reached is one of 64
-below : (c : tie.In-loop-scope invariant-loop decreases-loop) → c.before.before.loop-scope.r < 64
-below c = omega (arith, c.loop-scope-test.true, c.before.wide.ensures.0)
+below : (c : tie.In-loop-scope invariant-loop decreases-loop) → c.loop-scope.r < 64
+below c = omega (arith, c.loop-scope-test.true, c.wide.ensures.0)
 
 -- the scope lies within the list
-within : (c : tie.After-variable_start-scope_end invariant-loop decreases-loop) → (c.before.variable_start-scope.result ≤ c.variable_start-scope_end.result) × (c.variable_start-scope_end.result ≤ length c.before.before.before.before.before.before.args.variables.now)
+within : (c : tie.After-variable_start-scope_end invariant-loop decreases-loop) → (c.variable_start-scope.result ≤ c.variable_start-scope_end.result) × (c.variable_start-scope_end.result ≤ length c.args.variables.now)
 within c =
     let turn = c.before.before in
     let s = turn.before.before.before.before in
-    scope-within s.requires.1 turn.before.before.loop-scope.r c.before.variable_start-scope.result c.variable_start-scope_end.result (below turn) c.before.variable_start-scope.ensures.0 c.variable_start-scope_end.ensures.0
+    scope-within s.requires.1 turn.loop-scope.r c.variable_start-scope.result c.variable_start-scope_end.result (below turn) c.variable_start-scope.ensures.0 c.variable_start-scope_end.ensures.0
 
 loop-holds : tie.Need-loop-scope-init invariant-loop decreases-loop
 loop-holds c = let s = c.before in (omega arith, (s.requires.0, relations-none s.args.size s.args.index.now))
@@ -42,25 +42,25 @@ part-lay-relation-end : tie.Need-slice_bounds-lay_relation-end invariant-loop de
 part-lay-relation-end c = omega (arith, within c)
 
 lay-relation-requires : tie.Need-lay_relation-requires invariant-loop decreases-loop
-lay-relation-requires c κs = let turn = c.before.before.before.before in (turn.before.before.loop-scope.invariant.1.0, below turn)
+lay-relation-requires c κs = let turn = c.before.before.before.before in (turn.loop-scope.invariant.1.0, below turn)
 
 loop-again : tie.Need-loop-scope-preserved invariant-loop decreases-loop
 loop-again c =
     let turn = c.before.before.before.before.before in
-    let l = turn.before.before.loop-scope in
-    let a = turn.before.before.before.before.args in (
+    let l = turn.loop-scope in
+    let a = turn.args in (
       omega (arith, below turn),
       (
         c.lay_relation.ensures.0,
-        relations-more a.size l.r a.index.now l.index c.lay_relation.new.1.1.1.1.0 (below turn) l.invariant.1.1 c.lay_relation.ensures.1,
+        relations-more a.size l.r a.index.now l.index c.lay_relation.new.index (below turn) l.invariant.1.1 c.lay_relation.ensures.1,
       ),
     )
 
 returns : tie.Need-returns invariant-loop decreases-loop
 returns c =
-    let l = c.before.before.loop-scope in
-    let a = c.before.before.before.before.args in
-    let e : l.r ≡ 64 = omega (arith, c.loop-scope-test.false, c.before.wide.ensures.0, l.invariant.0) in
+    let l = c.loop-scope in
+    let a = c.args in
+    let e : l.r ≡ 64 = omega (arith, c.loop-scope-test.false, c.wide.ensures.0, l.invariant.0) in
     (l.invariant.1.0, subst (λ (n : ℕ). LaysRelations a.size n a.index.now l.index) e l.invariant.1.1)
 
 pub lay_relations_spec : {M : Type 1} → statement M

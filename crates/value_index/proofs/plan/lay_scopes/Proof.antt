@@ -21,15 +21,15 @@ abbrev decreases-loop : tie.decreases-loop-scope
 decreases-loop variables starts index₀ r₀ index r = 64 - r
 
 -- the relation reached is one of 64
-below : (c : tie.In-loop-scope invariant-loop decreases-loop) → c.before.before.loop-scope.r < 64
-below c = omega (arith, c.loop-scope-test.true, c.before.wide.ensures.0)
+below : (c : tie.In-loop-scope invariant-loop decreases-loop) → c.loop-scope.r < 64
+below c = omega (arith, c.loop-scope-test.true, c.wide.ensures.0)
 
 -- the scope lies within the list
-within : (c : tie.After-variable_start-scope_end invariant-loop decreases-loop) → (c.before.variable_start-scope.result ≤ c.variable_start-scope_end.result) × (c.variable_start-scope_end.result ≤ length c.before.before.before.before.before.before.args.variables.now)
+within : (c : tie.After-variable_start-scope_end invariant-loop decreases-loop) → (c.variable_start-scope.result ≤ c.variable_start-scope_end.result) × (c.variable_start-scope_end.result ≤ length c.args.variables.now)
 within c =
     let turn = c.before.before in
     let s = turn.before.before.before.before in
-    scope-within s.requires.1 turn.before.before.loop-scope.r c.before.variable_start-scope.result c.variable_start-scope_end.result (below turn) c.before.variable_start-scope.ensures.0 c.variable_start-scope_end.ensures.0
+    scope-within s.requires.1 turn.loop-scope.r c.variable_start-scope.result c.variable_start-scope_end.result (below turn) c.variable_start-scope.ensures.0 c.variable_start-scope_end.ensures.0
 
 -- src/plan.rt:251:5
 loop-holds : tie.Need-loop-scope-init invariant-loop decreases-loop

@@ -16,12 +16,12 @@ abbrev decreases-loop : tie.decreases-loop-scope
 decreases-loop variables starts shared most₀ r₀ most r = 64 - r
 
 -- the scope lies within the list
-within : (c : tie.After-variable_start-scope_end invariant-loop decreases-loop) → (c.before.variable_start-scope.result ≤ c.variable_start-scope_end.result) × (c.variable_start-scope_end.result ≤ length c.before.before.before.before.before.before.args.variables.now)
+within : (c : tie.After-variable_start-scope_end invariant-loop decreases-loop) → (c.variable_start-scope.result ≤ c.variable_start-scope_end.result) × (c.variable_start-scope_end.result ≤ length c.args.variables.now)
 within c =
     let turn = c.before.before in
     let s = turn.before.before.before.before in
-    let below : turn.before.before.loop-scope.r < 64 = omega (arith, turn.loop-scope-test.true, turn.before.wide.ensures.0) in
-    scope-within s.requires turn.before.before.loop-scope.r c.before.variable_start-scope.result c.variable_start-scope_end.result below c.before.variable_start-scope.ensures.0 c.variable_start-scope_end.ensures.0
+    let below : turn.loop-scope.r < 64 = omega (arith, turn.loop-scope-test.true, turn.wide.ensures.0) in
+    scope-within s.requires turn.loop-scope.r c.variable_start-scope.result c.variable_start-scope_end.result below c.variable_start-scope.ensures.0 c.variable_start-scope_end.ensures.0
 
 sub-shared-columns : tie.Need-slice_bounds-shared_columns-count invariant-loop decreases-loop
 sub-shared-columns c = omega (arith, within c)

@@ -17,7 +17,7 @@ decreases-loop rows digits classes reached₀ i₀ reached i = digits - i
 
 mul-reached : tie.Need-overflow_mul-reached invariant-loop decreases-loop
 mul-reached c =
-    let p = mul-le-mul c.before.loop-i.invariant.1 c.before.before.requires.0 in
+    let p = mul-le-mul c.loop-i.invariant.1 c.requires.0 in
     omega (arith, p)
 
 pub tells_spec : {M : Type 1} → statement M

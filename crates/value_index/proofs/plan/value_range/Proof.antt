@@ -31,7 +31,7 @@ value_range_spec =
     (λ c κs. search rules)
     (λ c. search rules)
     (λ c. search rules)
-    (λ c. (omega (arith, c.before.before.before.before.before.loop-i-test.true), (omega (arith, c.before.before.before.lesser_value-least.ensures), omega (arith, c.larger_value-most.ensures))))
+    (λ c. (omega (arith, c.loop-i-test.true), (omega (arith, c.lesser_value-least.ensures), omega (arith, c.larger_value-most.ensures))))
     (λ c. search rules)
     (λ c. search rules)
     (λ c. search rules)

@@ -54,14 +54,14 @@ loop-again c =
       ⊎_elim
           {C = now c.if-j-m.tuples}
           (λ w.
-          let t = w.0.taken in
+          let t = w.if-j-m.true in
           let done = subst (λ (n : ℕ). Copied (replicate 4 0) 0 rest n l.tuples) (upto-below l.j a.m (omega arith)) l.invariant.1 in
           let h : l.j < length rest = omega (arith, length-drop a.at a.numbers.now, s.requires.0) in
           let d : 0 + l.j < 4 = omega (arith, i.loop-j-test.true) in
           let v = get_or a.numbers.now (a.at + l.j) 0 in
           let more = copied_more (replicate 4 0) 0 rest l.j v l.tuples d h (sym (get_or-drop a.at a.numbers.now l.j 0)) done in
-          subst now (sym w.2) (subst (λ (n : ℕ). Copied (replicate 4 0) 0 rest n (set l.tuples l.j v)) (sym (upto-below (l.j + 1) a.m (omega arith))) (rw (zero-add l.j) at more)))
-          (λ w. subst now (sym w.1) (subst (λ (n : ℕ). Copied (replicate 4 0) 0 rest n l.tuples) (upto-past l.j a.m (omega (arith, w.0.left)) ∙ sym (upto-past (l.j + 1) a.m (omega (arith, w.0.left)))) l.invariant.1))
+          subst now (sym w.tuples-is) (subst (λ (n : ℕ). Copied (replicate 4 0) 0 rest n (set l.tuples l.j v)) (sym (upto-below (l.j + 1) a.m (omega arith))) (rw (zero-add l.j) at more)))
+          (λ w. subst now (sym w.tuples-is) (subst (λ (n : ℕ). Copied (replicate 4 0) 0 rest n l.tuples) (upto-past l.j a.m (omega (arith, w.if-j-m.false)) ∙ sym (upto-past (l.j + 1) a.m (omega (arith, w.if-j-m.false)))) l.invariant.1))
           c.if-j-m.branch-raw,
     )
 

@@ -23,16 +23,16 @@ loop-again : tie.Need-loop-j-preserved invariant-loop decreases-loop
 loop-again c =
     let a = c.before.before.args in
     let l = c.before.loop-j in
-    let four : length a.t4 ≡ 4 = search rules in
+    let four : length a.tuples ≡ 4 = search rules in
     let d : a.at + l.j < length a.numbers.now = omega arith in
-    (search rules, copied_more a.numbers.now a.at a.t4 l.j _ l.numbers d (omega arith) refl l.invariant.1)
+    (search rules, copied_more a.numbers.now a.at a.tuples l.j _ l.numbers d (omega arith) refl l.invariant.1)
 
 returns : tie.Need-returns invariant-loop decreases-loop
 returns c =
     let a = c.before.before.args in
     let l = c.before.loop-j in
     let e : l.j ≡ a.m = omega arith in
-    l.invariant.1.1 ∙ ap (paste a.numbers.now a.at a.t4) e
+    l.invariant.1.1 ∙ ap (paste a.numbers.now a.at a.tuples) e
 
 pub store_spec : {M : Type 1} → statement M
 store_spec =

@@ -52,13 +52,13 @@ turned c =
     ⊎_elim
     {C = Turned c}
     (λ w. subst (λ (vs : List ℕ). Words vs × WaitToo ws (λ (h : ℕ). other c && eqb l.q h) vs)
-    (sym (ap (λ (x : Queue). x.words) w.2 ∙ w.1.ensures)) (
+    (sym (ap (λ (x : Queue). x.words) w.queue-is ∙ w.put-queue.ensures)) (
       put-words ws l.invariant.2 l.q,
-      wait-if (eqb l.q) (other c) ws _ (ap not (ne_eqb (get_or a.members.now l.q 0) a.r w.0.taken)) (put-waits ws l.invariant.2 l.q),
+      wait-if (eqb l.q) (other c) ws _ (ap not (ne_eqb (get_or a.members.now l.q 0) a.r w.if-members-q.true)) (put-waits ws l.invariant.2 l.q),
     ))
     (λ w. subst (λ (vs : List ℕ). Words vs × WaitToo ws (λ (h : ℕ). other c && eqb l.q h) vs)
-    (sym (ap (λ (x : Queue). x.words) w.1))
-    (l.invariant.2, wait-not (eqb l.q) (other c) ws (ap not (eq-eqb (get_or a.members.now l.q 0) a.r w.0.left))))
+    (sym (ap (λ (x : Queue). x.words) w.queue-is))
+    (l.invariant.2, wait-not (eqb l.q) (other c) ws (ap not (eq-eqb (get_or a.members.now l.q 0) a.r w.if-members-q.false))))
     c.if-members-q.branch-raw
 
 loop-again : tie.Need-loop-q-preserved invariant-loop decreases-loop

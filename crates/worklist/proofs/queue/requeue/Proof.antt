@@ -102,15 +102,15 @@ turned c =
     (λ w.
     let at : tie.After-put_others-queue invariant-loop decreases-loop =
     record {
-      before = record { before = record { before = record { before = turn; if1 = w.0 }; holds = w.1 }; if2 = w.2 };
-      «put-others» = w.3;
+      before = record { before = record { before = record { before = turn; if-base-own = w.if-base-own }; holds = w.holds }; if-holds = w.if-holds };
+      put_others-queue = w.put_others-queue;
     }
     in
-    subst (Turned turn) (sym (ap words w.4)) (added at))
+    subst (Turned turn) (sym (ap words w.queue-is)) (added at))
     (λ w. ⊎_elim
     {C = Turned turn c.if-base-own.queue.words}
-    (λ u. same turn _ (ap words u.3) (met turn u.0.taken u.1.result u.1.ensures ∙ u.2.left))
-    (λ u. same turn _ (ap words u.1) (visits-own (m turn) (members turn) (p turn) (whole turn) (base turn) u.0.left))
+    (λ u. same turn _ (ap words u.queue-is) (met turn u.if-base-own.true u.holds.result u.holds.ensures ∙ u.if-holds.false))
+    (λ u. same turn _ (ap words u.queue-is) (visits-own (m turn) (members turn) (p turn) (whole turn) (base turn) u.if-base-own.false))
     w)
     c.if-base-own.branch-raw
 

@@ -30,10 +30,10 @@ loop-again c =
     let e = c.before.set.ensures in (
       λ q h.
           ap (λ (ws : List ℕ). is_live ws q) e
-          ∙ put-waits l.words-1 l.invariant.1 l.next q h
+          ∙ put-waits l.words l.invariant.1 l.next q h
           ∙ ap (λ (b : Bool). b || eqb l.next q) (l.invariant.0 q h)
           ∙ ltb-more l.next q,
-      subst Words (sym e) (put-words l.words-1 l.invariant.1 l.next),
+      subst Words (sym e) (put-words l.words l.invariant.1 l.next),
       search rules,
     )
 

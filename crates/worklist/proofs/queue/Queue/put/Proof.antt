@@ -12,5 +12,5 @@ put_spec =
     tie.close
     (tie.spec
     (λ c. search rules)
-    (λ c κs. let l : length c.before.before.args.self.words-1 ≡ 16 = search rules in omega arith)
+    (λ c κs. let l : length c.before.before.args.self.words ≡ 16 = search rules in omega arith)
     (λ c. search rules))

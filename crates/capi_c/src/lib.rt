@@ -1,0 +1,181 @@
+// The functions for C, in a static library: each is the function of capi that has its name, and promises what that does.
+// include/wakhvosi.h says what each byte means.
+#![tactic(auto)]
+
+ghost use Rattle.std.specs.Prelude.{List, ℕ};
+ghost use Rattle.model.specs.Request.{filter, withdraw, choose, choose_several};
+ghost use Rattle.model.specs.Moves.{widen, narrow};
+ghost use Rattle.layout.specs.Loan.{entry};
+ghost use Rattle.encoding.specs.Packed.{outcome};
+ghost use Rattle.encoding.specs.Call.{byte_book, byte_request, KeepsBytes, TestedBytes, ComparedBytes, listing, EnumeratesBytes};
+ghost use Rattle.byte_moves.specs.Moves.{KeepsMoveBytes};
+
+use model::Value;
+
+// Filters what lives.
+#[unsafe(no_mangle)]
+pub extern "C" fn wakhvosi_filter(
+    sheets: &mut [u8],
+    questions: &[u8],
+    codes: &[u8],
+    m: u16,
+    combinations: &[u8],
+    marks: &mut [u8],
+    supports: &mut [u8],
+) -> u64
+    ensures { KeepsBytes (byte_request (byte_book (λ (l : List ℕ). l) sheets.old questions.now codes.now m combinations.now) marks.old supports.old filter) (outcome result sheets.new marks.new supports.new) }
+{
+    capi::wakhvosi_filter(sheets, questions, codes, m, combinations, marks, supports)
+}
+
+// Withdraws the tuples whose ids are listed, live or dead, and filters what then lives.
+#[unsafe(no_mangle)]
+pub extern "C" fn wakhvosi_withdraw(
+    sheets: &mut [u8],
+    questions: &[u8],
+    codes: &[u8],
+    m: u16,
+    combinations: &[u8],
+    marks: &mut [u8],
+    supports: &mut [u8],
+    ids: &[u8],
+) -> u64
+    ensures { KeepsBytes (byte_request (byte_book (λ (l : List ℕ). l) sheets.old questions.now codes.now m combinations.now) marks.old supports.old (withdraw ids.now)) (outcome result sheets.new marks.new supports.new) }
+{
+    capi::wakhvosi_withdraw(
+        sheets,
+        questions,
+        codes,
+        m,
+        combinations,
+        marks,
+        supports,
+        ids,
+    )
+}
+
+// Withdraws every tuple that has another value than `code` under variable `question`, and filters what then lives.
+#[unsafe(no_mangle)]
+pub extern "C" fn wakhvosi_choose(
+    sheets: &mut [u8],
+    questions: &[u8],
+    codes: &[u8],
+    m: u16,
+    combinations: &[u8],
+    marks: &mut [u8],
+    supports: &mut [u8],
+    question: u16,
+    code: Value,
+) -> u64
+    ensures { KeepsBytes (byte_request (byte_book (λ (l : List ℕ). l) sheets.old questions.now codes.now m combinations.now) marks.old supports.old (choose question code)) (outcome result sheets.new marks.new supports.new) }
+{
+    capi::wakhvosi_choose(
+        sheets,
+        questions,
+        codes,
+        m,
+        combinations,
+        marks,
+        supports,
+        question,
+        code,
+    )
+}
+
+// Withdraws every tuple that has, under a variable of `chosen_questions`, another value than `chosen_codes` has in the same place, and
+// filters what then lives.
+#[unsafe(no_mangle)]
+pub extern "C" fn wakhvosi_choose_several(
+    sheets: &mut [u8],
+    questions: &[u8],
+    codes: &[u8],
+    m: u16,
+    combinations: &[u8],
+    marks: &mut [u8],
+    supports: &mut [u8],
+    chosen_questions: &[u8],
+    chosen_codes: &[u8],
+) -> u64
+    ensures { KeepsBytes (byte_request (byte_book (λ (l : List ℕ). l) sheets.old questions.now codes.now m combinations.now) marks.old supports.old (choose_several chosen_questions.now chosen_codes.now)) (outcome result sheets.new marks.new supports.new) }
+{
+    capi::wakhvosi_choose_several(
+        sheets,
+        questions,
+        codes,
+        m,
+        combinations,
+        marks,
+        supports,
+        chosen_questions,
+        chosen_codes,
+    )
+}
+
+// Whether the live tuples are consistent.
+#[unsafe(no_mangle)]
+pub extern "C" fn wakhvosi_test(
+    sheets: &[u8],
+    questions: &[u8],
+    codes: &[u8],
+    m: u16,
+    combinations: &[u8],
+    marks: &[u8],
+) -> u64
+    ensures { TestedBytes (byte_book entry sheets questions codes m combinations) marks.now result }
+{
+    capi::wakhvosi_test(sheets, questions, codes, m, combinations, marks)
+}
+
+// Whether the tuples with ids a and b agree.
+#[unsafe(no_mangle)]
+pub extern "C" fn wakhvosi_compare(
+    sheets: &[u8],
+    questions: &[u8],
+    codes: &[u8],
+    a: u16,
+    b: u16,
+) -> u64
+    ensures { ComparedBytes sheets.now questions.now codes.now a b result }
+{
+    capi::wakhvosi_compare(sheets, questions, codes, a, b)
+}
+
+// Lists every connected combination of m members, in order, in front of the bytes lent.
+#[unsafe(no_mangle)]
+pub extern "C" fn wakhvosi_combinations(
+    sheets: &[u8],
+    questions: &[u8],
+    codes: &[u8],
+    m: u16,
+    combinations: &mut [u8],
+) -> u64
+    ensures { EnumeratesBytes (byte_book (λ (l : List ℕ). l) sheets.now questions.now codes.now m combinations.old) (listing result combinations.new) }
+{
+    capi::wakhvosi_combinations(sheets, questions, codes, m, combinations)
+}
+
+// Moves values of two bytes to values of four, to the front of the target.
+#[unsafe(no_mangle)]
+pub extern "C" fn wakhvosi_widen(
+    sheets: &[u8],
+    questions: &[u8],
+    codes: &[u8],
+    target: &mut [u8],
+) -> u64
+    ensures { KeepsMoveBytes widen sheets.now questions.now codes.now target.old result target.new }
+{
+    capi::wakhvosi_widen(sheets, questions, codes, target)
+}
+
+// Moves values of four bytes back to values of two.
+#[unsafe(no_mangle)]
+pub extern "C" fn wakhvosi_narrow(
+    sheets: &[u8],
+    questions: &[u8],
+    codes: &[u8],
+    target: &mut [u8],
+) -> u64
+    ensures { KeepsMoveBytes narrow sheets.now questions.now codes.now target.old result target.new }
+{
+    capi::wakhvosi_narrow(sheets, questions, codes, target)
+}
