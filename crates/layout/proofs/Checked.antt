@@ -3,7 +3,7 @@
 use mathlib.Core.Path.{◌≡◌, sym, ap, subst, ◌∙◌}
 use mathlib.Core.Option.{none}
 use mathlib.Core.List.{List}
-use Prim.Native.Nat.{ℕ, ◌-◌}
+use Prim.Native.Nat.{ℕ}
 use Rattle.model.specs.Limits.{max_relations}
 use Rattle.model.specs.Network.{Network, total}
 use Rattle.model.specs.Combination.{Combination}
@@ -14,7 +14,6 @@ use Rattle.layout.specs.Shape.{relations_of, network_of, instance_of}
 use Rattle.layout.specs.Starts.{tuple_start, starts_of, outline}
 use Rattle.layout.specs.Setting.{Lists, network_in, SoundLists, SoundPairs, Sound}
 use Rattle.layout.proofs.SoundStarts.{tuple-count}
-use Rattle.layout.proofs.Places.{sound}
 use Rattle.layout.proofs.Outline.{needed-outline}
 use Rattle.layout.proofs.Bridge.{network-is, laid_of, paired-of}
 

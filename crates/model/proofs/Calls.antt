@@ -26,7 +26,7 @@ use Rattle.model.proofs.Bools.{not-both, or-false-left, or-false-right}
 use Rattle.model.proofs.Lists.{here}
 use Rattle.model.proofs.TupleSet.{without-without, without-length}
 use Rattle.model.proofs.Consistency.{filtered-length, filtered-without}
-use Rattle.model.proofs.LiveWords.{living-written, living-length, written-length}
+use Rattle.model.proofs.LiveWords.{living-written, living-length}
 use Rattle.model.proofs.Fault.{accepts-words, accepts-true}
 use Rattle.model.proofs.Reply.{reply-accepted, reply-refused, refused-not, leaving-sum, leaving-left, leaving-written}
 

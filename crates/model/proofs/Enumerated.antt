@@ -1,11 +1,11 @@
 -- Laws of the listing of connected combinations: it holds each of them and nothing else, in order; and a filter takes what it lists.
 -- From the definitions, for any number of members.
-use mathlib.Core.Path.{◌≡◌, refl, sym, ◌∙◌, ap, ap₂, subst}
-use mathlib.Core.Bool.{Bool, true, false, not, ◌&&◌}
+use mathlib.Core.Path.{◌≡◌, refl, sym, ◌∙◌, ap, subst}
+use mathlib.Core.Bool.{Bool, true, false, not}
 use mathlib.Core.Option.{Option, none, some, some-injective, some-ne-none}
 use mathlib.Core.List.Memᴰ
 use mathlib.Core.List.{List, [], ◌∷◌, ◌++◌, map, Memᴰ}
-use mathlib.Core.Logic.{◌⊎◌, inl, inr, ⊎_elim}
+use mathlib.Core.Logic.{⊎_elim}
 use Prim.Native.Nat.{ℕ, zero, suc, ◌+◌, ◌*◌, ◌/◌, ◌%◌, ◌≤◌, ◌<◌}
 use native.Mathlib.Decide.{dec_lt}
 use native.Mathlib.Nat.{zero-mul, suc-mul, mul-div_cancel, mul-mod_left}
@@ -24,7 +24,7 @@ use Rattle.model.specs.Enumeration.{chosen, rising, connected_combinations, IsCo
 use Rattle.model.specs.declared.Enumeration.TheVariants.{Refused}
 use Rattle.model.specs.Promises.{EnumerationAnswered}
 use Rattle.model.proofs.Bools.{and_left, and_right, and_intro}
-use Rattle.model.proofs.Lists.{here, all-at, all-intro, all_append, all_get_d, pairwise_append, select-mem, mem-select, from-mem, from-rises, earlier-less, prefix-earlier, pieces, pieces-cons}
+use Rattle.model.proofs.Lists.{here, all-at, all-intro, all_append, all_get_d, pairwise_append, select-mem, mem-select, from-rises, earlier-less, prefix-earlier, pieces, pieces-cons}
 use Rattle.model.proofs.Fault.{no-fault-at, fault-next, first_fault-front, first_fault-back, first_fault-append-none, first_fault-number, none-first_fault, faultless}
 use Rattle.model.proofs.Combination.{combinations-pieces}
 use Rattle.model.proofs.Edges.{below-append, below-past}

@@ -96,7 +96,7 @@ first_fault-number p (f ∷ fs) k h e = either f.1 (first_fault fs) (and_left (p
   where
     either : (x : Bool) (o : Option ℕ) {j : ℕ} → p j ≡ true → (o ≡ some k → p k ≡ true) → cond x (some j) o ≡ some k → p k ≡ true
     either true o {j} here later e = subst (λ (i : ℕ). p i ≡ true) (ap refusal e) here
-    either false o here later e = later e
+    either false o _ later e = later e
 
 -- ---- The first fault from its refusal number
 

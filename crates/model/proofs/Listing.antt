@@ -1,7 +1,7 @@
 -- How long a listing is at most: each tuple's line has its relation and its index before the values, and these take what they take in
 -- the text that was read.
 -- From the laws of lines, and of ids by relation.
-use mathlib.Core.Path.{◌≡◌, sym, ◌∙◌, ap, ap₂}
+use mathlib.Core.Path.{◌≡◌, sym, ◌∙◌, ap}
 use mathlib.Core.Bool.{Bool, true, false}
 use mathlib.Core.List.{List, [], ◌∷◌, ◌++◌, map, map-append, append-nil}
 use Prim.Native.Nat.{ℕ, zero, suc, ◌+◌, ◌*◌, ◌≤◌}
@@ -14,11 +14,11 @@ use Rattle.model.specs.Lists.{from, each, select, keep_if}
 use Rattle.model.specs.Network.{Network, width, size, total, tuples_in, first_id, ids_of, relation_of, index_of, scope_of, tuple_of}
 use Rattle.model.specs.LiveWords.{is_live}
 use Rattle.model.specs.Request.{Instance, combinations_of}
-use Rattle.model.specs.Text.{max_text, decimal, line_text, text_of, relation_lines, network_lines, instance_text, writable}
+use Rattle.model.specs.Text.{max_text, line_text, text_of, relation_lines, network_lines, instance_text, writable}
 use Rattle.model.specs.Listing.{tuple_line, tuple_lines}
 use Rattle.model.proofs.Lists.{from-append, each_append, length_from}
 use Rattle.model.proofs.Network.{before-suc, before-past}
-use Rattle.model.proofs.Text.{decimal-length, text_of-cons, text_of-append}
+use Rattle.model.proofs.Text.{decimal-length, text_of-append}
 use Rattle.model.proofs.Reading.{instance-text, writable-in}
 
 -- two numbers of ten digits, and the byte behind each

@@ -1,9 +1,9 @@
 -- Laws of the live counts: one for each relation, together the size of the set, and when the counts lent are true.
 -- From the definitions, and the laws of ids and of counts of a stretch.
 use mathlib.Core.Path.{◌≡◌, refl, sym, ◌∙◌, ap, ap₂}
-use mathlib.Core.Bool.{Bool, true, false, not, ◌&&◌, false≢true}
+use mathlib.Core.Bool.{Bool, true, false, not, false≢true}
 use mathlib.Core.List.{List, [], ◌∷◌, map, Memᴰ}
-use Prim.Native.Nat.{ℕ, zero, suc, ◌+◌, ◌-◌, ◌*◌, ◌≤◌, ◌<◌}
+use Prim.Native.Nat.{ℕ, zero, suc, ◌+◌, ◌*◌, ◌≤◌, ◌<◌}
 use native.Mathlib.Nat.{zero-add}
 use native.Mathlib.Omega.{arith}
 use lib.Dec.{eqb}
@@ -13,7 +13,7 @@ use borrow.Author.Tests.{eq-eqb, eqb-true, not-false}
 use Rattle.model.specs.Limits.{word_bits}
 use Rattle.model.specs.Lists.{from, sum, equal}
 use Rattle.model.specs.TupleSet.{TupleSet, has, count}
-use Rattle.model.specs.Network.{Network, tuples_in, before, size, total, first_id, ids_of}
+use Rattle.model.specs.Network.{Network, tuples_in, size, total, first_id, ids_of}
 use Rattle.model.specs.LiveCounts.{live_count, live_counts}
 use Rattle.model.specs.LiveWords.{is_live, living_from, living, written}
 use Rattle.model.specs.Fault.{untrue}

@@ -1,6 +1,6 @@
 -- Moves: what a move answers, that a move and the move back leave the same network, and that the moved network means the same.
 -- From the definitions, the order of the faults, and the law that replies depend on agreement and removal alone.
-use mathlib.Core.Path.{◌≡◌, refl, sym, ◌∙◌, ap, ap₂, subst}
+use mathlib.Core.Path.{◌≡◌, refl, sym, ◌∙◌, ap, ap₂}
 use mathlib.Core.Bool.{Bool, true, false, not, ◌&&◌, ◌||◌, false≢true}
 use mathlib.Core.Option.{Option, none, some}
 use mathlib.Core.List.{List, [], ◌∷◌, ◌++◌, map}
@@ -11,12 +11,11 @@ use lib.ListN.{length, take, drop, length-map, length-append, length-drop}
 use lib.Seq.{take_at}
 use borrow.Author.Tests.{eq-eqb, ne_eqb, eqb-true, eqb-false, le-leb, leb-true, lt-ltb, lt-leb, ltb-true, ltb-false, le-ltb}
 use Rattle.model.specs.Limits.{any_value}
-use Rattle.model.specs.Lists.{all, any, elem, select, keep_if, is_none, least}
+use Rattle.model.specs.Lists.{all, any, select, keep_if, is_none, least}
 use Rattle.model.specs.Network.{Network, width, values_in, before, scope_of, relation_of, index_of, values_at, tuple_of}
 use Rattle.model.specs.Agreement.{Cell, is_any, fit, cells, clash, clashes, cells_of, first_clash, agree}
 use Rattle.model.specs.Request.{Change, filter, withdraw, choose, choose_several, unlike, removes}
 use Rattle.model.specs.Fault.{Fault, all_variables, network_faults, change_faults, first_fault}
-use Rattle.model.specs.Promises.{NoFault, FirstFault}
 use Rattle.model.specs.Moves.{old_any, widened, narrowed, too_wide, Move, widen, narrow, moved, too_wide_faults, move_faults, MoveReply, move_to, move_reply, MoveAnswered, with_values, moved_network, values_to, Returns, fit_by, clash_by, first_clash_by, agree_by, unlike_by, removes_by, widened_change, value_to, widened_network, SameMeaning}
 use Rattle.model.proofs.Bools.{and_left, and_right, and_intro, or-false-left, or-false-right, not-both}
 use Rattle.model.proofs.Fault.{no-fault-at, none-first_fault, first_fault-some, first_fault-append-none, first_fault-front, first_fault-back, no-fault-here}

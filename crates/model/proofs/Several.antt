@@ -6,7 +6,7 @@ use mathlib.Core.Option.{Option, none, some, some-injective}
 use mathlib.Core.Logic.{⊎_elim}
 use mathlib.Core.List.Memᴰ
 use mathlib.Core.List.{List, [], ◌∷◌, ◌++◌, Memᴰ}
-use Prim.Native.Nat.{ℕ, ◌+◌, ◌-◌, ◌≤◌}
+use Prim.Native.Nat.{ℕ, ◌-◌}
 use native.Mathlib.Omega.{arith}
 use borrow.Author.Tests.{eq-eqb, not-false}
 use lib.Dec.{ltb, eqb}
@@ -14,13 +14,12 @@ use lib.ListN.{length, drop, length-append, length-drop}
 use lib.Seq.{drop_at}
 use Rattle.model.specs.Limits.{variable_count}
 use Rattle.model.specs.Lists.{all, any, empty, Permutation}
-use Rattle.model.specs.TupleSet.{TupleSet, has, count, restrict, without}
+use Rattle.model.specs.TupleSet.{TupleSet, count, restrict, without}
 use Rattle.model.specs.Network.{Network, total}
 use Rattle.model.specs.Agreement.{Cell, is_any, fit, cells, cells_of}
 use Rattle.model.specs.Combination.{Combination}
-use Rattle.model.specs.LiveCounts.{live_counts}
 use Rattle.model.specs.Consistency.{filtered, support_list, needed}
-use Rattle.model.specs.LiveWords.{living, written}
+use Rattle.model.specs.LiveWords.{living}
 use Rattle.model.specs.Request.{Change, filter, choose, choose_several, Instance, combinations_of, Request, unlike, removes}
 use Rattle.model.specs.Fault.{first_fault, all_variables, change_faults, list_faults, faults_on, faults, untrue, accepts}
 use Rattle.model.specs.Reply.{Reply, remainder, counts_for, leaving, accepted, reply_to, reply, request, Keeps}
@@ -34,7 +33,7 @@ use Rattle.model.proofs.LiveCounts.{untrue-written}
 use Rattle.model.proofs.Consistency.{support_list-length}
 use Rattle.model.proofs.Fault.{no-fault-at, accepts-own, accepts-choice, accepts-true, accepts-supports}
 use Rattle.model.proofs.Reply.{reply-accepted}
-use Rattle.model.proofs.Calls.{rest, rest-length, shared, leaves, After, after_first, after_next, accepts-accepted}
+use Rattle.model.proofs.Calls.{rest, rest-length, shared, After, after_first, after_next, accepts-accepted}
 
 -- ---- One by one
 
