@@ -29,7 +29,7 @@ value_in N r x column = get_or (values_at N r x) column 0
 
 -- its bits
 abbrev pub bits_at : Network → ℕ → ℕ → ℕ → ℕ
-bits_at N r x column = bits_of (value_in N r x column)
+bits_at N r x column = bits_of (get_or (values_at N r x) column 0)
 
 -- tuple x of relation r passes: the sieve has a bit of its value in the column, or the relation has no such column
 unfoldable pub passes_sieve : Network → ℕ → Sieve → ℕ → Bool
