@@ -62,7 +62,7 @@ module _ (c : tie.After-words_for-count) where
 -- ---- The copy
 
 abbrev sized : tie.After-copied-live → tie.After-words_for-count
-sized c = c.before.before
+sized c = c.before
 
 -- the same tuples live in it
 same : (c : tie.After-copied-live) → live_in (given (entry (sized c))) c.copied-live.result ≡ live_in (given (entry (sized c))) (words (sized c))
@@ -82,7 +82,7 @@ module _ (c : tie.After-sweeps) where
 
   -- the words that they leave
   abbrev swept : List ℕ
-  swept = c.sweeps.new.1.1.1.1.1.1.0
+  swept = c.sweeps.new.words
 
   swept-array : WordArray swept
   swept-array = shrunk-array G (copying c).copied-live.result swept c.sweeps.ensures (array (copying c))
@@ -140,7 +140,7 @@ filter_spec =
     (λ c κs. let s = c.before.before.before.before.before.before in (search rules, record { sound = s.requires.0; short = omega (arith, needed-outline (given s).lists (listed (given s)), s.requires.1.short) }))
     (λ c κs. search rules)
     (λ c κs. search rules)
-    (λ c κs. few c.before)
+    (λ c κs. few c)
     (λ c κs. let k = c.before.before in let w = sized k in ((array k, (entry w).requires.0), w.before.before.prepare-begins.ensures.indexed))
     settle-requires
     put-back-requires

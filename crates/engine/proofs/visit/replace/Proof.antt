@@ -78,8 +78,8 @@ came c t e =
 
 returns : tie.Need-returns-in-Taken
 returns c =
-    let k = c.before.before in
-    let t = came k twin.Taken c.enum_told-1.given.1 in
+    let k = c.before in
+    let t = came k twin.Taken c.in-Taken.is in
     (record { kept = λ _. (refl, t.0, t.1); removed = λ q. absurd (true≢false q) }, (k.before.before.take_twin-twin.ensures.1, ((start k).requires.0.1, (start k).requires.1.1)))
 
 -- ---- It fell
@@ -101,7 +101,7 @@ id_below c = let a = start (fell c) in omega (arith, id-is c, tuple-below (sound
 
 tuple-start-requires : tie.Need-tuple_start-requires
 tuple-start-requires c κs =
-    let a = start c.before.before.before.before.before in
+    let a = start c.before.before.before.before in
     let h = member_below (sound a).laid.framed (sound a).paired a.args.p (seeker a).pair in
     subst (λ (q : ℕ). get_or a.args.members.now q 0 < 65) (sym c.before.wide.ensures.0) (omega arith)
 
@@ -110,7 +110,7 @@ returns-2 c =
     let l = c.before in
     let k = fell l in
     let a = start k in
-    let t = came k twin.Fallen l.before.before.before.before.enum_told-in-Fallen-1.given.1 in (
+    let t = came k twin.Fallen l.in-Fallen.is in (
       record {
         kept = λ q. absurd (true≢false (sym q));
         removed = λ _. (c.clear.ensures ∙ ap (λ (g : ℕ). cleared g a.args.words.now) (id-is l), t.0, t.1);
@@ -121,20 +121,20 @@ returns-2 c =
 -- ---- There is none
 
 -- nothing has changed
-same : (c : tie.In-None) → (let k = c.before.before in numbers_after k ≡ (start k).args.numbers.now)
-same c = came c.before.before twin.None c.enum_told-in-None-1.given.1
+same : (c : tie.In-None) → (let k = c.before in numbers_after k ≡ (start k).args.numbers.now)
+same c = came c.before twin.None c.in-None.is
 
 seek-requires : tie.Need-seek-requires
 seek-requires c κs =
     let e = c.before.before.before.before.before in
-    let a = start e.before.before in
+    let a = start e.before in
     ((a.requires.0.0, subst (λ (ns : List ℕ). SeekAt (G a) a.args.index.now a.args.words.now ns a.args.p a.args.x a.args.at) (sym (same e)) a.requires.1.0.seek), ((a.requires.0.1, a.requires.0.2), a.requires.1.1))
 
 returns-3 : tie.Need-returns-in-None
 returns-3 c =
     let s = c.before.before in
     let e = s.before.before.before.before.before.before in
-    let k = e.before.before in
+    let k = e.before in
     let a = start k in (
       subst (λ (ns : List ℕ). Renewed (G a) a.args.p a.args.x a.args.words.now ns (is_found s.seek.result) s.seek.new.words s.seek.new.numbers) (same e) s.seek.ensures.0,
       (k.before.before.take_twin-twin.ensures.1, s.seek.ensures.1),
@@ -149,7 +149,7 @@ replace_spec =
     (λ c. search rules)
     (λ c κs. search rules)
     (λ c. omega (arith, c.wide.ensures.1))
-    (λ c. omega (arith, c.before.wide.ensures.0, (seeker (start c.before.before.before.before.before)).pair))
+    (λ c. omega (arith, c.before.wide.ensures.0, (seeker (start c.before.before.before.before)).pair))
     tuple-start-requires
     (λ c. omega (arith, id_below c, tuples-few (sound (start (fell c))).laid.framed))
     (λ c κs. omega (arith, id_below c, (seeker (start (fell c))).working.space.enough))
