@@ -133,3 +133,7 @@ Filtered G words numbers words' numbers' =
     let L = filtered (network G) (listed G) (live_in G words) in
     (words' ≡ written (total (network G)) L words)
     × (numbers' ≡ support_list (network G) (listed G) L ++ drop (needed (network G) (listed G)) numbers)
+
+-- .. of the lists lent, before and after
+abbrev pub Filters : Setting → List ℕ → List ℕ → List ℕ → List ℕ → Type 0
+Filters G words words' numbers numbers' = Filtered G words numbers words' numbers'

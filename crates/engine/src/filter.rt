@@ -3,7 +3,7 @@ ghost use Rattle.layout.specs.Loan.{entry};
 ghost use Rattle.layout.specs.Setting.{setting, Sound};
 ghost use Rattle.value_index.specs.Index.{Full};
 ghost use Rattle.live.specs.Words.{WordArray};
-ghost use Rattle.engine.specs.Work.{Room, Prepared, SoundShort, Filtered};
+ghost use Rattle.engine.specs.Work.{Room, Prepared, SoundShort, Filters};
 
 use super::blank::blank_all;
 use super::visit::visit;
@@ -46,7 +46,7 @@ pub fn settle(
 )
     requires word_array { WordArray words.old × Prepared (setting (λ x. x.now) variables values starts members m) index.now pair_starts.now }
     requires room { Room (setting (λ x. x.now) variables values starts members m) words.old numbers.old }
-    ensures { Filtered (setting entry variables values starts members m) words.old numbers.old words.new numbers.new }
+    ensures { Filters (setting entry variables values starts members m) words.old words.new numbers.old numbers.new }
 {
     fill(numbers, wide(pair_starts[members.len()]));
     let mut waiting = Queue::full(members.len() as u16);
@@ -86,7 +86,7 @@ pub fn filter(
     numbers: &mut [u16],
 )
     requires { Sound (setting (λ x. x.now) variables values starts members m) × Room (setting (λ x. x.now) variables values starts members m) words.old numbers.old }
-    ensures { Filtered (setting entry variables values starts members m) words.old numbers.old words.new numbers.new }
+    ensures { Filters (setting entry variables values starts members m) words.old words.new numbers.old numbers.new }
 {
     let mut index = [0u64; INDEX];
     let begins = prepare(variables, values, starts, members, m, &mut index);

@@ -42,3 +42,7 @@ pub record Standing (text : List ℕ) (b : Book) (variables₀ variables values�
   pub variables-filled : Filled b.ok b.variables variables₀ variables
   pub values-filled : Filled b.ok b.values values₀ values
   pub members-filled : Filled b.ok b.members members₀ members
+
+-- .. of the lists lent, before and after
+abbrev pub Stands : List ℕ → Book → List ℕ → List ℕ → List ℕ → List ℕ → List ℕ → List ℕ → Type 0
+Stands text b variables₀ variables values₀ values members₀ members = Standing text b variables₀ variables values₀ values members₀ members

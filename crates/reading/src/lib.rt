@@ -5,7 +5,7 @@ ghost use Rattle.std.specs.Prelude.{◌≡◌, ◌≤◌};
 ghost use Rattle.std.proofs.Math.Option.{none};
 ghost use Rattle.model.specs.Limits.{max_relations, max_members, max_combinations};
 ghost use Rattle.reading.specs.Parts.{found_at, read_heading, numbers_of};
-ghost use Rattle.reading.specs.Book.{book_of, Standing};
+ghost use Rattle.reading.specs.Book.{book_of, Stands};
 
 use fields::{MAX_FIELD, line, lines, number, within};
 use layout::Shape;
@@ -105,7 +105,7 @@ pub fn read(
     values: &mut [Value; MAX_VALUES],
     members: &mut [u32; MAX_MEMBER_LIST],
 ) -> Book
-    ensures { Standing text.now result variables.old variables.new values.old values.new members.old members.new }
+    ensures { Stands text.now result variables.old variables.new values.old values.new members.old members.new }
 {
     if MAX_TEXT < text.len() {
         return nothing();
