@@ -21,7 +21,7 @@ fn combinations_decoded(
     m: u16,
     combinations: &mut [u8],
 ) -> u64
-    ensures { Lists result (network_of shape variables.now values.now) m combinations }
+    ensures { Lists result (network_of shape variables.now values.now) m combinations.old combinations.new }
 {
     let mut found = [0u16; MEMBER_LIST];
     let a = enumerate(
@@ -45,7 +45,7 @@ pub fn combinations_bytes(
     m: u16,
     combinations: &mut [u8],
 ) -> u64
-    ensures { Lists result (byte_network sheets.now questions.now codes.now) m combinations }
+    ensures { Lists result (byte_network sheets.now questions.now codes.now) m combinations.old combinations.new }
 {
     let mut variables = [0u16; 513];
     let mut values = [0u32; 32769];

@@ -5,7 +5,6 @@ use Rattle.model.specs.Request.{Change, filter, withdraw, choose, choose_several
 use Rattle.model.specs.Fault.{accepts}
 use Rattle.model.specs.Reply.{reply, test_reply, compare_reply}
 use Rattle.model.specs.Enumeration.{EnumerationReply, enumeration_reply}
-use Rattle.layout.specs.Loan.{Loan, exit}
 use Rattle.wire.specs.Entries.{entries16, entries32, entries64, bytes}
 use Rattle.encoding.specs.Records.{records, counts_in}
 use Rattle.encoding.specs.Whole.{whole, whole_cells, whole_network, whole_instance, whole_change}
@@ -21,7 +20,7 @@ pub record ByteBook : Type 0 where
   pub m : ℕ
   pub combinations : List ℕ
 
--- that of the bytes that references lend at a moment: `byte_book entry ..` in an ensures
+-- that of the bytes that are lent, as `at` reads them
 abbrev pub byte_book : {A : Type 0} → (A → List ℕ) → A → A → A → ℕ → A → ByteBook
 byte_book at sheets questions codes m combinations =
     record { sheets = at sheets; questions = at questions; codes = at codes; m = m; combinations = at combinations }
@@ -101,8 +100,8 @@ abbrev pub KeepsBytes : ByteRequest → Outcome → Type 0
 KeepsBytes q o = o ≡ byte_reply q
 
 -- the answer of a change call, and the bytes that it leaves
-abbrev pub left : ℕ → Loan → Loan → Loan → Outcome
-left answer sheets marks supports = outcome answer (exit sheets) (exit marks) (exit supports)
+abbrev pub left : ℕ → List ℕ → List ℕ → List ℕ → Outcome
+left answer sheets marks supports = outcome answer sheets marks supports
 
 -- ---- Test and compare
 

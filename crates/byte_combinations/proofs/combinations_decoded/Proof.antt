@@ -30,7 +30,7 @@ module _ (c : tie.After-enumerate-a) where
   lent = start.args.combinations.now
 
   abbrev found : List ℕ
-  found = c.enumerate-a.new.1.1.1.1.1.0
+  found = c.enumerate-a.new.list
 
   found-long : length found ≡ max_member_list
   found-long = search rules

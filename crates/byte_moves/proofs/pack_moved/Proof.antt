@@ -6,10 +6,10 @@ use Rattle.byte_moves.proofs.pack_moved.Statement.{statement}
 use Rattle.byte_moves.proofs.pack_moved.Tie as tie
 
 returns : tie.Need-returns-in-Done
-returns c = rw c.enum_told-1.given.1
+returns c = rw c.in-Done.is
 
 returns-2 : tie.Need-returns-in-Refused
-returns-2 c = rw c.before.a-1.given.1 (omega arith)
+returns-2 c = rw c.in-Refused.is (omega arith)
 
 pub pack_moved_spec : {M : Type 1} → statement M
 pack_moved_spec =

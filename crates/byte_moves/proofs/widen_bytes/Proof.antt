@@ -32,10 +32,10 @@ module _ (c : tie.After-pack_moved-n) where
   start = shaped.before.before.before.before.before
 
   abbrev values : List ℕ
-  values = take coded.load16-value_count.result coded.load16-value_count.last.1.0
+  values = take coded.load16-value_count.result coded.load16-value_count.new.d
 
   abbrev moved : List ℕ
-  moved = made.widen.last.1.1.1.0
+  moved = made.widen.new.target
 
   moved-long : length moved ≡ max_values
   moved-long = search rules
@@ -90,7 +90,7 @@ module _ (c : tie.Else-target-value_count) where
       let a = (start p).args in
       done-room widen a.sheets.now a.questions.now a.codes.now a.target.now (shaped p).shape_at-shape.result _ (values p) _ (moved p) (made p).widen.result
       (shaped p).shape_at-shape.ensures (questioned p).load16-variable_count.ensures.held (coded p).load16-value_count.ensures.held (search rules) (made p).widen.ensures
-      p.pack_moved-n.result p.pack_moved-n.ensures done.if-n-ne0.left (omega (arith, count done, c.if-target-value_count.false)) (coded p).load16-value_count.result (count done)
+      p.pack_moved-n.result p.pack_moved-n.ensures done.if-n-ne0.false (omega (arith, count done, c.if-target-value_count.false)) (coded p).load16-value_count.result (count done)
 
 returns-3 : tie.Need-returns
 returns-3 c =
@@ -101,8 +101,8 @@ returns-3 c =
     let a = (start p).args in
     done-bytes widen a.sheets.now a.questions.now a.codes.now a.target.now (shaped p).shape_at-shape.result _ (values p) _ (moved p) (made p).widen.result
     (shaped p).shape_at-shape.ensures (questioned p).load16-variable_count.ensures.held (coded p).load16-value_count.ensures.held (search rules) (made p).widen.ensures
-    p.pack_moved-n.result p.pack_moved-n.ensures e.if-n-ne0.left (omega (arith, count e, enough.if-target-value_count.false)) (coded p).load16-value_count.result (count e)
-    stored.store32.new.1.0 stored.store32.ensures
+    p.pack_moved-n.result p.pack_moved-n.ensures e.if-n-ne0.false (omega (arith, count e, enough.if-target-value_count.false)) (coded p).load16-value_count.result (count e)
+    stored.store32.new.d stored.store32.ensures
 
 pub widen_bytes_spec : {M : Type 1} → statement M
 widen_bytes_spec =

@@ -42,7 +42,7 @@ opened-at c = c.before.before
 
 returns-2 : tie.Need-returns
 returns-2 c =
-    let e = c.before.before.before.before in
+    let e = c.before.before.before.before.before in
     written (whole (opened-at e)) (told (opened-at e) true (not-false _ e.if-not-book.false)) c.listed.ensures
 
 pub combination_listing_spec : {M : Type 1} → statement M
@@ -53,8 +53,8 @@ combination_listing_spec =
     (λ c κs. search rules)
     returns
     (λ c. search rules)
-    (λ c. let o = (opened-at c.before).opened-book in sym (length-take-le _ _ o.ensures.variables-within))
+    (λ c. let o = (opened-at c.before.before).opened-book in sym (length-take-le _ _ o.ensures.variables-within))
     (λ c. search rules)
-    (λ c. let o = (opened-at c.before.before).opened-book in sym (length-take-le _ _ o.ensures.values-within))
+    (λ c. let o = (opened-at c.before.before.before).opened-book in sym (length-take-le _ _ o.ensures.values-within))
     (λ c κs. search rules)
     returns-2)

@@ -41,7 +41,7 @@ is_ok c = not-false _ c.if-not-book.false
 
 returns-2 : tie.Need-returns
 returns-2 c =
-    let e = c.before.before.before.before.before in
+    let e = c.before.before.before.before.before.before in
     written (listing (start (opened-at e)).args.text.now) (told (opened-at e) true (is_ok e)) c.filtered.ensures
 
 pub listing_spec : {M : Type 1} → statement M
@@ -52,10 +52,10 @@ listing_spec =
     (λ c κs. search rules)
     returns
     (λ c. search rules)
-    (λ c. let o = (opened-at c.before).opened-book in sym (length-take-le _ _ o.ensures.variables-within))
+    (λ c. let o = (opened-at c.before.before).opened-book in sym (length-take-le _ _ o.ensures.variables-within))
     (λ c. search rules)
-    (λ c. let o = (opened-at c.before.before).opened-book in sym (length-take-le _ _ o.ensures.values-within))
+    (λ c. let o = (opened-at c.before.before.before).opened-book in sym (length-take-le _ _ o.ensures.values-within))
     (λ c. search rules)
-    (λ c. let o = (opened-at c.before.before.before).opened-book in sym (length-take-le _ _ o.ensures.members-within))
-    (λ c κs. let e = c.before.before.before.before in opened-writable (opened-at e).opened-book.ensures (is_ok e))
+    (λ c. let o = (opened-at c.before.before.before.before).opened-book in sym (length-take-le _ _ o.ensures.members-within))
+    (λ c κs. let e = c.before.before.before.before.before in opened-writable (opened-at e).opened-book.ensures (is_ok e))
     returns-2)

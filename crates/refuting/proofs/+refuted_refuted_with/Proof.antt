@@ -99,7 +99,7 @@ module _ (t : ℕ) where
     best = e.before.fewest-best.result
 
     inside : best < length entered.args.members.now
-    inside = omega (arith, e.if-members-best.left)
+    inside = omega (arith, e.if-members-best.false)
 
     at : Left entered.args.members.now entered.args.left best
     at = record { inside = inside; in-set = e.before.fewest-best.ensures inside }
@@ -162,7 +162,7 @@ module _ (t : ℕ) where
     x = l.before.loop-g.g - (read l.before).before.before.tuple_start-first.result
 
     is-g : first_id (net (read l.before)) (r (chosen (read l.before))) + x ≡ l.before.loop-g.g
-    is-g = omega (arith, first-is (read l.before), l.before.loop-g.inv.0.0)
+    is-g = omega (arith, first-is (read l.before), l.before.loop-g.invariant.0.0)
 
     -- the tuple reached
     taken : let b = read l.before in Taken (net b) (start b).args.members.now (start b).args.place b.before.before.before.before.without-rest.result (best (chosen b)) x
@@ -172,7 +172,7 @@ module _ (t : ℕ) where
         record {
           inside = inside (chosen b);
           other = λ e. not-both (at (chosen b)).in-set (ap (is_set (start b).args.left) e ∙ (start b).requires.1.1);
-          index = omega (arith, is-g, end_is b, l.loop-g-test.taken);
+          index = omega (arith, is-g, end_is b, l.loop-g-test.true);
           gone = D.gone;
           not_own = without-out D (start b).args.place (start b).requires.1.1;
         }
@@ -235,7 +235,7 @@ module _ (t : ℕ) where
 
   -- the steps suffice
   enough : (c : refuted-with-lts.After-tuples_agree (refuted-with-callees t) (refuted-with-at t) refuted-with.Post) → 4 < (begun c).args.steps
-  enough c = omega (arith, c.before.before.before.if-members-best.false)
+  enough c = omega (arith, c.before.before.before.if-steps-le-COST.false)
 
   -- the last member left
   module _ (c : refuted-with-lts.Then-left-last-eq1 (refuted-with-callees t) (refuted-with-at t) refuted-with.Post) where
@@ -275,7 +275,7 @@ module _ (t : ℕ) where
     narrowing = several n.before.before.before
 
     abbrev fewer : List ℕ
-    fewer = n.narrow_left.last.1.1.1.1.0
+    fewer = n.narrow_left.new.words
 
   refuted-with-returns-6 : refuted-with-lts.Need-returns-then-not-narrow_left (refuted-with-callees t) (refuted-with-at t) refuted-with.Post
   refuted-with-returns-6 c =
@@ -332,7 +332,7 @@ pub +refuted_refuted_with_spec : {M : Type 1} → statement M
     (λ c. omega (arith, enough t c.before))
     (λ c.
     let s = begun t c.before in
-    (omega arith, λ d. with-clash (network t s) s.args.members.now s.args.place s.args.own s.args.words.now s.args.left s.args.i s.args.x (ready t s).0.1 (tried t s) (sym c.before.tuples_agree.ensures ∙ not-true _ c.if-over-eq0.true)))
+    (omega arith, λ d. with-clash (network t s) s.args.members.now s.args.place s.args.own s.args.words.now s.args.left s.args.i s.args.x (ready t s).0.1 (tried t s) (sym c.before.tuples_agree.ensures ∙ not-true _ c.if-not-tuples_agree.true-raw)))
     (λ c. omega (arith, trailing_le 64 (begun t c.before).args.left))
     (λ c. (omega arith, λ d. absurd (d refl)))
     (λ c. omega (arith, c.if-members-last.false, members-few t (begun t c.before.before)))

@@ -24,8 +24,8 @@ loop-again c =
     let s = l.before.before in
     let Best : ℕ → Type 0 = λ n. n < length s.args.members.now → is_set s.args.left n ≡ true in
     ⊎_elim
-    (λ w. (subst Best (sym w.1) (λ h. c.before.count_left-n.ensures (omega (arith, w.0.taken, l.loop-j.invariant.1))), omega (arith, w.2, w.0.taken, l.loop-j.invariant.1)))
-    (λ w. (subst Best (sym w.1) l.loop-j.invariant.0, omega (arith, w.2, l.loop-j.invariant.1)))
+    (λ w. (subst Best (sym w.best-is) (λ h. c.before.count_left-n.ensures (omega (arith, w.if-n-least.true, l.loop-j.invariant.1))), omega (arith, w.least-is, w.if-n-least.true, l.loop-j.invariant.1)))
+    (λ w. (subst Best (sym w.best-is) l.loop-j.invariant.0, omega (arith, w.least-is, l.loop-j.invariant.1)))
     c.if-n-least.branch-raw
 
 pub fewest_spec : {M : Type 1} → statement M

@@ -78,7 +78,7 @@ module _ (c : tie.After-rows_for-n invariant-loop decreases-loop) where
   read = c.before.before
 
   abbrev rows : List ℕ
-  rows = c.rows_for-n.new.1.1.1.1.1.1.1.0
+  rows = c.rows_for-n.new.rows
 
   abbrev found : FirstRows (RowFor (net read) (begun read).args.index.now (begun read).args.r (begun read).args.x (begun read).args.s) c.rows_for-n.result rows
   found = c.rows_for-n.ensures
@@ -135,7 +135,7 @@ loop-again c =
     let b = read w in
     let s = begun b in
     let k = c.next_in_rows-g-in-loop-g.ensures in
-    let i = l.loop-g.inv in (
+    let i = l.loop-g.invariant in (
       (omega (arith, k.from_on, i.0.0), k.to_end),
       unmet-next (asked s) s.args.s s.args.q s.args.y (rows w) s.args.words.now w.rows_for-n.result (found w) b.tuple_start-end.result
           (l.loop-g.g - b.before.tuple_start-first.result) l.loop-g.g c.next_in_rows-g-in-loop-g.result

@@ -43,7 +43,7 @@ at : (c : tie.Then-is_in invariant-loop decreases-loop) → let s = start (loope
 at c = record { inside = c.before.before.loop-j-test.true; in-set = sym c.before.is_in.ensures ∙ c.if-is_in.true }
 
 abbrev after : tie.After-narrow_member invariant-loop decreases-loop → List ℕ
-after n = n.narrow_member.new.1.1.1.1.0
+after n = n.narrow_member.new.words
 
 -- .. and narrowed
 one_more : (n : tie.After-narrow_member invariant-loop decreases-loop) → let l = looped n.before.before.before in Narrowed (network (start l)) (own (start l)) (start l).args.words.now (after n)
@@ -52,7 +52,7 @@ one_more n =
     let l = looped turn in
     let s = start l in
     let N = network s in
-    narrowed-on N (own s) s.args.words.now l.loop-j.words (after n) l.loop-j.inv.1
+    narrowed-on N (own s) s.args.words.now l.loop-j.words (after n) l.loop-j.invariant.1
     (narrowed-one N s.args.r s.args.x (get_or s.args.members.now l.loop-j.j 0) s.requires.1.0.own (s.requires.1.1.0.other l.loop-j.j (at turn)) l.loop-j.words (after n) n.narrow_member.ensures.1.0)
 
 narrow-member-requires : tie.Need-narrow_member-requires invariant-loop decreases-loop
@@ -60,7 +60,7 @@ narrow-member-requires c κs =
     let turn = c.before.before in
     let l = looped turn in
     let s = start l in
-    (l.loop-j.inv.0, (s.requires.1.0, s.requires.1.1.0.few l.loop-j.j (at turn)))
+    (l.loop-j.invariant.0, (s.requires.1.0, s.requires.1.1.0.few l.loop-j.j (at turn)))
 
 returns : tie.Need-returns-then-not-narrow_member invariant-loop decreases-loop
 returns c =
@@ -83,11 +83,11 @@ loop-again c =
     (λ w.
     let n : tie.After-narrow_member invariant-loop decreases-loop =
     record {
-      before = record { before = record { before = record { before = c.before; if1 = w.0 }; narrow-member-arg = w.1 }; shared-slice-known4 = w.2 };
-      narrow-member = w.3;
+      before = record { before = record { before = record { before = c.before; if-is_in = w.if-is_in }; narrow_member-arg-1 = w.narrow_member-arg-1 }; shared_slice_known-then-is_in-1 = w.shared_slice_known-then-is_in-1 };
+      narrow_member = w.narrow_member;
     } in
-    subst Passed (sym w.5) (n.narrow_member.ensures.0, one_more n))
-    (λ w. subst Passed (sym w.1) l.loop-j.invariant)
+    subst Passed (sym w.words-is) (n.narrow_member.ensures.0, one_more n))
+    (λ w. subst Passed (sym w.words-is) l.loop-j.invariant)
     c.if-is_in.branch-raw
 
 pub narrow_left_spec : {M : Type 1} → statement M

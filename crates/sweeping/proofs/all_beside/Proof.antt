@@ -59,7 +59,7 @@ loop-again c =
     let turn = c.before.before.before in
     let s = start turn in
     let k = p turn in
-    let after = c.put_beside.new.0 in (
+    let after = c.put_beside.new.beside in (
       beside-more s.requires.0 s.requires.1 k turn.loop-p-test.true turn.before.loop-p.invariant.0
           (subst (λ (n : ℕ). Put (members turn) (k / n * n) (k / n * n + n) (get_or (members turn) k 0) turn.before.loop-p.beside after) (each-is turn) c.put_beside.ensures),
       omega (arith, turn.loop-p-test.true),

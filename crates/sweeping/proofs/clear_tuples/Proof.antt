@@ -164,7 +164,7 @@ module _ (c : tie.After-clear_unmet-n invariant-loop decreases-loop) where
   read = c.before.before.before.before
 
   abbrev after : List ℕ
-  after = c.clear_unmet-n.new.1.1.1.1.1.0
+  after = c.clear_unmet-n.new.words
 
   tested : Tested (L (known (turn read))) (r (known (turn read))) (start (known (turn read))).args.s (start (known (turn read))).args.alive.now (start (known (turn read))).args.words.now after c.clear_unmet-n.result
   tested =
@@ -172,7 +172,7 @@ module _ (c : tie.After-clear_unmet-n invariant-loop decreases-loop) where
       let k = known t in
       let a = (start k).args in
       let l = t.before.loop-g in
-      falls-tested (L k) (prepared k) (x t) l.g c.clear_unmet-n.result a.alive.now (part read) a.words.now l.words after (index t) (id t) (part-is read) l.inv.0.0 l.inv.0.1 c.clear_unmet-n.ensures.1
+      falls-tested (L k) (prepared k) (x t) l.g c.clear_unmet-n.result a.alive.now (part read) a.words.now l.words after (index t) (id t) (part-is read) l.invariant.0.0 l.invariant.0.1 c.clear_unmet-n.ensures.1
 
 loop-holds : tie.Need-loop-g-init invariant-loop decreases-loop
 loop-holds c =
@@ -188,14 +188,14 @@ clear-unmet-requires c κs =
     let w = c.before.before.before in
     let t = turn w in
     let l = t.before.loop-g in
-    ((l.inv.1.0, testable w), (l.inv.0.0.0.long, omega (arith, few (known t), t.loop-g-test.taken)))
+    ((l.invariant.1.0, testable w), (l.invariant.0.0.0.long, omega (arith, few (known t), t.loop-g-test.true)))
 
 next-requires-2 : tie.Need-next-g-requires-in-loop-g invariant-loop decreases-loop
 next-requires-2 c κs =
     let done = c.before.before in
     let t = turn (read done) in
     let k = known t in
-    (omega (arith, t.loop-g-test.taken), omega (arith, few k, (tested done).revises.0.long), few k)
+    (omega (arith, t.loop-g-test.true), omega (arith, few k, (tested done).revises.0.long), few k)
 
 loop-again : tie.Need-loop-g-preserved invariant-loop decreases-loop
 loop-again c =
@@ -247,7 +247,7 @@ clear_tuples_spec =
     clear-unmet-requires
     (λ c. let t = turn (read c) in omega (arith, short t, walk t, (tested c).one))
     (λ c. let t = turn (read c) in omega (arith, short t))
-    (λ c. let t = turn (read c.before.before) in omega (arith, few (known t), t.loop-g-test.taken))
+    (λ c. let t = turn (read c.before.before) in omega (arith, few (known t), t.loop-g-test.true))
     next-requires-2
     (λ c. let done = c.before.before.before in omega (arith, ahead (turn (read done)) (after done), c.next-g-in-loop-g.ensures))
     loop-again

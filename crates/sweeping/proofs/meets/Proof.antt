@@ -9,11 +9,11 @@ start c = c.before.before.before
 
 returns : tie.Need-returns
 returns c =
-    let found = c.before.before in
+    let found = c.before in
     let a = (start found).args in
-    let rows = found.rows_of_lem.ensures in (
+    let rows = found.rows_of-n.ensures in (
       rows.long,
-      λ e g l h live every. c.meet.ensures e g l h live (rows-every a.index.now found.rows_of_lem.new.1.1.1.0 found.rows_of_lem.result g rows every),
+      λ e g l h live every. c.meet.ensures e g l h live (rows-every a.index.now found.rows_of-n.new.rows found.rows_of-n.result g rows every),
     )
 
 pub meets_spec : {M : Type 1} → statement M
@@ -21,5 +21,5 @@ meets_spec =
     tie.close
     (tie.spec
     (λ c κs. let p = c.before.before.requires in (p.0, (p.1.plan, (p.1.few, p.1.has))))
-    (λ c κs. let p = (start c.before).requires in (rows-within (row-of-within p.1.plan p.1.has) c.before.rows_of_lem.ensures, p.1.spans))
+    (λ c κs. let p = (start c).requires in (rows-within (row-of-within p.1.plan p.1.has) c.rows_of-n.ensures, p.1.spans))
     returns)

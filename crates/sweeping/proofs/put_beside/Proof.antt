@@ -40,8 +40,8 @@ turned c =
     let Result : List ℕ → Type 0 = Put a.members.now a.base (l.q + 1) a.r a.beside.now in
     ⊎_elim
     {C = Result c.if-s-r.beside}
-    (λ w. subst Result (sym (w.3 ∙ w.2.ensures)) (put-more l.invariant.0 l.invariant.1.0 (λ e. w.0.taken (sym e))))
-    (λ w. subst Result (sym w.1) (put_same l.invariant.0))
+    (λ w. subst Result (sym (w.beside-is ∙ w.set.ensures)) (put-more l.invariant.0 l.invariant.1.0 (λ e. w.if-s-r.true (sym e))))
+    (λ w. subst Result (sym w.beside-is) (put_same l.invariant.0))
     c.if-s-r.branch-raw
 
 loop-again : tie.Need-loop-q-preserved invariant-loop decreases-loop

@@ -98,7 +98,7 @@ module _ (c : tie.After-tuple_start-end) where
 clear-tuples-requires : tie.Need-clear_tuples-requires
 clear-tuples-requires c κs =
     let between = c.before.before.before.before.before in
-    let ids = between.before.before in
+    let ids = between.before in
     let w = known ids in
     let p = (start w).requires in
     let from = c.before.wide.ensures.0 in
@@ -150,7 +150,7 @@ revise_spec =
     (λ c κs. search rules)
     (λ c. search rules)
     (λ c κs. search rules)
-    (λ c κs. ((start (known c.before)).requires.0.long, few c.before))
+    (λ c κs. ((start (known c)).requires.0.long, few c))
     (λ c κs. search rules)
     (λ c κs. search rules)
     clear-tuples-requires

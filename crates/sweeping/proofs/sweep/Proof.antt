@@ -46,12 +46,12 @@ module _ (c : tie.After-sweep_relation-swept invariant-loop decreases-loop) wher
   turn-of = c.before.before.before
 
   -- what is removed after a turn
-  turned : (let a = (start turn-of).args in Sweeps (lists_of a.variables.now a.values.now a.starts.now) a.beside.now a.words.now c.sweep_relation-swept.new.1.1.1.1.1.0)
-  turned = sweeps-then turn-of.before.loop-r.inv.0 c.sweep_relation-swept.ensures.1
+  turned : (let a = (start turn-of).args in Sweeps (lists_of a.variables.now a.values.now a.starts.now) a.beside.now a.words.now c.sweep_relation-swept.new.words)
+  turned = sweeps-then turn-of.before.loop-r.invariant.0 c.sweep_relation-swept.ensures.1
 
   -- .. and the two numbers
   sums : (let l = turn-of.before.loop-r in let n = c.sweep_relation-swept.result in (l.tested + n.tested ≤ (l.r + 1) * 64 * max_tuples) × (l.fell + n.fell ≤ (l.r + 1) * 64 * max_tuples))
-  sums = let i = turn-of.before.loop-r.inv.1.1 in (omega (arith, i, c.sweep_relation-swept.ensures.0), omega (arith, i, c.sweep_relation-swept.ensures.0))
+  sums = let i = turn-of.before.loop-r.invariant.1.1 in (omega (arith, i, c.sweep_relation-swept.ensures.0), omega (arith, i, c.sweep_relation-swept.ensures.0))
 
 few-fell-requires-2 : tie.Need-few_fell-requires invariant-loop decreases-loop
 few-fell-requires-2 c κs =
@@ -71,7 +71,7 @@ sweep_spec =
     (λ c. omega (arith, sums c.before, few (turn-of c.before)))
     (λ c. omega (arith, sums c.before.before, few (turn-of c.before.before)))
     (λ c. omega (arith, few (turn-of c.before.before)))
-    (λ c. omega (arith, (turn-of c.before.before).loop-r-test.taken))
+    (λ c. omega (arith, (turn-of c.before.before).loop-r-test.true))
     (λ c. let swept = c.before.before in (turned swept, (omega (arith, (turn-of swept).loop-r-test.true), sums swept)))
     few-fell-requires-2
     (λ c. c.before.before.loop-r.invariant.0))

@@ -56,7 +56,7 @@ module _ (c : tie.After-wide) where
 -- the numbers copied
 module _ (c : tie.After-widened) where
   abbrev counted : tie.After-wide
-  counted = c.before.before.before
+  counted = c.before.before
 
   abbrev numbers : List ℕ
   numbers = c.widened.new.into
@@ -65,7 +65,7 @@ module _ (c : tie.After-widened) where
   numbers-room = let e : length numbers ≡ max_member_list = search rules in omega (arith, e, few counted)
 
 widened-requires : tie.Need-widened-requires
-widened-requires c κs = let w = c.before.before in omega (arith, few w, length-take-le (end w) (members w) (room w))
+widened-requires c κs = let w = c.before in omega (arith, few w, length-take-le (end w) (members w) (room w))
 
 combination-lines-requires : tie.Need-combination_lines-requires
 combination-lines-requires c κs =
@@ -96,7 +96,7 @@ print_listed_spec =
     (λ c κs. search rules)
     (λ c κs. search rules)
     (λ c. omega (arith, few c))
-    (λ c. let w = c.before in sym (length-take-le (end w) (members w) (room w)))
+    (λ c. let w = c in sym (length-take-le (end w) (members w) (room w)))
     (λ c. search rules)
     widened-requires
     (λ c. numbers-room c.before)
