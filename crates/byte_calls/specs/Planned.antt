@@ -5,7 +5,6 @@ use Rattle.model.specs.LiveWords.{is_live}
 use Rattle.model.specs.Fault.{untrue, list_faults}
 use Rattle.model.specs.Reply.{Reply, reply, request}
 use Rattle.layout.specs.declared.Shape.{Shape}
-use Rattle.layout.specs.Loan.{Loan, entry}
 use Rattle.layout.specs.Shape.{instance_of}
 use Rattle.layout.specs.Setting.{Setting, setting, instance_in}
 use Rattle.wire.specs.Entries.{entries16, entries64, bytes}
@@ -45,9 +44,10 @@ pub record Writable (G : Setting) (words numbers counts removed sheets marks sup
   pub marks-room : 8 * length words ≤ length marks
   pub supports-room : 2 * length numbers ≤ length supports
 
-abbrev pub WritesChange : ℕ → Setting → Loan → Loan → List ℕ → Loan → Loan → Loan → Type 0
-WritesChange n G words numbers removed sheets marks supports =
-    left n sheets marks supports ≡ written_over (changed (instance_in G) (is_live removed) (entry words) (entry numbers)) (entry sheets) (entry marks) (entry supports)
+-- of each list of bytes lent, what it is at entry and what is left of it
+abbrev pub WritesChange : ℕ → Setting → List ℕ → List ℕ → List ℕ → List ℕ → List ℕ → List ℕ → List ℕ → List ℕ → List ℕ → Type 0
+WritesChange n G words numbers removed sheets sheets' marks marks' supports supports' =
+    left n sheets' marks' supports' ≡ written_over (changed (instance_in G) (is_live removed) words numbers) sheets marks supports
 
 -- ---- On the bytes
 
@@ -56,9 +56,9 @@ abbrev pub request_in : Instance → List ℕ → List ℕ → List ℕ → Chan
 request_in I sheets marks supports change = request I (entries64 marks) (entries16 supports) (counts_in sheets) change
 
 -- what is answered and left is the reply, as a number and bytes, to the request of an instance and these bytes
-abbrev pub AnswersOn : ℕ → Instance → Loan → Loan → Loan → Change → Type 0
-AnswersOn n I sheets marks supports change =
-    left n sheets marks supports ≡ reply_bytes (reply (request_in I (entry sheets) (entry marks) (entry supports) (decoded_change change))) (entry sheets) (entry marks) (entry supports)
+abbrev pub AnswersOn : ℕ → Instance → List ℕ → List ℕ → List ℕ → List ℕ → List ℕ → List ℕ → Change → Type 0
+AnswersOn n I sheets sheets' marks marks' supports supports' change =
+    left n sheets' marks' supports' ≡ reply_bytes (reply (request_in I sheets marks supports (decoded_change change))) sheets marks supports
 
 -- The bytes are whole numbers of words and of support numbers.
 pub record WholeBytes (marks supports : List ℕ) : Type 0 where
@@ -88,10 +88,10 @@ pub record PlansBytes (p : Plan) (variables values : List ℕ) (m : ℕ) (member
   pub whole : WholeBytes marks supports
 
 -- for every change that it is one for, what is left is the reply to the request that the bytes hold
-abbrev pub LeavesPlanned : ℕ → Plan → List ℕ → List ℕ → ℕ → List ℕ → Loan → Loan → Loan → Type 0
-LeavesPlanned n p variables values m members sheets marks supports =
+abbrev pub LeavesPlanned : ℕ → Plan → List ℕ → List ℕ → ℕ → List ℕ → List ℕ → List ℕ → List ℕ → List ℕ → List ℕ → List ℕ → Type 0
+LeavesPlanned n p variables values m members sheets sheets' marks marks' supports supports' =
     (S : Shape) (change : Change) → (let I = instance_of S variables values m members in
-    PlannedOn p I (entry sheets) (entry marks) (entry supports) change → left n sheets marks supports ≡ encoded (reply (request_in I (entry sheets) (entry marks) (entry supports) change)) (entry sheets))
+    PlannedOn p I sheets marks supports change → left n sheets' marks' supports' ≡ encoded (reply (request_in I sheets marks supports change)) sheets)
 
 -- ---- With an opening
 
@@ -115,7 +115,7 @@ pub record OpensBytes (o : Opening) (variables values : List ℕ) (m : ℕ) (mem
   pub whole : WholeBytes marks supports
 
 -- on every shape that it opens, the call is answered
-abbrev pub AnswersOpened : ℕ → Opening → List ℕ → List ℕ → ℕ → List ℕ → Loan → Loan → Loan → Change → Type 0
-AnswersOpened n o variables values m members sheets marks supports change =
+abbrev pub AnswersOpened : ℕ → Opening → List ℕ → List ℕ → ℕ → List ℕ → List ℕ → List ℕ → List ℕ → List ℕ → List ℕ → List ℕ → Change → Type 0
+AnswersOpened n o variables values m members sheets sheets' marks marks' supports supports' change =
     (S : Shape) → (let I = instance_of S variables values m members in
-    OpenedOn o I (entry marks) (entry supports) → AnswersOn n I sheets marks supports change)
+    OpenedOn o I marks supports → AnswersOn n I sheets sheets' marks marks' supports supports' change)

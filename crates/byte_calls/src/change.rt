@@ -1,7 +1,6 @@
 // The change calls on bytes: decode what is only read and check it, decode the needed words and the counts, check these and plan the
 // change, and make it.
-ghost use Rattle.std.specs.Prelude.{◌≡◌, true, ◌*◌, ◌/◌, ◌≤◌, length};
-ghost use Rattle.layout.specs.Loan.{entry};
+ghost use Rattle.std.specs.Prelude.{◌≡◌, List, ℕ, true, ◌*◌, ◌/◌, ◌≤◌, length};
 ghost use Rattle.layout.specs.Setting.{SoundLists};
 ghost use Rattle.layout.specs.Shape.{instance_of};
 ghost use Rattle.request.specs.Plan.{lists_from, PlansOn};
@@ -75,7 +74,7 @@ fn write_change(
     plan: Plan,
 ) -> u64
     requires { Writable (setting_for plan variables.now values.now m members.now) words.old numbers.old counts.old plan.removed sheets.old marks.old supports.old }
-    ensures { WritesChange result (setting_for plan variables.now values.now m members.now) words numbers plan.removed sheets marks supports }
+    ensures { WritesChange result (setting_for plan variables.now values.now m members.now) words.old numbers.old plan.removed sheets.old sheets.new marks.old marks.new supports.old supports.new }
 {
     let starts = plan.starts;
     let removed = plan.removed;
@@ -102,7 +101,7 @@ fn make(
     plan: Plan,
 ) -> u64
     requires { PlansBytes plan variables.now values.now m members.now words.old counts.old sheets.old marks.old supports.old }
-    ensures { LeavesPlanned result plan variables.now values.now m members.now sheets marks supports }
+    ensures { LeavesPlanned result plan variables.now values.now m members.now sheets.old sheets.new marks.old marks.new supports.old supports.new }
 {
     let starts = plan.starts;
     let number_count = needed(&starts, members, m);
@@ -139,7 +138,7 @@ fn change_counted(
     chosen: &[u8],
 ) -> u64
     requires { OpensBytes opening variables.now values.now m members.now words.old counts.old sheets.old marks.old supports.old }
-    ensures { AnswersOpened result opening variables.now values.now m members.now sheets marks supports (change_in call listed.now chosen.now) }
+    ensures { AnswersOpened result opening variables.now values.now m members.now sheets.old sheets.new marks.old marks.new supports.old supports.new (change_in call listed.now chosen.now) }
 {
     let opened = counted(opening, words, counts);
     let plan = plan(call, opened, variables, values, listed, chosen);
@@ -167,7 +166,7 @@ fn change_opened(
     chosen: &[u8],
 ) -> u64
     requires { Readable opening shape.count (instance_of shape variables.now values.now m members.now) sheets.old marks.old supports.old }
-    ensures { AnswersOn result (instance_of shape variables.now values.now m members.now) sheets marks supports (change_in call listed.now chosen.now) }
+    ensures { AnswersOn result (instance_of shape variables.now values.now m members.now) sheets.old sheets.new marks.old marks.new supports.old supports.new (change_in call listed.now chosen.now) }
 {
     let starts = opening.starts;
     let word_count = words_for(tuple_count(&starts));
@@ -207,7 +206,7 @@ fn change_decoded(
     chosen: &[u8],
 ) -> u64
     requires { (shape.count ≡ length sheets.old / 6) × WholeBytes marks.old supports.old }
-    ensures { AnswersOn result (instance_of shape variables.now values.now m members.now) sheets marks supports (change_in call listed.now chosen.now) }
+    ensures { AnswersOn result (instance_of shape variables.now values.now m members.now) sheets.old sheets.new marks.old marks.new supports.old supports.new (change_in call listed.now chosen.now) }
 {
     let words = marks.len() / 8;
     let numbers = supports.len() / 2;
@@ -235,7 +234,7 @@ fn change_many(
     chosen: &[u8],
 ) -> u64
     requires { WholeBytes marks.old supports.old }
-    ensures { AnswersOn result (byte_instance (byte_book entry sheets questions codes m combinations)) sheets marks supports (change_in call listed.now chosen.now) }
+    ensures { AnswersOn result (byte_instance (byte_book (λ (l : List ℕ). l) sheets.old questions.now codes.now m combinations.now)) sheets.old sheets.new marks.old marks.new supports.old supports.new (change_in call listed.now chosen.now) }
 {
     let mut variables = [0u16; 513];
     let mut values = [0u32; 32769];
@@ -273,7 +272,7 @@ fn change_few(
     chosen: &[u8],
 ) -> u64
     requires { WholeBytes marks.old supports.old × (length codes.now ≤ 4 * few_values) }
-    ensures { AnswersOn result (byte_instance (byte_book entry sheets questions codes m combinations)) sheets marks supports (change_in call listed.now chosen.now) }
+    ensures { AnswersOn result (byte_instance (byte_book (λ (l : List ℕ). l) sheets.old questions.now codes.now m combinations.now)) sheets.old sheets.new marks.old marks.new supports.old supports.new (change_in call listed.now chosen.now) }
 {
     let mut variables = [0u16; 513];
     let mut values = [0u32; FEW_VALUES];
@@ -311,7 +310,7 @@ fn change_bytes(
     chosen: &[u8],
 ) -> u64
     requires { WholeBytes marks.old supports.old }
-    ensures { AnswersOn result (byte_instance (byte_book entry sheets questions codes m combinations)) sheets marks supports (change_in call listed.now chosen.now) }
+    ensures { AnswersOn result (byte_instance (byte_book (λ (l : List ℕ). l) sheets.old questions.now codes.now m combinations.now)) sheets.old sheets.new marks.old marks.new supports.old supports.new (change_in call listed.now chosen.now) }
 {
     if codes.len() <= 4 * FEW_VALUES {
         return change_few(
@@ -355,7 +354,7 @@ pub fn change_call(
     chosen: &[u8],
 ) -> u64
     requires { whole_own (change_in call listed.now chosen.now) ≡ true }
-    ensures { KeepsBytes (byte_request (byte_book entry sheets questions codes m combinations) marks.old supports.old (change_in call listed.now chosen.now)) (left result sheets marks supports) }
+    ensures { KeepsBytes (byte_request (byte_book (λ (l : List ℕ). l) sheets.old questions.now codes.now m combinations.now) marks.old supports.old (change_in call listed.now chosen.now)) (left result sheets.new marks.new supports.new) }
 {
     if !change_whole(
         sheets.len(),

@@ -20,7 +20,7 @@ given c =
     let a = c.args in
     byte_request (byte_book (λ (l : List ℕ). l) a.sheets.now a.questions.now a.codes.now a.m a.combinations.now) a.marks.now a.supports.now (change_in a.call a.listed.now a.chosen.now)
 
-lists-whole : (c : tie.Else-not-change_whole) → (let q = given c.before.before.before.before.before.before.before.before.before.before in whole_lists q.book q.marks-1 q.supports-1 ≡ true)
+lists-whole : (c : tie.Else-not-change_whole) → (let q = given c.before.before.before.before.before.before.before.before.before.before in whole_lists q.book q.marks q.supports ≡ true)
 lists-whole c = sym c.before.change_whole.ensures ∙ not-false _ c.if-not-change_whole.false-raw
 
 returns : tie.Need-returns-then-not-change_whole
@@ -34,7 +34,7 @@ change-bytes-requires c κs =
     let passed = c.before.before.before in
     let q = given passed.before.before.before.before.before.before.before.before.before.before in
     let B = q.book in
-    let both = whole-written (length B.sheets-1) (length B.questions) (length B.codes) (length B.combinations) (length q.marks-1) (length q.supports-1) (lists-whole passed) in
+    let both = whole-written (length B.sheets) (length B.questions) (length B.codes) (length B.combinations) (length q.marks) (length q.supports) (lists-whole passed) in
     record { words = both.0; numbers = both.1 }
 
 returns-2 : tie.Need-returns

@@ -17,7 +17,7 @@ use Rattle.byte_calls.proofs.change.change_counted.Statement.{statement}
 use Rattle.byte_calls.proofs.change.change_counted.Tie as tie
 
 abbrev start : tie.After-counted-opened → tie.Start
-start c = c.before.before.before.before.before.before.before.before.before.before.before.before.before
+start c = c.before.before.before.before.before.before.before.before.before.before.before
 
 abbrev instance : tie.Start → Shape → Instance
 instance s S = let a = s.args in instance_of S a.variables.now a.values.now a.m a.members.now
@@ -95,7 +95,7 @@ pub change_counted_spec : {M : Type 1} → statement M
 change_counted_spec =
     tie.close
     (tie.spec
-    (λ c κs. λ _. c.before.before.before.before.before.before.before.before.before.before.before.before.requires.decoded.covered)
+    (λ c κs. λ _. c.requires.decoded.covered)
     plan-requires
     (λ c κs. search rules)
     (λ c. search rules)

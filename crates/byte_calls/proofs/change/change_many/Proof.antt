@@ -10,7 +10,7 @@ use Rattle.byte_calls.proofs.change.change_many.Statement.{statement}
 use Rattle.byte_calls.proofs.change.change_many.Tie as tie
 
 abbrev start : tie.After-shape_at-shape → tie.Start
-start c = c.before.before.before.before.before.before.before.before.before.before
+start c = c.before.before.before.before.before.before.before.before.before
 
 change-decoded-requires : tie.Need-change_decoded-requires
 change-decoded-requires c κs =

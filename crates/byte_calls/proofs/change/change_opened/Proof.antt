@@ -59,10 +59,10 @@ module _ (c : tie.After-words_for-word_count) where
 
 module _ (c : tie.After-load64) where
   abbrev sized : tie.After-words_for-word_count
-  sized = c.before.before.before
+  sized = c.before.before
 
   abbrev array : List ℕ
-  array = c.load64.new.1.0
+  array = c.load64.new.d
 
   room : w sized ≤ length array
   room = let k = sized in loaded-room (w k) c.load64.result (marks k) array c.load64.ensures (words-needed k).1.0 (words-needed k).1.1
@@ -75,7 +75,7 @@ module _ (c : tie.After-load64) where
 
 module _ (c : tie.After-counts_at-counts) where
   abbrev loading : tie.After-load64
-  loading = c.before.before.before
+  loading = c.before.before
 
   abbrev k : tie.After-words_for-word_count
   k = sized loading
@@ -109,7 +109,7 @@ change-counted-requires c κs =
     }
 
 returns : tie.Need-returns
-returns c = let made = c.before.before.before.before.before.before.before.before in let s = made.before.before.before.before.before.before.before.before.before.before.before.before.before.before.before.before.before.before.before.before.before.before.before.before in made.change_counted.ensures s.args.shape s.requires.opened
+returns c = c.change_counted.ensures c.args.shape c.requires.opened
 
 pub change_opened_spec : {M : Type 1} → statement M
 change_opened_spec =
@@ -119,7 +119,7 @@ change_opened_spec =
     (λ c κs. search rules)
     (λ c. omega (arith, (words-needed c).1.0))
     (λ c. (words-needed c).1.1)
-    (λ c. sym (length-take-le (8 * w c.before) (marks c.before) (words-needed c.before).1.1))
+    (λ c. sym (length-take-le (8 * w c) (marks c) (words-needed c).1.1))
     (λ c. search rules)
     (λ c κs. search rules)
     (λ c κs. search rules)

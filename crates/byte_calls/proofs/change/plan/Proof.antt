@@ -18,29 +18,29 @@ PlanOf s p call = let a = s.args in PlansOn p a.opening a.variables.now a.values
 returns : tie.Need-returns-in-Filter
 unfolding change_in
 returns c =
-    let s = c.before.before.before.before.before.before.before in
+    let s = c.before.before.before.before.before.before in
     let a = s.args in
-    subst (PlanOf s c.plan_filter.result) (sym c.before.enum_told-1.given.1) (λ S m members. c.plan_filter.ensures S a.variables.now a.values.now m members)
+    subst (PlanOf s c.plan_filter.result) (sym c.in-Filter.is) (λ S m members. c.plan_filter.ensures S a.variables.now a.values.now m members)
 
 returns-2 : tie.Need-returns-in-Withdraw
 unfolding change_in
 returns-2 c =
-    let s = c.before.before.before.before.before.before.before.before in
+    let s = c.before.before.before.before.before.before.before in
     let a = s.args in
-    subst (PlanOf s c.plan_withdraw.result) (sym c.before.before.enum_told-in-Withdraw-1.given.1)
-    (λ S m members. c.plan_withdraw.ensures (entries16 a.listed.now) c.before.ids_at.ensures S a.variables.now a.values.now m members)
+    subst (PlanOf s c.plan_withdraw.result) (sym c.in-Withdraw.is)
+    (λ S m members. c.plan_withdraw.ensures (entries16 a.listed.now) c.ids_at.ensures S a.variables.now a.values.now m members)
 
 returns-3 : tie.Need-returns-in-Choose
 unfolding change_in
-returns-3 c = subst (PlanOf c.before.before.before.before.before.before.before.before c.plan_choose.result) (sym c.before.before.call-1.given.1) c.plan_choose.ensures
+returns-3 c = subst (PlanOf c.before.before.before.before.before.before c.plan_choose.result) (sym c.in-Choose.is) c.plan_choose.ensures
 
 returns-4 : tie.Need-returns-in-ChooseSeveral
 unfolding change_in
 returns-4 c =
-    let s = c.before.before.before.before.before.before.before.before in
+    let s = c.before.before.before.before.before.before.before in
     let a = s.args in
-    subst (PlanOf s c.plan_choose_several.result) (sym c.before.before.enum_told-in-ChooseSeveral-1.given.1)
-    (c.plan_choose_several.ensures (entries16 a.listed.now) (entries32 a.chosen.now) c.before.choices_at.ensures)
+    subst (PlanOf s c.plan_choose_several.result) (sym c.in-ChooseSeveral.is)
+    (c.plan_choose_several.ensures (entries16 a.listed.now) (entries32 a.chosen.now) c.choices_at.ensures)
 
 pub plan_spec : {M : Type 1} → statement M
 plan_spec =
@@ -52,10 +52,10 @@ plan_spec =
     (λ c κs. search rules)
     (λ c κs. search rules)
     (λ c. search rules)
-    (λ c κs. c.before.before.before.before.before.before.before.requires)
+    (λ c κs. c.requires)
     (λ c. search rules)
     (λ c κs. search rules)
-    (λ c κs. c.before.before.before.before.before.before.before.requires)
+    (λ c κs. c.requires)
     returns
     returns-2
     returns-3

@@ -20,17 +20,17 @@ given s = let a = s.args in setting_for a.plan a.variables.now a.values.now a.m 
 
 pack-requires : tie.Need-pack-requires
 pack-requires c κs =
-    let changed = c.before.before.before.before.before.before.before.before.before.before.before.before.before.before.before.before.before.before.before.before.before in
+    let changed = c.before.before.before.before.before.before.before.before.before.before.before.before.before.before.before.before.before.before in
     let s = start changed in
     let a = s.args in
-    omega (arith, ap (λ (r : Reply). r.answer.subject) changed.change-a.ensures, changed-subject (instance_in (given s)) (is_live a.plan.removed-1) a.words.now a.numbers.now s.requires.ready.sound.laid.framed.bounded.relations)
+    omega (arith, ap (λ (r : Reply). r.answer.subject) changed.change-a.ensures, changed-subject (instance_in (given s)) (is_live a.plan.removed) a.words.now a.numbers.now s.requires.ready.sound.laid.framed.bounded.relations)
 
 returns : tie.Need-returns
 returns c =
     let numbers = c.before.before.before in
-    let words = numbers.before.before.before.before.before in
-    let counts = words.before.before.before.before.before in
-    let changed = counts.before.before.before.before.before.before.before.before.before in
+    let words = numbers.before.before.before.before in
+    let counts = words.before.before.before.before in
+    let changed = counts.before.before.before.before.before.before.before.before in
     let a = (start changed).args in
     (λ i. outcome (c.pack.ensures i) (counts.put_counts.ensures i) (words.store64.ensures i) (numbers.store16.ensures i))
     ∙ ap (λ (r : Reply). written_over r a.sheets.now a.marks.now a.supports.now) changed.change-a.ensures
@@ -39,7 +39,7 @@ pub write_change_spec : {M : Type 1} → statement M
 write_change_spec =
     tie.close
     (tie.spec
-    (λ c κs. c.before.before.before.before.before.before.before.before.before.before.before.before.before.before.before.before.requires.ready)
+    (λ c κs. c.requires.ready)
     (λ c κs. search rules)
     (λ c κs. search rules)
     (λ c κs. search rules)

@@ -46,17 +46,17 @@ module _ (c : tie.After-words_for) where
   marks = (start opened).args.marks.now
 
   abbrev lists : Setting
-  lists = let a = (start opened).args in given a.shape a.variables.now a.values.now a.m a.members.now (entries64 a.marks.now) (length a.marks.now / 8) (sym (entries64-length a.marks.now)) opened.test_checked-opening.result opened.test_checked-opening.ensures passed.if-opening-ne0.left
+  lists = let a = (start opened).args in given a.shape a.variables.now a.values.now a.m a.members.now (entries64 a.marks.now) (length a.marks.now / 8) (sym (entries64-length a.marks.now)) opened.test_checked-opening.result opened.test_checked-opening.ensures passed.if-opening-ne0.false
 
   sound : Sound lists
-  sound = let a = (start opened).args in given-sound a.shape a.variables.now a.values.now a.m a.members.now (entries64 a.marks.now) (length a.marks.now / 8) (sym (entries64-length a.marks.now)) opened.test_checked-opening.result opened.test_checked-opening.ensures passed.if-opening-ne0.left
+  sound = let a = (start opened).args in given-sound a.shape a.variables.now a.values.now a.m a.members.now (entries64 a.marks.now) (length a.marks.now / 8) (sym (entries64-length a.marks.now)) opened.test_checked-opening.result opened.test_checked-opening.ensures passed.if-opening-ne0.false
 
   words-needed : (total (network lists) ≤ word_bits * c.words_for.result) × ((c.words_for.result ≤ 64) × (8 * c.words_for.result ≤ length marks))
   words-needed =
       let a = (start opened).args in
       let count = c.before.tuple_count.ensures ∙ tuple-count sound.laid.framed in
       let each = c.words_for.ensures in
-      let enough = given-enough a.shape a.variables.now a.values.now a.m a.members.now (entries64 a.marks.now) (length a.marks.now / 8) (sym (entries64-length a.marks.now)) opened.test_checked-opening.result opened.test_checked-opening.ensures passed.if-opening-ne0.left in (
+      let enough = given-enough a.shape a.variables.now a.values.now a.m a.members.now (entries64 a.marks.now) (length a.marks.now / 8) (sym (entries64-length a.marks.now)) opened.test_checked-opening.result opened.test_checked-opening.ensures passed.if-opening-ne0.false in (
         omega (arith, count, each),
         (omega (arith, count, each, tuples-few sound.laid.framed), omega (arith, count, each, enough)),
       )
@@ -65,10 +65,10 @@ module _ (c : tie.After-words_for) where
 
 module _ (c : tie.After-load64) where
   abbrev sized : tie.After-words_for
-  sized = c.before.before.before
+  sized = c.before.before
 
   abbrev array : List ℕ
-  array = c.load64.new.1.0
+  array = c.load64.new.d
 
   holds : (i : ℕ) → i < sized.words_for.result → get_or array i 0 ≡ get_or (entries64 (marks sized)) i 0
   holds i h =
@@ -94,7 +94,7 @@ reply c b e =
     let k = sized l in
     let o = opened k in
     let a = (start o).args in
-    tested-reply a.shape a.variables.now a.values.now a.m a.members.now (entries64 a.marks.now) (length a.marks.now / 8) (sym (entries64-length a.marks.now)) o.test_checked-opening.result o.test_checked-opening.ensures (passed k).if-opening-ne0.left (array l) k.words_for.result (words-needed k).0 (holds l) b
+    tested-reply a.shape a.variables.now a.values.now a.m a.members.now (entries64 a.marks.now) (length a.marks.now / 8) (sym (entries64-length a.marks.now)) o.test_checked-opening.result o.test_checked-opening.ensures (passed k).if-opening-ne0.false (array l) k.words_for.result (words-needed k).0 (holds l) b
     (sym e ∙ c.all_supported.ensures ∙ ap (λ (G : Setting). all_consistent G (array l)) (same c.before.before))
 
 pub test_decoded_spec : {M : Type 1} → statement M
@@ -107,7 +107,7 @@ test_decoded_spec =
     (λ c κs. search rules)
     (λ c κs. search rules)
     (λ c. omega (arith, (words-needed c).1.0))
-    (λ c. sym (length-take-le (8 * c.before.words_for.result) (marks c.before) (words-needed c.before).1.1))
+    (λ c. sym (length-take-le (8 * c.words_for.result) (marks c) (words-needed c).1.1))
     (λ c. search rules)
     (λ c κs. search rules)
     (λ c κs. search rules)
