@@ -1,16 +1,11 @@
 -- A packed answer gives back the reply, and the counts lent from the parts come back in their array.
 -- From the law that the numbers of a reply are read back from their bits.
 use mathlib.Core.Path.{◌≡◌, sym, ap, ◌∙◌}
-use mathlib.Core.List.{List, ◌++◌, map}
+use mathlib.Core.List.{List, ◌++◌}
 use Prim.Native.Nat.{ℕ, ◌≤◌}
 use native.Mathlib.Omega.{arith}
-use lib.ListN.{length, take, drop, length-append, length-map}
+use lib.ListN.{length, take, drop, length-append}
 use lib.Seq.{length-take-le, take_at}
-use package.mir.Syntax.{w16}
-use package.mir.Val.{Val}
-use borrow.Kind.Array.{e_int, good_length}
-use denote.Laws.{Is}
-use denote.Struct.Laws as LL
 use Rattle.model.specs.declared.Answer.{Answer}
 use Rattle.model.specs.Limits.{max_relations}
 use Rattle.model.specs.Request.{Change, Instance, Request}
@@ -23,8 +18,6 @@ use Rattle.records.specs.declared.Done.{Done}
 use Rattle.records.specs.Records.{lesser}
 use Rattle.records.specs.Packed.{counts_of, written_for, done_with}
 use Rattle.records.proofs.Padded.{padded-take}
-use Rattle.records.specs.contracts.Parts as S
-use Rattle.records.proofs.Parts.TheLaws as S'
 
 replied_in-packed : (q : Request) (a : Answer) (n : ℕ) (words supports counts : List ℕ) → Keeps q (replied a words supports counts) → n ≡ packed (answer_numbers a) → Keeps q (replied_in n words supports counts)
 replied_in-packed q a n words supports counts e p =
@@ -32,13 +25,6 @@ replied_in-packed q a n words supports counts e p =
     λ i. record { answer = numbers i; words = (e i).words; supports = (e i).supports; counts = (e i).counts }
 
 -- ---- The counts of the first relations, lent from the parts
-
--- there are 64 counts, by their type
-pub live-length : (P : Parts) (vs : List Val) → Is S.the_row P vs → length P.live ≡ max_relations
-live-length P vs g =
-    let same : ℕ → ℕ = λ n. n in
-    sym (length-map P.live same)
-    ∙ good_length (e_int w16) max_relations (map same P.live) _ (LL.owed S.the_type S'.the_laws P vs g).1.0
 
 module _ (P : Parts) (n : ℕ) (size : n ≡ lesser P.shape.count) (room : length P.live ≡ max_relations) where
   -- they are lent

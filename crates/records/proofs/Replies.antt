@@ -1,6 +1,6 @@
 -- What a change call replies to the parts of the records it replies to the records, once the counts are written back: up to 64 records
 -- have the counts of their parts, and more are refused whatever their counts. From the laws of records taken apart and of counts written.
-use mathlib.Core.Path.{◌≡◌, refl, sym, ◌∙◌, ap}
+use mathlib.Core.Path.{◌≡◌, refl, sym, ◌∙◌, ap, subst}
 use mathlib.Core.Bool.{Bool, true, false, not, cond}
 use mathlib.Core.Option.{Option}
 use mathlib.Core.List.{List}
@@ -128,3 +128,16 @@ module _ (lent : List Record) (variables values : List ℕ) (m : ℕ) (members w
     pub records-reply : (n : ℕ) (Rs : List Record) → n ≡ d.answer → Rs ≡ left → Keeps (asked (live_in lent)) (replied_in n words' supports' (live_in Rs)) × (Rs ≡ with_live lent (live_in Rs))
     records-reply n Rs e f =
         ((λ j. replied_in (e j) words' supports' (live_in (f j))) ∙ parts-reply.0, f ∙ parts-reply.1 ∙ ap (λ (Qs : List Record). with_live lent (live_in Qs)) (sym f))
+
+-- ---- .. of the parts that the records were taken apart into
+
+-- what a change call on the parts gives and leaves
+abbrev pub PartsReply : List ℕ → List ℕ → ℕ → List ℕ → List ℕ → List ℕ → Change → Done → List ℕ → List ℕ → Parts → Type 0
+PartsReply variables values m members words supports change d words' supports' P =
+    Keeps (request (instance_of P.shape variables values m members) words supports (counts_of P P.live) change) (replied_in d.answer words' supports' (counts_of P d.live))
+    × (d.written ≡ written_for (unpacked d.answer) (lesser P.shape.count))
+
+pub replies-on : (lent : List Record) (variables values : List ℕ) (m : ℕ) (members words supports : List ℕ) (change : Change) (P : Parts) → P ≡ parts_of lent → (d : Done) (words' supports' : List ℕ) → PartsReply variables values m members words supports change d words' supports' P → (n : ℕ) (Rs : List Record) → (n ≡ d.answer) × (Rs ≡ with_live lent (counts_to_write d)) → Keeps (request (record_instance lent variables values m members) words supports (live_in lent) change) (replied_in n words' supports' (live_in Rs)) × (Rs ≡ with_live lent (live_in Rs))
+replies-on lent variables values m members words supports change P e d words' supports' kept n Rs back =
+    let told = subst (PartsReply variables values m members words supports change d words' supports') e kept in
+    records-reply lent variables values m members words supports change d words' supports' told.0 told.1 n Rs back.0 back.1

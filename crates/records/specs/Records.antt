@@ -1,6 +1,6 @@
 -- Relation records as they are lent, the instance of a call whose records are one list, and the steps in which they are taken apart.
 use Rattle.std.specs.Prelude.{List, [], ◌∷◌, map, ℕ, min, set, replicate}
-use Rattle.std.specs.Borrow.{Bor}
+use Rattle.std.specs.Borrow.{Bor, MutBor}
 use denote.Triple.Both.{Both}
 use Rattle.model.specs.declared.Relation.{Relation}
 use Rattle.model.specs.declared.Record.{Record}
@@ -48,6 +48,13 @@ record_instance Rs variables values m members = record { network = record_networ
 -- those that references lend, at entry
 abbrev pub RecordLoan : Type 0
 RecordLoan = Both (Bor (List Record)) (Bor (List Record))
+
+-- records lent to be written, and a list of numbers: `x.entry.now` as they are lent, `x.exit.now` as they are left
+abbrev pub MutRecordLoan : Type 0
+MutRecordLoan = Both (MutBor (List Record)) (MutBor (List Record))
+
+abbrev pub MutLoan : Type 0
+MutLoan = Both (MutBor (List ℕ)) (MutBor (List ℕ))
 
 abbrev pub entry_network : RecordLoan → Loan → Loan → Network
 entry_network relations variables values = record_network relations.entry.now (entry variables) (entry values)

@@ -8,7 +8,7 @@ ghost use Rattle.model.specs.Request.{filter, withdraw, choose, choose_several};
 ghost use Rattle.model.specs.Reply.{Tested, Compared};
 ghost use Rattle.model.specs.Enumeration.{Enumerates};
 ghost use Rattle.encoding.specs.Packed.{pair_in, enumerated_in};
-ghost use Rattle.records.specs.Records.{entry_network, entry_instance, lesser, unread, with_record, parts_of};
+ghost use Rattle.records.specs.Records.{record_instance, entry_network, entry_instance, lesser, unread, with_record, parts_of};
 ghost use Rattle.records.specs.Packed.{RepliesIn, WritesBack};
 
 use layout::Shape;
@@ -120,7 +120,7 @@ pub extern "C" fn wakhvosi_filter_records(
     words: &mut [u64],
     supports: &mut [u16],
 ) -> u64
-    ensures { RepliesIn result (entry_instance relations variables values m members) relations words supports filter }
+    ensures { RepliesIn result (record_instance relations.old variables.now values.now m members.now) relations words supports filter }
 {
     let parts = parts_of(relations);
     let done = packed::filter(parts, variables, values, m, members, words, supports);
@@ -139,7 +139,7 @@ pub extern "C" fn wakhvosi_withdraw_records(
     supports: &mut [u16],
     ids: &[u16],
 ) -> u64
-    ensures { RepliesIn result (entry_instance relations variables values m members) relations words supports (withdraw ids.now) }
+    ensures { RepliesIn result (record_instance relations.old variables.now values.now m members.now) relations words supports (withdraw ids.now) }
 {
     let parts = parts_of(relations);
     let done = packed::withdraw(parts, variables, values, m, members, words, supports, ids);
@@ -159,7 +159,7 @@ pub extern "C" fn wakhvosi_choose_records(
     x: u16,
     v: Value,
 ) -> u64
-    ensures { RepliesIn result (entry_instance relations variables values m members) relations words supports (choose x v) }
+    ensures { RepliesIn result (record_instance relations.old variables.now values.now m members.now) relations words supports (choose x v) }
 {
     let parts = parts_of(relations);
     let done = packed::choose(parts, variables, values, m, members, words, supports, x, v);
@@ -179,7 +179,7 @@ pub extern "C" fn wakhvosi_choose_several_records(
     xs: &[u16],
     vs: &[Value],
 ) -> u64
-    ensures { RepliesIn result (entry_instance relations variables values m members) relations words supports (choose_several xs.now vs.now) }
+    ensures { RepliesIn result (record_instance relations.old variables.now values.now m members.now) relations words supports (choose_several xs.now vs.now) }
 {
     let parts = parts_of(relations);
     let done = packed::choose_several(

@@ -1,6 +1,8 @@
 -- The contracts themselves: what each published function ensures is the definition that the statements of this crate speak of, of
 -- what it is lent, a, and of what it gives and leaves, s. A contract that says anything else fails here. (Those of `records` are cited
 -- in their own walks.)
+use mathlib.Core.List.{List}
+use Prim.Native.Nat.{ℕ}
 use Rattle.model.specs.Request.{filter, withdraw, choose, choose_several}
 use Rattle.model.specs.Reply.{verdict_numbers, comparison_numbers, request, replied, Keeps, Tested, Compared}
 use Rattle.model.specs.Enumeration.{enumerated, Enumerates}
@@ -59,16 +61,16 @@ narrow_keeps κs a r s kept = kept
 
 -- ---- On bytes
 
-pub filter-keeps-bytes : (κs : _) (a : _) (r : _) (s : _) → wakhvosi-filter.Post κs a r s → KeepsBytes (byte_request (byte_book (λ x. x.now) a.0 a.1.0 a.1.1.0 a.1.1.1.0 a.1.1.1.1.0) a.1.1.1.1.1.0.now a.1.1.1.1.1.1.0.now filter) (outcome r s.0.now s.1.1.1.1.1.0.now s.1.1.1.1.1.1.0.now)
+pub filter-keeps-bytes : (κs : _) (a : _) (r : _) (s : _) → wakhvosi-filter.Post κs a r s → KeepsBytes (byte_request (byte_book (λ (l : List ℕ). l) a.0.now a.1.0.now a.1.1.0.now a.1.1.1.0 a.1.1.1.1.0.now) a.1.1.1.1.1.0.now a.1.1.1.1.1.1.0.now filter) (outcome r s.0.now s.1.1.1.1.1.0.now s.1.1.1.1.1.1.0.now)
 filter-keeps-bytes κs a r s kept = kept
 
-pub withdraw-keeps-bytes : (κs : _) (a : _) (r : _) (s : _) → wakhvosi-withdraw.Post κs a r s → KeepsBytes (byte_request (byte_book (λ x. x.now) a.0 a.1.0 a.1.1.0 a.1.1.1.0 a.1.1.1.1.0) a.1.1.1.1.1.0.now a.1.1.1.1.1.1.0.now (withdraw a.1.1.1.1.1.1.1.0.now)) (outcome r s.0.now s.1.1.1.1.1.0.now s.1.1.1.1.1.1.0.now)
+pub withdraw-keeps-bytes : (κs : _) (a : _) (r : _) (s : _) → wakhvosi-withdraw.Post κs a r s → KeepsBytes (byte_request (byte_book (λ (l : List ℕ). l) a.0.now a.1.0.now a.1.1.0.now a.1.1.1.0 a.1.1.1.1.0.now) a.1.1.1.1.1.0.now a.1.1.1.1.1.1.0.now (withdraw a.1.1.1.1.1.1.1.0.now)) (outcome r s.0.now s.1.1.1.1.1.0.now s.1.1.1.1.1.1.0.now)
 withdraw-keeps-bytes κs a r s kept = kept
 
-pub choose-keeps-bytes : (κs : _) (a : _) (r : _) (s : _) → wakhvosi-choose.Post κs a r s → KeepsBytes (byte_request (byte_book (λ x. x.now) a.0 a.1.0 a.1.1.0 a.1.1.1.0 a.1.1.1.1.0) a.1.1.1.1.1.0.now a.1.1.1.1.1.1.0.now (choose a.1.1.1.1.1.1.1.0 a.1.1.1.1.1.1.1.1.0)) (outcome r s.0.now s.1.1.1.1.1.0.now s.1.1.1.1.1.1.0.now)
+pub choose-keeps-bytes : (κs : _) (a : _) (r : _) (s : _) → wakhvosi-choose.Post κs a r s → KeepsBytes (byte_request (byte_book (λ (l : List ℕ). l) a.0.now a.1.0.now a.1.1.0.now a.1.1.1.0 a.1.1.1.1.0.now) a.1.1.1.1.1.0.now a.1.1.1.1.1.1.0.now (choose a.1.1.1.1.1.1.1.0 a.1.1.1.1.1.1.1.1.0)) (outcome r s.0.now s.1.1.1.1.1.0.now s.1.1.1.1.1.1.0.now)
 choose-keeps-bytes κs a r s kept = kept
 
-pub choose-several-keeps-bytes : (κs : _) (a : _) (r : _) (s : _) → wakhvosi-choose-several.Post κs a r s → KeepsBytes (byte_request (byte_book (λ x. x.now) a.0 a.1.0 a.1.1.0 a.1.1.1.0 a.1.1.1.1.0) a.1.1.1.1.1.0.now a.1.1.1.1.1.1.0.now (choose_several a.1.1.1.1.1.1.1.0.now a.1.1.1.1.1.1.1.1.0.now)) (outcome r s.0.now s.1.1.1.1.1.0.now s.1.1.1.1.1.1.0.now)
+pub choose-several-keeps-bytes : (κs : _) (a : _) (r : _) (s : _) → wakhvosi-choose-several.Post κs a r s → KeepsBytes (byte_request (byte_book (λ (l : List ℕ). l) a.0.now a.1.0.now a.1.1.0.now a.1.1.1.0 a.1.1.1.1.0.now) a.1.1.1.1.1.0.now a.1.1.1.1.1.1.0.now (choose_several a.1.1.1.1.1.1.1.0.now a.1.1.1.1.1.1.1.1.0.now)) (outcome r s.0.now s.1.1.1.1.1.0.now s.1.1.1.1.1.1.0.now)
 choose-several-keeps-bytes κs a r s kept = kept
 
 pub test-tested-bytes : (κs : _) (a : _) (r : _) (s : _) → wakhvosi-test.Post κs a r s → TestedBytes (byte_book (λ x. x.now) a.0 a.1.0 a.1.1.0 a.1.1.1.0 a.1.1.1.1.0) a.1.1.1.1.1.0.now r
@@ -77,7 +79,7 @@ test-tested-bytes κs a r s kept = kept
 pub compare-compared-bytes : (κs : _) (a : _) (r : _) (s : _) → wakhvosi-compare.Post κs a r s → ComparedBytes a.0.now a.1.0.now a.1.1.0.now a.1.1.1.0 a.1.1.1.1.0 r
 compare-compared-bytes κs a r s kept = kept
 
-pub combinations-enumerates-bytes : (κs : _) (a : _) (r : _) (s : _) → wakhvosi-combinations.Post κs a r s → EnumeratesBytes (byte_book (λ x. x.now) a.0 a.1.0 a.1.1.0 a.1.1.1.0 a.1.1.1.1.0) (listing r s.1.1.1.1.0.now)
+pub combinations-enumerates-bytes : (κs : _) (a : _) (r : _) (s : _) → wakhvosi-combinations.Post κs a r s → EnumeratesBytes (byte_book (λ (l : List ℕ). l) a.0.now a.1.0.now a.1.1.0.now a.1.1.1.0 a.1.1.1.1.0.now) (listing r s.1.1.1.1.0.now)
 combinations-enumerates-bytes κs a r s kept = kept
 
 pub widen-keeps-bytes : (κs : _) (a : _) (r : _) (s : _) → wakhvosi-widen.Post κs a r s → KeepsMoveBytes widen a.0.now a.1.0.now a.1.1.0.now a.1.1.1.0.now r s.1.1.1.0.now

@@ -12,13 +12,13 @@ abbrev number : ℕ → Answer → ℕ
 number n a = written_for (answer_numbers a) n
 
 returns : tie.Need-returns-in-Settled
-returns c = sym (ap (number c.before.before.before.args.n) c.before.a-1.given.1)
+returns c = sym (ap (number c.args.n) c.in-Settled.is)
 
 returns-2 : tie.Need-returns-in-Emptied
-returns-2 c = sym (ap (number c.before.before.before.args.n) c.before.a-in-Emptied-1.given.1)
+returns-2 c = sym (ap (number c.args.n) c.in-Emptied.is)
 
 returns-3 : tie.Need-returns-in-Refused
-returns-3 c = sym (ap (number c.before.before.before.args.n) c.before.a-in-Refused-1.given.1)
+returns-3 c = sym (ap (number c.args.n) c.in-Refused.is)
 
 pub written_for_spec : {M : Type 1} → statement M
 written_for_spec =

@@ -1,0 +1,15 @@
+-- From the contract of `packed::compare`, and that the parts of the records hold their network.
+use Rattle.std.proofs.Common.{◌∙◌, ap}
+use Rattle.model.specs.Reply.{compare_reply}
+use Rattle.layout.specs.Shape.{network_of}
+use Rattle.layout.proofs.Records.{compare_reply-shape_of}
+use Rattle.records.specs.declared.Parts.{Parts}
+use Rattle.records.specs.Records.{relations_in}
+use Rattle.records.proofs.wakhvosi_compare_records.Goals as goal
+
+pub returns : goal.returns
+returns c =
+    let a = c.args in
+    c.compare.ensures
+    ∙ ap (λ (P : Parts). compare_reply (network_of P.shape a.variables.now a.values.now) a.g a.h) c.parts_of-parts.ensures
+    ∙ compare_reply-shape_of (relations_in a.relations.now) a.variables.now a.values.now a.g a.h
