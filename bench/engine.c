@@ -446,22 +446,16 @@ static int first_alike(uint16_t *table, const relation *r, int x, uint64_t varia
 
 /* ---- Refutation. */
 
-/* Whether tuple y of member j agrees with the seeking tuple, with tuple x of member i and with tuple w of member `by`. */
-static bool agrees_with_all(const visit *v, int by, int w, int i, int x, int j, int y) {
-    const relation *s = v->members[j];
-    return agree_at(v->members[v->place], v->own, s, y) && agree_at(v->members[i], x, s, y) && agree_at(v->members[by], w, s, y);
-}
-
-/* Whether a candidate of member j does so. */
-static bool meets(const visit *v, const uint64_t *words, int by, int w, int i, int x, int j) {
+/* Whether a candidate of member j that may agree with tuple x of member i agrees with the seeking tuple. */
+static bool meets(const visit *v, const uint64_t *words, int i, int x, int j) {
     const relation *s = v->members[j];
     const uint64_t *rows[MAX_KEPT];
     unsigned count = rows_of_tuple(v->f, rows, tuple_of(v->members[i], x), s, &v->shared[i][j]);
-    for (int n = s->word; n < s->last; n++) {
-        uint64_t rest = words[n] & inside(s, n);
-        for (unsigned k = 0; k < count && rest; k++) rest &= rows[k][n];
+    for (int w = s->word; w < s->last; w++) {
+        uint64_t rest = words[w] & inside(s, w);
+        for (unsigned k = 0; k < count && rest; k++) rest &= rows[k][w];
         for (; rest; rest &= rest - 1)
-            if (agrees_with_all(v, by, w, i, x, j, n * 64 + __builtin_ctzll(rest) - s->first)) return true;
+            if (agree_at(v->members[v->place], v->own, s, w * 64 + __builtin_ctzll(rest) - s->first)) return true;
     }
     return false;
 }
@@ -482,10 +476,9 @@ static bool narrow_left(const visit *v, uint64_t *words, unsigned left, int i, i
     return true;
 }
 
-/* Whether no candidates of the members left agree with each other, with the seeking tuple and with tuple w of member `by`, the first of them one of
- * those given; false also where the steps do not suffice. */
-static bool is_refuted(const visit *v, const uint64_t *words, unsigned left, unsigned first, int by, int w, long *steps) {
-    int i = fewest(v, words, first);
+/* Whether no candidates of the members left agree with each other and with the seeking tuple; false also where the steps do not suffice. */
+static bool is_refuted(const visit *v, const uint64_t *words, unsigned left, long *steps) {
+    int i = fewest(v, words, left);
     const relation *r = v->members[i];
     unsigned rest = left & ~(1u << i);
     bool last = !(rest & (rest - 1));
@@ -493,21 +486,21 @@ static bool is_refuted(const visit *v, const uint64_t *words, unsigned left, uns
         int x = g - r->first;
         uint64_t fewer[WORDS];
         if ((*steps -= last ? 1 : 4) < 0) return false;
-        if (!agree_at(v->members[v->place], v->own, r, x) || !agree_at(v->members[by], w, r, x)) continue;
+        if (!agree_at(v->members[v->place], v->own, r, x)) continue;
         if (last) {
-            if (!rest || meets(v, words, by, w, i, x, __builtin_ctz(rest))) return false;
+            if (!rest || meets(v, words, i, x, __builtin_ctz(rest))) return false;
             continue;
         }
         memcpy(fewer, words, (size_t)v->f->words * sizeof *words);
-        if (narrow_left(v, fewer, rest, i, x) && !is_refuted(v, fewer, rest, rest, i, x, steps)) return false;
+        if (narrow_left(v, fewer, rest, i, x) && !is_refuted(v, fewer, rest, steps)) return false;
     }
     return true;
 }
 
-/* The same of the members from j on, of which j is not taken first. */
+/* The same of the members from j on. */
 static bool is_hopeless(const visit *v, const uint64_t *words, int j, long steps) {
-    unsigned left = (((1u << v->m) - 1) & ~(1u << v->place)) >> j << j, first = left & ~(1u << j);
-    return is_refuted(v, words, left, first ? first : left, v->place, v->own, &steps);
+    unsigned others = ((1u << v->m) - 1) & ~(1u << v->place);
+    return is_refuted(v, words, others >> j << j, &steps);
 }
 
 /* ---- A hard search. */

@@ -1,6 +1,6 @@
 -- The contracts themselves: what each published function ensures is the definition that the statements of this crate speak of, of
--- what it is lent, a, and of what it gives and leaves, s. A contract that says anything else fails here. (Those of `records` are cited
--- in their own walks.)
+-- what it is lent, a, and of what it gives and leaves, s. A contract that says anything else fails here. (Those of `records` are met in
+-- their own proofs, by the law `replies-on`.)
 use mathlib.Core.List.{List}
 use Prim.Native.Nat.{ℕ}
 use Rattle.model.specs.Request.{filter, withdraw, choose, choose_several}
