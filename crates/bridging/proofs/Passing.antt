@@ -4,11 +4,10 @@
 use mathlib.Core.Path.{◌≡◌, refl, sym, ◌∙◌, ap, subst}
 use mathlib.Core.Bool.{Bool, true, cond}
 use mathlib.Core.List.{List}
-use mathlib.Core.Logic.{◌⊎◌, inl, ⊎_elim}
-use Prim.Native.Nat.{ℕ, ◌+◌, ◌*◌, ◌≤◌, ◌<◌}
+use mathlib.Core.Logic.{inl, ⊎_elim}
+use Prim.Native.Nat.{ℕ, ◌+◌, ◌*◌, ◌<◌}
 use native.Mathlib.Decide.{ℕ_discrete}
 use native.Mathlib.Omega.{arith}
-use lib.Dec.{eqb}
 use lib.ListN.{length}
 use borrow.Author.Tests.{eq-eqb, ne_eqb}
 use Rattle.model.specs.Network.{Network, size, first_id}
@@ -74,15 +73,19 @@ module _ (N : Network) (r : ℕ) (test : ℕ → Type 0) where
   narrowing_none words long = record { long = long; inside = λ g e. e; outside = λ g o. refl; keeps = λ x h p e. e }
 
   -- one falls of which the test does not hold
-  pub narrowing-more : {before now : List ℕ} → Narrowing N r test before now → (x : ℕ) → x < size N r → first_id N r + x < 4096 → (test x → ⊥) → Narrowing N r test before (cleared (first_id N r + x) now)
-  narrowing-more {before} {now} W x hx few fails =
-      let room : first_id N r + x < 64 * length now = omega (arith, few, W.long) in
-      record {
-        long = cleared-length (first_id N r + x) now ∙ W.long;
-        inside = λ g e. W.inside g (cleared-fewer now (first_id N r + x) room g e);
-        outside = λ g o. cleared-other now (first_id N r + x) room g (λ q. ⊎_elim (λ b. omega (arith, b, q)) (λ b. omega (arith, b, q, hx)) o) ∙ W.outside g o;
-        keeps = λ z h p e. cleared-other now (first_id N r + x) room (first_id N r + z) (λ q. fails (subst test (omega (arith, q)) p)) ∙ W.keeps z h p e;
-      }
+  module _ {before now : List ℕ} (W : Narrowing N r test before now) (x : ℕ) (hx : x < size N r) (few : first_id N r + x < 4096) (fails : test x → ⊥) where
+    fallen : Narrowing N r test before (cleared (first_id N r + x) now)
+    fallen =
+        let room : first_id N r + x < 64 * length now = omega (arith, W.long) in
+        record {
+          long = cleared-length (first_id N r + x) now ∙ W.long;
+          inside = λ g e. W.inside g (cleared-fewer now (first_id N r + x) room g e);
+          outside = λ g o. cleared-other now (first_id N r + x) room g (λ q. ⊎_elim (λ b. omega (arith, b, q)) (λ b. omega (arith, b, q, hx)) o) ∙ W.outside g o;
+          keeps = λ z h p e. cleared-other now (first_id N r + x) room (first_id N r + z) (λ q. fails (subst test (omega (arith, q)) p)) ∙ W.keeps z h p e;
+        }
+
+    pub narrowing-more : (g : ℕ) → g ≡ first_id N r + x → (after : List ℕ) → after ≡ cleared g now → Narrowing N r test before after
+    narrowing-more g id after e = subst (Narrowing N r test before) (sym (e ∙ ap (λ (h : ℕ). cleared h now) id)) fallen
 
   -- the same of a test that is met more often
   pub narrowing-by : (other : ℕ → Type 0) → ((x : ℕ) → x < size N r → other x → test x) → {before after : List ℕ} → Narrowing N r test before after → Narrowing N r other before after

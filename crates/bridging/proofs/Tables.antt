@@ -1,11 +1,12 @@
 -- Laws of the tables: bits raised in a word, a class added to a row, and the tuples of a relation entered one after the other.
 -- From the laws of bits, and of a list with one element set.
 use mathlib.Core.Path.{◌≡◌, refl, sym, ◌∙◌, ap, subst}
-use mathlib.Core.Bool.{Bool, true, not, ◌||◌}
+use mathlib.Core.Bool.{true, false, not}
 use mathlib.Core.List.{List}
 use mathlib.Core.Logic.{◌⊎◌, inl, inr, ⊎_elim}
-use Prim.Native.Nat.{ℕ, ◌+◌, ◌-◌, ◌*◌, ◌/◌, ◌%◌, ◌^◌, ◌≤◌, ◌<◌}
+use Prim.Native.Nat.{ℕ, ◌+◌, ◌*◌, ◌/◌, ◌%◌, ◌^◌, ◌≤◌, ◌<◌}
 use native.Mathlib.Decide.{ℕ_discrete, dec_lt}
+use native.Mathlib.Nat.{lt_of_not-le}
 use native.Mathlib.Omega.{arith}
 use lib.Bits.{bit_or}
 use lib.ListN.{length, get_or, set, replicate, length-set, length-replicate}
@@ -13,7 +14,7 @@ use lib.Seq.{get_or-set_same, get_or-set_other}
 use borrow.Author.Tests.{eq-eqb}
 use Rattle.model.specs.Network.{Network, size, first_id}
 use Rattle.model.specs.LiveWords.{is_set, is_live}
-use Rattle.model.proofs.Bools.{or_left, or_right}
+use Rattle.model.proofs.Bools.{not-both, or_left, or_right}
 use Rattle.live.proofs.Bits.{is_set-nought, is_set-or, is_set-pow, is_set-not}
 use Rattle.bridging.specs.Bridge.{raised, Has, Of, Adds, Reaches, class_at}
 
@@ -64,69 +65,22 @@ module _ (table : List ℕ) (long : length table ≡ 1032) (row : ℕ) (inside :
             (λ e. subst (Has (raised word (2 ^ (class % 64)) table) row) e (raised-has table word (2 ^ (class % 64)) l (class % 64) (is_set-pow (class % 64) (class % 64) ∙ eq-eqb (class % 64) (class % 64) refl)));
       }
 
-  abbrev ones : ℕ
-  ones = 18446744073709551615
+  -- of any all classes, where the words of the row have all bits, and the others stay
+  pub adds-all : (class : ℕ) (after : List ℕ) → length after ≡ 1032 → ((i : ℕ) → 4 * row ≤ i → i < 4 * row + 4 → get_or after i 0 ≡ 18446744073709551615) → ((i : ℕ) → (i < 4 * row) ⊎ (4 * row + 4 ≤ i) → get_or after i 0 ≡ get_or table i 0) → Adds row class table after
+  adds-all class after full own others =
+      record {
+        long = full;
+        stays = λ r c b. go (4 * r + c / 64) (c % 64) (omega arith) b (dec_lt (4 * r + c / 64) (4 * row)) (dec_lt (4 * r + c / 64) (4 * row + 4));
+        added = λ c h _. set (4 * row + c / 64) (c % 64) (omega arith) (omega arith) (omega (arith, h));
+      }
+    where
+      set : (i k : ℕ) → k < 64 → 4 * row ≤ i → i < 4 * row + 4 → is_set (get_or after i 0) k ≡ true
+      set i k h a b = ap (λ (w : ℕ). is_set w k) (own i a b) ∙ is_set-not 64 0 k (omega arith) h ∙ ap not (is_set-nought k)
 
-  all_set : (k : ℕ) → k < 64 → is_set ones k ≡ true
-  all_set k h = is_set-not 64 0 k (omega arith) h ∙ ap not (is_set-nought k)
-
-  -- of any all classes
-  module _ where
-    abbrev t1 : List ℕ
-    t1 = raised (4 * row) ones table
-
-    abbrev t2 : List ℕ
-    t2 = raised (4 * row + 1) ones t1
-
-    abbrev t3 : List ℕ
-    t3 = raised (4 * row + 2) ones t2
-
-    abbrev t4 : List ℕ
-    t4 = raised (4 * row + 3) ones t3
-
-    l1 : length t1 ≡ 1032
-    l1 = raised_long table (4 * row) ones ∙ long
-
-    l2 : length t2 ≡ 1032
-    l2 = raised_long t1 (4 * row + 1) ones ∙ l1
-
-    l3 : length t3 ≡ 1032
-    l3 = raised_long t2 (4 * row + 2) ones ∙ l2
-
-    on2 : (i k : ℕ) → is_set (get_or t1 i 0) k ≡ true → is_set (get_or t2 i 0) k ≡ true
-    on2 = raised-stays t1 (4 * row + 1) ones (omega (arith, l1))
-
-    on3 : (i k : ℕ) → is_set (get_or t2 i 0) k ≡ true → is_set (get_or t3 i 0) k ≡ true
-    on3 = raised-stays t2 (4 * row + 2) ones (omega (arith, l2))
-
-    on4 : (i k : ℕ) → is_set (get_or t3 i 0) k ≡ true → is_set (get_or t4 i 0) k ≡ true
-    on4 = raised-stays t3 (4 * row + 3) ones (omega (arith, l3))
-
-    here : (c : ℕ) → c < 256 → Has t4 row c
-    here c h = go (ℕ_discrete (c / 64) 0) (ℕ_discrete (c / 64) 1) (ℕ_discrete (c / 64) 2)
-      where
-        k : ℕ
-        k = c % 64
-
-        small : k < 64
-        small = omega arith
-
-        at : (i : ℕ) → 4 * row + c / 64 ≡ i → is_set (get_or t4 i 0) k ≡ true → Has t4 row c
-        at i e b = ap (λ (j : ℕ). is_set (get_or t4 j 0) k) e ∙ b
-
-        go : Dec (c / 64 ≡ 0) → Dec (c / 64 ≡ 1) → Dec (c / 64 ≡ 2) → Has t4 row c
-        go (yes e) d f = at (4 * row) (omega (arith, e)) (on4 (4 * row) k (on3 (4 * row) k (on2 (4 * row) k (raised-has table (4 * row) ones (omega (arith, long)) k (all_set k small)))))
-        go (no n) (yes e) f = at (4 * row + 1) (omega (arith, e)) (on4 (4 * row + 1) k (on3 (4 * row + 1) k (raised-has t1 (4 * row + 1) ones (omega (arith, l1)) k (all_set k small))))
-        go (no n) (no o) (yes e) = at (4 * row + 2) (omega (arith, e)) (on4 (4 * row + 2) k (raised-has t2 (4 * row + 2) ones (omega (arith, l2)) k (all_set k small)))
-        go (no n) (no o) (no p) = at (4 * row + 3) (omega (arith, n, o, p, h)) (raised-has t3 (4 * row + 3) ones (omega (arith, l3)) k (all_set k small))
-
-    pub adds-all : (class : ℕ) → Adds row class table t4
-    adds-all class =
-        record {
-          long = raised_long t3 (4 * row + 3) ones ∙ l3;
-          stays = λ r c b. on4 (4 * r + c / 64) (c % 64) (on3 (4 * r + c / 64) (c % 64) (on2 (4 * r + c / 64) (c % 64) (raised-stays table (4 * row) ones (omega (arith, long)) (4 * r + c / 64) (c % 64) b)));
-          added = λ c b o. here c b;
-        }
+      go : (i k : ℕ) → k < 64 → is_set (get_or table i 0) k ≡ true → Dec (i < 4 * row) → Dec (i < 4 * row + 4) → is_set (get_or after i 0) k ≡ true
+      go i k h b (yes l) d = ap (λ (w : ℕ). is_set w k) (others i (inl l)) ∙ b
+      go i k h b (no l) (yes u) = set i k h (omega (arith, l)) u
+      go i k h b (no l) (no u) = ap (λ (w : ℕ). is_set w k) (others i (inr (omega (arith, u)))) ∙ b
 
 -- ---- The tuples of a relation
 
@@ -137,17 +91,26 @@ module _ (N : Network) (s key over factor : ℕ) (words : List ℕ) where
     pub own : (z c : ℕ) → z < size N s → first_id N s + z < g → is_live words (first_id N s + z) ≡ true → c < 256 → Of (class_at N s z over factor) c → Has table (class_at N s z key factor) c
     pub all : (z c : ℕ) → z < size N s → first_id N s + z < g → is_live words (first_id N s + z) ≡ true → c < 256 → Of (class_at N s z over factor) c → Has table 257 c
 
-  -- none is live before g
-  pub reaches-none : (g : ℕ) → ((z : ℕ) → z < size N s → first_id N s + z < g → is_live words (first_id N s + z) ≡ true → ⊥) → ReachesBelow (replicate 1032 0) g
-  reaches-none g none =
+  -- none is before the first
+  pub reaches-none : (g : ℕ) → g ≤ first_id N s → ReachesBelow (replicate 1032 0) g
+  reaches-none g low =
       record {
         long = let z : ℕ = 0 in length-replicate 1032 z;
-        own = λ z c h b l. absurd (none z h b l);
-        all = λ z c h b l. absurd (none z h b l);
+        own = λ z c h b l. absurd (omega (arith, b, low));
+        all = λ z c h b l. absurd (omega (arith, b, low));
       }
 
-  -- one more, behind which the next live one is at h
-  module _ {table first second : List ℕ} (y h : ℕ) (so_far : ReachesBelow table (first_id N s + y)) (row class : ℕ) (is_row : row ≡ class_at N s y key factor) (is-class : class ≡ class_at N s y over factor) (A : Adds row class table first) (B : Adds 257 class first second) (none : (i : ℕ) → first_id N s + y + 1 ≤ i → i < h → is_live words i ≡ true → ⊥) where
+  -- no live one is from g to h
+  pub reaches-on : {table : List ℕ} {g h : ℕ} → ReachesBelow table g → ((i : ℕ) → g ≤ i → i < h → is_live words i ≡ false) → ReachesBelow table h
+  reaches-on R none =
+      record {
+        long = R.long;
+        own = λ z c hz b l. R.own z c hz (lt_of_not-le (λ le. not-both l (none _ le b))) l;
+        all = λ z c hz b l. R.all z c hz (lt_of_not-le (λ le. not-both l (none _ le b))) l;
+      }
+
+  -- one more
+  module _ {table first second : List ℕ} (y h : ℕ) (behind : h ≡ first_id N s + y + 1) (so_far : ReachesBelow table (first_id N s + y)) (row class : ℕ) (is_row : row ≡ class_at N s y key factor) (is-class : class ≡ class_at N s y over factor) (A : Adds row class table first) (B : Adds 257 class first second) where
     of-y : (z c : ℕ) → z ≡ y → Of (class_at N s z over factor) c → Of class c
     of-y z c e o = subst (λ (n : ℕ). Of n c) (ap (λ (i : ℕ). class_at N s i over factor) e ∙ sym is-class) o
 
@@ -163,12 +126,12 @@ module _ (N : Network) (s key over factor : ℕ) (words : List ℕ) where
         own z c hz below live hc o (yes l) d = B.stays (class_at N s z key factor) c (A.stays (class_at N s z key factor) c (so_far.own z c hz (omega (arith, l)) live hc o))
         own z c hz below live hc o (no l) (yes e) =
             subst (λ (n : ℕ). Has second n c) (is_row ∙ ap (λ (i : ℕ). class_at N s i key factor) (sym e)) (B.stays row c (A.added c hc (of-y z c e o)))
-        own z c hz below live hc o (no l) (no d) = absurd (none (first_id N s + z) (omega (arith, l, d)) below live)
+        own z c hz below live hc o (no l) (no d) = absurd (omega (arith, l, d, below, behind))
 
         all : (z c : ℕ) → z < size N s → first_id N s + z < h → is_live words (first_id N s + z) ≡ true → c < 256 → Of (class_at N s z over factor) c → Dec (z < y) → Dec (z ≡ y) → Has second 257 c
         all z c hz below live hc o (yes l) d = B.stays 257 c (A.stays 257 c (so_far.all z c hz (omega (arith, l)) live hc o))
         all z c hz below live hc o (no l) (yes e) = B.added c hc (of-y z c e o)
-        all z c hz below live hc o (no l) (no d) = absurd (none (first_id N s + z) (omega (arith, l, d)) below live)
+        all z c hz below live hc o (no l) (no d) = absurd (omega (arith, l, d, below, behind))
 
   -- all of them
   pub reaches_end : (table : List ℕ) (g : ℕ) → first_id N s + size N s ≤ g → ReachesBelow table g → Reaches N s key over factor words table

@@ -12,6 +12,7 @@ ghost use Rattle.narrowing.specs.Sieve.{TupleIn};
 ghost use Rattle.bridging.specs.Bridge.{of_any, of_all, cells, ColumnOr, class_of, class_at, sought_row, raised, Adds, Reaches, Meets, Passes, PassesAt, Narrows, Three, Bridged};
 
 use layout::{Starts, is_any, tuple_start};
+use live::ids::live_ids;
 use live::{Words, clear, next};
 use model::{MAX_WIDTH, Value};
 use narrowing::sieve::{Shared, shared_of, value_at};
@@ -60,11 +61,12 @@ pub fn class_at(
 }
 
 // More bits in a word.
+#[tactic(auto, unfolding(crate::specs::Bridge::raised))]
 fn raise(reached: &mut Reached, word: usize, bits: u64)
     requires { (length reached.old ≡ cells) × (word < cells) }
     ensures { reached.new ≡ raised word bits reached.old }
 {
-    reached[word] = reached[word] | bits;
+    reached[word] |= bits;
 }
 
 // A class more in a row; of any all classes.
@@ -76,10 +78,7 @@ fn add(reached: &mut Reached, row: usize, class: usize)
     if class < OF_ANY {
         raise(reached, at + class / 64, 1u64 << (class % 64));
     } else {
-        raise(reached, at, !0u64);
-        raise(reached, at + 1, !0u64);
-        raise(reached, at + 2, !0u64);
-        raise(reached, at + 3, !0u64);
+        reached[at..at + ROW].fill(!0u64);
     }
 }
 
@@ -101,13 +100,11 @@ fn reached_by(
     let first = tuple_start(starts, s);
     let end = tuple_start(starts, s + 1);
     let mut reached = [0u64; CELLS];
-    let mut g = next(words, first, end);
-    while g < end {
+    for g in live_ids(words, first, end) {
         let row = class_at(variables, values, starts, s, g - first, key, factor);
         let class = class_at(variables, values, starts, s, g - first, over, factor);
         add(&mut reached, row, class);
         add(&mut reached, OF_ALL, class);
-        g = next(words, g + 1, end);
     }
     reached
 }
@@ -128,13 +125,11 @@ fn meet(near: &Reached, far: &Reached, a: usize, b: usize) -> bool
     requires { ((length near.now ≡ cells) × (length far.now ≡ cells)) × ((a ≤ of_all) × (b ≤ of_all)) }
     ensures { Meets near.now far.now a b result }
 {
-    let mut i = 0;
-    while i < ROW {
+    for i in 0..ROW {
         let reached = near[ROW * a + i] | near[ROW * OF_ANY + i];
         if reached & (far[ROW * b + i] | far[ROW * OF_ANY + i]) != 0 {
             return true;
         }
-        i += 1;
     }
     false
 }
@@ -180,6 +175,7 @@ fn keep_passing(
     let first = tuple_start(starts, r);
     let end = tuple_start(starts, r + 1);
     let mut g = next(words, first, end);
+    // stays a while: the loop writes the words that it goes over
     while g < end {
         if !passes(
             variables,

@@ -3,19 +3,19 @@
 use mathlib.Core.Path.{◌≡◌, sym, ap, ap₂, subst, subst₂, ◌∙◌}
 use mathlib.Core.Bool.{Bool, true, false, cond}
 use mathlib.Core.List.{List, ◌∷◌, ◌++◌}
-use Prim.Native.Nat.{ℕ, ◌-◌, ◌*◌, ◌/◌, ◌≤◌, ◌<◌}
+use Prim.Native.Nat.{ℕ, ◌-◌, ◌*◌, ◌/◌, ◌≤◌, ◌<◌, min}
 use native.Mathlib.Decide.{dec_lt}
 use native.Mathlib.Omega.{arith}
 use borrow.Author.Tests.{eq-eqb, ne_eqb}
 use lib.Dec.{eqb}
-use lib.ListN.{length, take, drop, replicate}
-use lib.Seq.{take_all, length-take-le}
+use lib.ListN.{length, get_or, take, drop, replicate, length-replicate}
+use lib.Seq.{take_all, length-take-le, get_or-take}
 use Rattle.model.specs.declared.Answer.TheVariants.{Refused}
 use Rattle.model.specs.Limits.{max_relations, word_bits}
 use Rattle.model.specs.TupleSet.{count, without}
 use Rattle.model.specs.Network.{Network, total}
 use Rattle.model.specs.Consistency.{filtered, needed}
-use Rattle.model.specs.LiveWords.{is_live, living}
+use Rattle.model.specs.LiveWords.{is_live, living, words_for}
 use Rattle.model.specs.Request.{Change, Instance, combinations_of, Request}
 use Rattle.model.specs.Fault.{first_fault, refusal, change_faults, untrue, list_faults, faults_on}
 use Rattle.model.specs.Reply.{Numbers, Reply, answer_numbers, lowest_empty, leaving, reply, test_reply, compare_reply, request}
@@ -24,8 +24,10 @@ use Rattle.model.proofs.LiveCounts.{untrue-same}
 use Rattle.model.proofs.Reply.{reply-fault, accepts-none, refused-not}
 use Rattle.model.proofs.Edges.{reply-cut, test_reply-cut, compare_reply-cut}
 use Rattle.layout.specs.declared.Shape.{Shape}
-use Rattle.layout.specs.Shape.{shape_of, network_of, instance_of}
+use Rattle.layout.specs.Shape.{shape_of, network_of, instance_of, relations_of}
 use Rattle.layout.specs.Setting.{network, instance_in}
+use Rattle.layout.specs.Starts.{tuple_start}
+use Rattle.layout.proofs.SoundStarts.{tuple-count, tuples-few}
 use Rattle.layout.proofs.Relations.{relation-count}
 use Rattle.layout.proofs.Records.{reply-shape_of, test_reply-shape_of, compare_reply-shape_of}
 use Rattle.wire.specs.Entries.{Bytes, entries, entries16, entries32, entries64, bytes, Filled}
@@ -33,9 +35,10 @@ use Rattle.wire.proofs.Entries.{entries-length, entries16-length, entries64-leng
 use Rattle.request.specs.declared.checks.Opening.{Opening}
 use Rattle.request.specs.declared.plan.Plan.{Plan}
 use Rattle.request.specs.Answer.{Covered}
-use Rattle.request.specs.Checks.{CountsChecked}
+use Rattle.request.specs.Checks.{CountsChecked, Opened, test_faults_on}
 use Rattle.request.specs.Plan.{setting_of, Planned, Opens}
-use Rattle.request.proofs.Openings.{opened-front, checked-tested, tested-instance, tested-sound, counted-opened}
+use Rattle.request.proofs.Openings as openings
+use Rattle.request.proofs.Openings.{opened-front, checked-tested, tested-instance, tested-sound, tested-enough, counted-opened}
 use Rattle.changes.specs.Change.{changed}
 use Rattle.changes.specs.Change as changes
 use Rattle.changes.proofs.Changed.{planned-tally, planned-reply, changed-needed, changed-lengths}
@@ -43,16 +46,21 @@ use Rattle.encoding.specs.Records.{records, counts_in, with_counts}
 use Rattle.encoding.specs.Packed.{packed, outcome, encoded, reply_bytes}
 use Rattle.encoding.specs.Call.{ByteBook, byte_network, byte_instance}
 use Rattle.encoding.proofs.Packed.{answer-subject}
-use Rattle.byte_calls.specs.Planned.{few_values, over, written_over, request_in, WholeBytes, Decoded, PlannedOn, OpenedOn}
+use Rattle.byte_calls.specs.Planned.{over, written_over, request_in, WholeBytes, Decoded, PlannedOn, OpenedOn}
 
 -- ---- Lists that are only read
 
--- few values are all that there are, with room for them or with more
-pub few-values : (codes : List ℕ) → length codes ≤ 4 * few_values → take few_values (entries 4 (length codes / 4) codes) ≡ take 32769 (entries 4 (length codes / 4) codes)
-few-values codes h =
-    let l = entries-length 4 (length codes / 4) codes in
-    take_all few_values (entries 4 (length codes / 4) codes) (omega (arith, l, h))
-    ∙ sym (take_all 32769 (entries 4 (length codes / 4) codes) (omega (arith, l, h)))
+-- the values for which there is room are all that there are, or one more than any accepted list has
+pub enough-values : (room : ℕ) (codes : List ℕ) → (room ≤ 32769) × (min 32769 (length codes / 4) ≤ room) → take (length (replicate {A = ℕ} room 0)) (entries 4 (length codes / 4) codes) ≡ take 32769 (entries 4 (length codes / 4) codes)
+enough-values room codes h = rw length-replicate (go (dec_lt room 32769))
+  where
+    l : length (entries 4 (length codes / 4) codes) ≡ length codes / 4
+    l = entries-length 4 (length codes / 4) codes
+
+    go : Dec (room < 32769) → take room (entries 4 (length codes / 4) codes) ≡ take 32769 (entries 4 (length codes / 4) codes)
+    go (yes less) =
+        take_all room (entries 4 (length codes / 4) codes) (omega (arith, l, h.0, h.1)) ∙ sym (take_all 32769 (entries 4 (length codes / 4) codes) (omega (arith, l, h.0, h.1)))
+    go (no all) = let same : room ≡ 32769 = omega (arith, h.0) in rw same
 
 module _ (sheets questions codes : List ℕ) (S : Shape) (Vs Ws : List ℕ) (es : S ≡ shape_of (records sheets)) (ev : Vs ≡ take 513 (entries 2 (length questions / 2) questions)) (ew : Ws ≡ take 32769 (entries 4 (length codes / 4) codes)) where
   module _ (m : ℕ) (combinations C : List ℕ) (ec : C ≡ take 1025 (entries 2 (length combinations / 2) combinations)) where
@@ -89,8 +97,23 @@ over-bytes k j xs ys bs e l =
     ∙ ap (λ (zs : List ℕ). bytes k ys ++ zs) (sym (bytes-behind k j xs bs e))
     ∙ sym (bytes-append k ys (drop j xs))
 
+-- how many words are needed, of those lent
+pub words-needed : (S : Shape) (variables values : List ℕ) (m : ℕ) (members : List ℕ) (lent : ℕ) (o : Opening) (none : o.fault ≡ 0) → Opened o (test_faults_on (instance_of S variables values m members) lent) (relations_of S) → (n w : ℕ) → n ≡ tuple_start o.starts max_relations → w ≡ words_for n
+    → (total (network (openings.asked S variables values m members lent o none)) ≤ word_bits * w) × ((w ≤ 64) × (w ≤ lent))
+words-needed S variables values m members lent o none opened n w counted each =
+    let framed = (tested-sound S variables values m members lent o none opened).laid.framed in
+    let count = counted ∙ tuple-count framed in
+    let bits = tested-enough S variables values m members lent o none opened in
+    (omega (arith, count, each), (omega (arith, count, each, tuples-few framed), omega (arith, count, each, bits)))
+
+pub opened-needed : (S : Shape) (variables values : List ℕ) (m : ℕ) (members marks supports : List ℕ) (o : Opening) (none : o.fault ≡ 0) → OpenedOn o (instance_of S variables values m members) marks supports → (n w : ℕ) → n ≡ tuple_start o.starts max_relations → w ≡ words_for n
+    → (total (network (openings.asked S variables values m members (length marks / 8) o none)) ≤ word_bits * w) × ((w ≤ 64) × (8 * w ≤ length marks))
+opened-needed S variables values m members marks supports o none opened n w counted each =
+    let words = words-needed S variables values m members (length marks / 8) o none (checked-tested S variables values m members (length marks / 8) o none (length supports / 2) opened) n w counted each in
+    (words.0, (words.1.0, omega (arith, words.1.1)))
+
 -- the needed words, decoded to the front of an array
-module _ (w k : ℕ) (marks array : List ℕ) (filled : Filled 8 k (take (8 * w) marks) (replicate 64 0) array) (few : w ≤ 64) (inside : 8 * w ≤ length marks) where
+module _ (w k : ℕ) (marks array : List ℕ) (filled : Filled 8 (entries 8) k (take (8 * w) marks) (replicate 64 0) array) (few : w ≤ 64) (inside : 8 * w ≤ length marks) where
   abbrev part : List ℕ
   part = take (8 * w) marks
 
@@ -110,6 +133,9 @@ module _ (w k : ℕ) (marks array : List ℕ) (filled : Filled 8 k (take (8 * w)
   pub loaded-words : take w array ≡ take w (entries64 marks)
   unfolding entries64
   loaded-words = ap (λ (n : ℕ). take n array) (sym loaded-count) ∙ decoded-part ∙ entries-take 8 w (length marks / 8) marks (omega arith)
+
+  pub loaded-each : (i : ℕ) → i < w → get_or array i 0 ≡ get_or (entries64 marks) i 0
+  loaded-each i h = sym (get_or-take w array i 0 h) ∙ ap (λ (xs : List ℕ). get_or xs i 0) loaded-words ∙ get_or-take w (entries64 marks) i 0 h
 
 -- ---- Refused or accepted
 

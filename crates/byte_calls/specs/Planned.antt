@@ -18,10 +18,6 @@ use Rattle.encoding.specs.Records.{counts_in, with_counts}
 use Rattle.encoding.specs.Packed.{packed, Outcome, outcome, encoded, reply_bytes}
 use Rattle.encoding.specs.Call.{decoded_change, left}
 
--- as many values as a small book has at most, for which less room is cleared
-abbrev pub few_values : ℕ
-few_values = 4096
-
 -- ---- On decoded words, numbers and counts
 
 -- the lists, with the starts planned

@@ -1,14 +1,14 @@
 // The change calls on bytes: decode what is only read and check it, decode the needed words and the counts, check these and plan the
 // change, and make it.
-ghost use Rattle.std.specs.Prelude.{◌≡◌, List, ℕ, true, ◌*◌, ◌/◌, ◌≤◌, length};
+ghost use Rattle.std.specs.Prelude.{◌≡◌, List, ℕ, true, ◌/◌, ◌≤◌, min, length};
 ghost use Rattle.layout.specs.Setting.{SoundLists};
 ghost use Rattle.layout.specs.Shape.{instance_of};
 ghost use Rattle.request.specs.Plan.{lists_from, PlansOn};
 ghost use Rattle.encoding.specs.Call.{byte_book, byte_instance, byte_request, whole_own, decoded_change, KeepsBytes, left};
 ghost use Rattle.byte_calls.specs.Call.{change_in};
-ghost use Rattle.byte_calls.specs.Planned.{few_values, setting_for, Writable, WritesChange, AnswersOn, WholeBytes, PlansBytes, LeavesPlanned, Readable, OpensBytes, AnswersOpened};
+ghost use Rattle.byte_calls.specs.Planned.{setting_for, Writable, WritesChange, AnswersOn, WholeBytes, PlansBytes, LeavesPlanned, Readable, OpensBytes, AnswersOpened};
 
-use super::{FEW_VALUES, NOT_WHOLE};
+use super::{FEW_VALUES, MANY_VALUES, NOT_WHOLE};
 use changes::change;
 use combination::needed;
 use encoding::choices::choices_at;
@@ -22,7 +22,7 @@ use model::{Answer, MAX_SUPPORT_NUMBERS, Value};
 use request::checks::{Opening, checked};
 use request::counts::counted;
 use request::plan::{Plan, plan_choose, plan_choose_several, plan_filter, plan_withdraw};
-use wire::{load16, load32, load64, store16, store64};
+use wire::{load, store};
 
 // Which change call it is; choose with its variable and its value.
 #[derive(Clone, Copy)]
@@ -82,8 +82,8 @@ fn write_change(
         variables, values, &starts, members, m, words, numbers, counts, &removed,
     );
     put_counts(counts, sheets);
-    store64(words, marks);
-    store16(numbers, supports);
+    store(words, marks);
+    store(numbers, supports);
     pack(a)
 }
 
@@ -172,7 +172,7 @@ fn change_opened(
     let word_count = words_for(tuple_count(&starts));
     let count = shape.count;
     let mut words = [0u64; WORDS];
-    load64(&marks[..8 * word_count], &mut words);
+    load(&marks[..8 * word_count], &mut words);
     let mut counts = counts_at(sheets);
     change_counted(
         call,
@@ -220,8 +220,9 @@ fn change_decoded(
     )
 }
 
-// Decodes the lists that are only read, each into room for one entry more than any accepted list has, and makes the call.
-fn change_many(
+// Decodes the lists that are only read, and makes the call. There is room for ROOM values: for all that there are, or for one more than
+// any accepted list has.
+fn change_sized<const ROOM: usize>(
     call: Call,
     sheets: &mut [u8],
     questions: &[u8],
@@ -233,54 +234,16 @@ fn change_many(
     listed: &[u8],
     chosen: &[u8],
 ) -> u64
-    requires { WholeBytes marks.old supports.old }
+    requires { WholeBytes marks.old supports.old × (ROOM ≤ 32769) × (min 32769 (length codes.now / 4) ≤ ROOM) }
     ensures { AnswersOn result (byte_instance (byte_book (λ (l : List ℕ). l) sheets.old questions.now codes.now m combinations.now)) sheets.old sheets.new marks.old marks.new supports.old supports.new (change_in call listed.now chosen.now) }
 {
     let mut variables = [0u16; 513];
-    let mut values = [0u32; 32769];
+    let mut values = [0u32; ROOM];
     let mut members = [0u16; 1025];
     let shape = shape_at(sheets);
-    let variable_count = load16(questions, &mut variables);
-    let value_count = load32(codes, &mut values);
-    let member_count = load16(combinations, &mut members);
-    change_decoded(
-        call,
-        shape,
-        &variables[..variable_count],
-        &values[..value_count],
-        m,
-        &members[..member_count],
-        sheets,
-        marks,
-        supports,
-        listed,
-        chosen,
-    )
-}
-
-// The same where there are few values, with room for these alone.
-fn change_few(
-    call: Call,
-    sheets: &mut [u8],
-    questions: &[u8],
-    codes: &[u8],
-    m: u16,
-    combinations: &[u8],
-    marks: &mut [u8],
-    supports: &mut [u8],
-    listed: &[u8],
-    chosen: &[u8],
-) -> u64
-    requires { WholeBytes marks.old supports.old × (length codes.now ≤ 4 * few_values) }
-    ensures { AnswersOn result (byte_instance (byte_book (λ (l : List ℕ). l) sheets.old questions.now codes.now m combinations.now)) sheets.old sheets.new marks.old marks.new supports.old supports.new (change_in call listed.now chosen.now) }
-{
-    let mut variables = [0u16; 513];
-    let mut values = [0u32; FEW_VALUES];
-    let mut members = [0u16; 1025];
-    let shape = shape_at(sheets);
-    let variable_count = load16(questions, &mut variables);
-    let value_count = load32(codes, &mut values);
-    let member_count = load16(combinations, &mut members);
+    let variable_count = load(questions, &mut variables);
+    let value_count = load(codes, &mut values);
+    let member_count = load(combinations, &mut members);
     change_decoded(
         call,
         shape,
@@ -313,7 +276,7 @@ fn change_bytes(
     ensures { AnswersOn result (byte_instance (byte_book (λ (l : List ℕ). l) sheets.old questions.now codes.now m combinations.now)) sheets.old sheets.new marks.old marks.new supports.old supports.new (change_in call listed.now chosen.now) }
 {
     if codes.len() <= 4 * FEW_VALUES {
-        return change_few(
+        return change_sized::<FEW_VALUES>(
             call,
             sheets,
             questions,
@@ -326,7 +289,7 @@ fn change_bytes(
             chosen,
         );
     }
-    change_many(
+    change_sized::<MANY_VALUES>(
         call,
         sheets,
         questions,

@@ -1,14 +1,13 @@
 // The calls that write nothing, on bytes: decode and run.
-ghost use Rattle.std.specs.Prelude.{◌≡◌, ◌*◌, ◌≤◌, length};
+ghost use Rattle.std.specs.Prelude.{◌≡◌, ◌/◌, ◌≤◌, min, length};
 ghost use Rattle.model.specs.Reply.{test_reply, compare_reply};
 ghost use Rattle.layout.specs.Loan.{entry};
 ghost use Rattle.layout.specs.Shape.{instance_of};
 ghost use Rattle.wire.specs.Entries.{entries64};
 ghost use Rattle.encoding.specs.Packed.{packed_pair};
 ghost use Rattle.encoding.specs.Call.{byte_book, byte_network, byte_instance};
-ghost use Rattle.byte_calls.specs.Planned.{few_values};
 
-use super::FEW_VALUES;
+use super::{FEW_VALUES, MANY_VALUES};
 use consistency::all_supported;
 use encoding::packing::{pack_comparison, pack_verdict};
 use encoding::sheets::shape_at;
@@ -17,7 +16,7 @@ use live::{WORDS, words_for};
 use model::{Value, Verdict};
 use network::comparison::compare;
 use request::checks::test_checked;
-use wire::{load16, load32, load64};
+use wire::load;
 
 // Test, on decoded lists. Only the needed words are decoded.
 fn test_decoded(
@@ -36,15 +35,15 @@ fn test_decoded(
     }
     let starts = opening.starts;
     let mut words = [0u64; WORDS];
-    load64(&marks[..8 * words_for(tuple_count(&starts))], &mut words);
+    load(&marks[..8 * words_for(tuple_count(&starts))], &mut words);
     if all_supported(variables, values, &starts, members, wide(m), &words) {
         return pack_verdict(Verdict::Yes);
     }
     pack_verdict(Verdict::No)
 }
 
-// Test, with room for one entry more than any accepted list has.
-fn test_many(
+// Test, with room for ROOM values: for all that there are, or for one more than any accepted list has.
+fn test_sized<const ROOM: usize>(
     sheets: &[u8],
     questions: &[u8],
     codes: &[u8],
@@ -52,44 +51,16 @@ fn test_many(
     combinations: &[u8],
     marks: &[u8],
 ) -> u64
+    requires { (ROOM ≤ 32769) × (min 32769 (length codes.now / 4) ≤ ROOM) }
     ensures { result ≡ packed_pair (test_reply (byte_instance (byte_book entry sheets questions codes m combinations)) (entries64 marks.now)) }
 {
     let mut variables = [0u16; 513];
-    let mut values = [0u32; 32769];
+    let mut values = [0u32; ROOM];
     let mut members = [0u16; 1025];
     let shape = shape_at(sheets);
-    let variable_count = load16(questions, &mut variables);
-    let value_count = load32(codes, &mut values);
-    let member_count = load16(combinations, &mut members);
-    test_decoded(
-        shape,
-        &variables[..variable_count],
-        &values[..value_count],
-        m,
-        &members[..member_count],
-        marks,
-    )
-}
-
-// The same where there are few values, with room for these alone.
-fn test_few(
-    sheets: &[u8],
-    questions: &[u8],
-    codes: &[u8],
-    m: u16,
-    combinations: &[u8],
-    marks: &[u8],
-) -> u64
-    requires { length codes.now ≤ 4 * few_values }
-    ensures { result ≡ packed_pair (test_reply (byte_instance (byte_book entry sheets questions codes m combinations)) (entries64 marks.now)) }
-{
-    let mut variables = [0u16; 513];
-    let mut values = [0u32; FEW_VALUES];
-    let mut members = [0u16; 1025];
-    let shape = shape_at(sheets);
-    let variable_count = load16(questions, &mut variables);
-    let value_count = load32(codes, &mut values);
-    let member_count = load16(combinations, &mut members);
+    let variable_count = load(questions, &mut variables);
+    let value_count = load(codes, &mut values);
+    let member_count = load(combinations, &mut members);
     test_decoded(
         shape,
         &variables[..variable_count],
@@ -112,39 +83,27 @@ pub fn test_bytes(
     ensures { result ≡ packed_pair (test_reply (byte_instance (byte_book entry sheets questions codes m combinations)) (entries64 marks.now)) }
 {
     if codes.len() <= 4 * FEW_VALUES {
-        return test_few(sheets, questions, codes, m, combinations, marks);
+        return test_sized::<FEW_VALUES>(sheets, questions, codes, m, combinations, marks);
     }
-    test_many(sheets, questions, codes, m, combinations, marks)
+    test_sized::<MANY_VALUES>(sheets, questions, codes, m, combinations, marks)
 }
 
-// Compare, with room for one entry more than any accepted list has.
-fn compare_many(sheets: &[u8], questions: &[u8], codes: &[u8], a: u16, b: u16) -> u64
+// Compare, with room for ROOM values, as test.
+fn compare_sized<const ROOM: usize>(
+    sheets: &[u8],
+    questions: &[u8],
+    codes: &[u8],
+    a: u16,
+    b: u16,
+) -> u64
+    requires { (ROOM ≤ 32769) × (min 32769 (length codes.now / 4) ≤ ROOM) }
     ensures { result ≡ packed_pair (compare_reply (byte_network sheets.now questions.now codes.now) a b) }
 {
     let mut variables = [0u16; 513];
-    let mut values = [0u32; 32769];
+    let mut values = [0u32; ROOM];
     let shape = shape_at(sheets);
-    let variable_count = load16(questions, &mut variables);
-    let value_count = load32(codes, &mut values);
-    pack_comparison(compare(
-        shape,
-        &variables[..variable_count],
-        &values[..value_count],
-        a,
-        b,
-    ))
-}
-
-// The same where there are few values, with room for these alone.
-fn compare_few(sheets: &[u8], questions: &[u8], codes: &[u8], a: u16, b: u16) -> u64
-    requires { length codes.now ≤ 4 * few_values }
-    ensures { result ≡ packed_pair (compare_reply (byte_network sheets.now questions.now codes.now) a b) }
-{
-    let mut variables = [0u16; 513];
-    let mut values = [0u32; FEW_VALUES];
-    let shape = shape_at(sheets);
-    let variable_count = load16(questions, &mut variables);
-    let value_count = load32(codes, &mut values);
+    let variable_count = load(questions, &mut variables);
+    let value_count = load(codes, &mut values);
     pack_comparison(compare(
         shape,
         &variables[..variable_count],
@@ -159,7 +118,7 @@ pub fn compare_bytes(sheets: &[u8], questions: &[u8], codes: &[u8], a: u16, b: u
     ensures { result ≡ packed_pair (compare_reply (byte_network sheets.now questions.now codes.now) a b) }
 {
     if codes.len() <= 4 * FEW_VALUES {
-        return compare_few(sheets, questions, codes, a, b);
+        return compare_sized::<FEW_VALUES>(sheets, questions, codes, a, b);
     }
-    compare_many(sheets, questions, codes, a, b)
+    compare_sized::<MANY_VALUES>(sheets, questions, codes, a, b)
 }

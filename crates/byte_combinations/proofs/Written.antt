@@ -1,8 +1,8 @@
 -- The listing of combinations on bytes: what is written in front of the bytes lent is what the reply to the bytes' book lists.
 -- From the laws of the answer, of entries, and of decoded lists.
-use mathlib.Core.Path.{◌≡◌, refl, sym, ap, ap₂, subst, ◌∙◌}
+use mathlib.Core.Path.{◌≡◌, refl, sym, ap, subst, ◌∙◌}
 use mathlib.Core.List.{List, ◌++◌}
-use Prim.Native.Nat.{ℕ, ◌+◌, ◌*◌, ◌/◌, ◌≤◌}
+use Prim.Native.Nat.{ℕ, ◌*◌, ◌/◌, ◌≤◌}
 use native.Mathlib.Nat.{zero-add}
 use native.Mathlib.Omega.{arith}
 use lib.ListN.{length, take, drop}
@@ -11,7 +11,7 @@ use Rattle.model.specs.declared.Enumeration.{Enumeration}
 use Rattle.model.specs.declared.Enumeration.TheVariants.{Listed, Refused}
 use Rattle.model.specs.Network.{Network}
 use Rattle.model.specs.Edges.{max_member_list}
-use Rattle.model.specs.Enumeration.{enumeration_numbers, EnumerationReply, enumerated, enumeration_reply}
+use Rattle.model.specs.Enumeration.{enumeration_numbers, EnumerationReply, enumeration_reply}
 use Rattle.model.proofs.Edges.{enumeration_reply-cut}
 use Rattle.layout.specs.declared.Shape.{Shape}
 use Rattle.layout.specs.Shape.{shape_of, network_of}
@@ -22,7 +22,7 @@ use Rattle.enumeration.specs.Found.{listed_in, Found}
 use Rattle.enumeration.proofs.Answered.{fits, left}
 use Rattle.encoding.specs.Records.{records}
 use Rattle.encoding.specs.Packed.{packed}
-use Rattle.encoding.specs.Call.{byte_network, listing, Listing, listing_bytes}
+use Rattle.encoding.specs.Call.{byte_network, listing, listing_bytes}
 
 -- ---- What is written
 

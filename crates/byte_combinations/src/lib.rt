@@ -11,7 +11,7 @@ use encoding::sheets::shape_at;
 use enumeration::{MEMBER_LIST, enumerate, listed};
 use layout::{Shape, wide};
 use model::Value;
-use wire::{load16, load32, store16};
+use wire::{load, store};
 
 // The call on decoded lists. The bytes lent are not read.
 fn combinations_decoded(
@@ -33,7 +33,7 @@ fn combinations_decoded(
         &mut found,
     );
     let n = listed(a) * wide(m);
-    store16(&found[..n], combinations);
+    store(&found[..n], combinations);
     pack_enumeration(a)
 }
 
@@ -50,8 +50,8 @@ pub fn combinations_bytes(
     let mut variables = [0u16; 513];
     let mut values = [0u32; 32769];
     let shape = shape_at(sheets);
-    let variable_count = load16(questions, &mut variables);
-    let value_count = load32(codes, &mut values);
+    let variable_count = load(questions, &mut variables);
+    let value_count = load(codes, &mut values);
     combinations_decoded(
         shape,
         &variables[..variable_count],

@@ -14,7 +14,7 @@ use Rattle.model.specs.declared.Moved.{Moved}
 use Rattle.model.specs.declared.Moved.TheVariants.{Done, Refused}
 use Rattle.model.specs.Network.{Network}
 use Rattle.model.specs.Fault.{Fault, network_faults, first_fault}
-use Rattle.model.specs.Moves.{Move, widen, narrow, moved, too_wide_faults, move_faults, MoveReply, moved_numbers, move_to, move_reply, KeepsMove}
+use Rattle.model.specs.Moves.{Move, moved, too_wide_faults, move_faults, MoveReply, moved_numbers, move_to, move_reply, KeepsMove}
 use Rattle.model.specs.Edges.{max_values}
 use Rattle.model.proofs.Fault.{faultless, few-values, first_fault-append-none, first_fault-append-some, first_fault-front, first_fault-back}
 use Rattle.model.proofs.Edges.{Alike, same, faulty, cut_network-alike}
@@ -24,7 +24,7 @@ use Rattle.layout.proofs.Records.{shape_of-alike}
 use Rattle.wire.specs.Entries.{entries, entries16, bytes}
 use Rattle.encoding.specs.Records.{records}
 use Rattle.encoding.specs.Packed.{packed_pair}
-use Rattle.byte_moves.specs.Moves.{taken, given, move_network, MoveOutcome, moved_bytes, whole_moved}
+use Rattle.byte_moves.specs.Moves.{taken, given, move_network, moved_bytes, whole_moved}
 
 -- ---- Faults of networks that are refused alike
 
@@ -80,11 +80,6 @@ module _ (d : Move) where
 packed-done : (a : Moved) → packed_pair (moved_numbers a) ≡ 0 → moved_numbers a ≡ (0, 0)
 packed-done Done e = refl
 packed-done (Refused f) e = absurd (omega arith)
-
--- so many entries fit into so many bytes
-room_for : (d : Move) (n bytes : ℕ) → n ≤ bytes / given d → given d * n ≤ bytes
-room_for widen n bytes h = omega arith
-room_for narrow n bytes h = omega arith
 
 -- ---- A move of decoded lists
 
@@ -157,10 +152,6 @@ module _ (d : Move) (sheets questions codes target : List ℕ) (S : Shape) (Vs W
       done-front =
           ap (λ (p : MoveReply). take k p.target) (reply-is none no-fault)
           ∙ take_at us (drop (length us) zs) k (length-map Ws (moved d) ∙ sym count)
-
-      -- their bytes have room
-      pub done-room : given d * length (take k after) ≤ length target
-      done-room = room_for d (length (take k after)) (length target) (omega (arith, enough, ap length done-front, length-map Ws (moved d)))
 
       pub done-bytes : (last : List ℕ) → last ≡ bytes (given d) (take k after) ++ drop (given d * length (take k after)) target → record { answer = n; target = last } ≡ whole_moved d sheets questions codes target
       unfolding whole_moved

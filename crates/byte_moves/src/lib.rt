@@ -9,7 +9,7 @@ ghost use Rattle.byte_moves.specs.Moves.{whole_moved};
 use encoding::sheets::shape_at;
 use model::{Moved, refusal};
 use moves::{narrow, widen};
-use wire::{load16, load32, store16, store32};
+use wire::{load, store};
 
 // The most values of a network.
 const MOST: usize = 32768;
@@ -32,8 +32,8 @@ pub fn widen_bytes(sheets: &[u8], questions: &[u8], codes: &[u8], target: &mut [
     let mut values = [0u16; 32769];
     let mut moved = [0u32; MOST];
     let shape = shape_at(sheets);
-    let variable_count = load16(questions, &mut variables);
-    let value_count = load16(codes, &mut values);
+    let variable_count = load(questions, &mut variables);
+    let value_count = load(codes, &mut values);
     let n = pack_moved(widen(
         shape,
         &variables[..variable_count],
@@ -46,7 +46,7 @@ pub fn widen_bytes(sheets: &[u8], questions: &[u8], codes: &[u8], target: &mut [
     if target.len() / 4 < value_count {
         return pack_moved(Moved::Refused(refusal::TARGET));
     }
-    store32(&moved[..value_count], target);
+    store::<u32>(&moved[..value_count], target);
     n
 }
 
@@ -58,8 +58,8 @@ pub fn narrow_bytes(sheets: &[u8], questions: &[u8], codes: &[u8], target: &mut 
     let mut values = [0u32; 32769];
     let mut moved = [0u16; MOST];
     let shape = shape_at(sheets);
-    let variable_count = load16(questions, &mut variables);
-    let value_count = load32(codes, &mut values);
+    let variable_count = load(questions, &mut variables);
+    let value_count = load(codes, &mut values);
     let n = pack_moved(narrow(
         shape,
         &variables[..variable_count],
@@ -72,6 +72,6 @@ pub fn narrow_bytes(sheets: &[u8], questions: &[u8], codes: &[u8], target: &mut 
     if target.len() / 2 < value_count {
         return pack_moved(Moved::Refused(refusal::TARGET));
     }
-    store16(&moved[..value_count], target);
+    store::<u16>(&moved[..value_count], target);
     n
 }

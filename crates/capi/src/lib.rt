@@ -18,6 +18,7 @@ use encoding::lengths::{cells_whole, instance_whole, network_whole};
 use model::Value;
 
 // Filters what lives.
+#[tactic(auto, unfolding(byte_calls::specs::Call::change_in))]
 pub fn wakhvosi_filter(
     sheets: &mut [u8],
     questions: &[u8],
@@ -44,6 +45,7 @@ pub fn wakhvosi_filter(
 }
 
 // Withdraws the tuples whose ids are listed, live or dead, and filters what then lives.
+#[tactic(auto, unfolding(byte_calls::specs::Call::change_in, encoding::specs::Call::byte_reply))]
 pub fn wakhvosi_withdraw(
     sheets: &mut [u8],
     questions: &[u8],
@@ -74,6 +76,7 @@ pub fn wakhvosi_withdraw(
 }
 
 // Withdraws every tuple that has another value than `code` under variable `question`, and filters what then lives.
+#[tactic(auto, unfolding(byte_calls::specs::Call::change_in))]
 pub fn wakhvosi_choose(
     sheets: &mut [u8],
     questions: &[u8],
@@ -103,6 +106,7 @@ pub fn wakhvosi_choose(
 
 // Withdraws every tuple that has, under a variable of `chosen_questions`, another value than `chosen_codes` has in the same place, and
 // filters what then lives.
+#[tactic(auto, unfolding(byte_calls::specs::Call::change_in, encoding::specs::Call::byte_reply))]
 pub fn wakhvosi_choose_several(
     sheets: &mut [u8],
     questions: &[u8],
@@ -134,6 +138,7 @@ pub fn wakhvosi_choose_several(
 }
 
 // Whether the live tuples are consistent.
+#[tactic(auto, unfolding(encoding::specs::Call::byte_test))]
 pub fn wakhvosi_test(
     sheets: &[u8],
     questions: &[u8],
@@ -159,6 +164,7 @@ pub fn wakhvosi_test(
 }
 
 // Whether the tuples with ids a and b agree.
+#[tactic(auto, unfolding(encoding::specs::Call::byte_compare))]
 pub fn wakhvosi_compare(sheets: &[u8], questions: &[u8], codes: &[u8], a: u16, b: u16) -> u64
     ensures { ComparedBytes sheets.now questions.now codes.now a b result }
 {
@@ -169,6 +175,7 @@ pub fn wakhvosi_compare(sheets: &[u8], questions: &[u8], codes: &[u8], a: u16, b
 }
 
 // Lists every connected combination of m members, in order, in front of the bytes lent.
+#[tactic(auto, unfolding(encoding::specs::Call::byte_enumeration))]
 pub fn wakhvosi_combinations(
     sheets: &[u8],
     questions: &[u8],
@@ -190,6 +197,7 @@ pub fn wakhvosi_combinations(
 }
 
 // Moves values of two bytes to values of four, to the front of the target.
+#[tactic(auto, unfolding(byte_moves::specs::Moves::byte_move))]
 pub fn wakhvosi_widen(sheets: &[u8], questions: &[u8], codes: &[u8], target: &mut [u8]) -> u64
     ensures { KeepsMoveBytes widen sheets.now questions.now codes.now target.old result target.new }
 {
@@ -200,6 +208,7 @@ pub fn wakhvosi_widen(sheets: &[u8], questions: &[u8], codes: &[u8], target: &mu
 }
 
 // Moves values of four bytes back to values of two.
+#[tactic(auto, unfolding(byte_moves::specs::Moves::byte_move))]
 pub fn wakhvosi_narrow(sheets: &[u8], questions: &[u8], codes: &[u8], target: &mut [u8]) -> u64
     ensures { KeepsMoveBytes narrow sheets.now questions.now codes.now target.old result target.new }
 {

@@ -80,10 +80,6 @@ module _ (G : Setting) (words supports counts removed : List ℕ) (ready : Ready
     pub cut-enough : n ≤ word_bits * length cut
     cut-enough = subst (λ (k : ℕ). n ≤ word_bits * k) (sym cut-length) ready.space.enough
 
-    -- what the filter asks
-    pub cut-room : Room G cut supports
-    cut-room = record { enough = cut-enough; short = ready.space.short; room = ready.space.room }
-
     module _ (final numbers : List ℕ) (done : Filtered G cut supports final numbers) where
       final-words : final ≡ written n kept words
       final-words = done.0 ∙ ap₂ (λ (S : TupleSet) (ws : List ℕ). written n (filtered N cs S) ws) cut-living cuts ∙ written-written n kept rest words

@@ -139,13 +139,6 @@ module _ (ms : List ℕ) (c : Combination) where
     pub connected-meets : absorbed ms c v ≡ v → all (meets ms v) c ≡ connected_in ms c
     connected-meets fixed = iff-eq (all (meets ms v) c) (connected_by (common ms) c) all-connected (connected-all-meet fixed)
 
-  pub connected-none : length c ≡ 0 → connected_in ms c ≡ true
-  connected-none e = none c e
-    where
-      none : (c : Combination) → length c ≡ 0 → connected_in ms c ≡ true
-      none [] e = refl
-      none (r ∷ c) e = absurd (omega arith)
-
 -- ---- Of the masks of a network
 
 module _ (N : Network) (ms : List ℕ) (masks : Masks N ms) where

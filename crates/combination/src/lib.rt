@@ -30,10 +30,8 @@ pub fn mask_of(scope: &[u16]) -> u64
     ensures { (x : ℕ) → is_set result x ≡ elem x scope.now }
 {
     let mut mask: u64 = 0;
-    let mut column = 0;
-    while column < scope.len() {
-        mask = mask | (1u64 << scope[column]);
-        column += 1;
+    for x in scope {
+        mask |= 1u64 << *x;
     }
     mask
 }
@@ -45,12 +43,10 @@ pub fn masks(variables: &[u16], values: &[Value], starts: &Starts) -> Masks
 {
     let count = relation_count(starts);
     let mut sets = [0u64; MAX_RELATIONS];
-    let mut r = 0;
-    while r < count {
+    for r in 0..count {
         let scope = variable_start(starts, r);
         let scope_end = variable_start(starts, r + 1);
         sets[wide(r)] = mask_of(&variables[scope..scope_end]);
-        r += 1;
     }
     sets
 }
@@ -61,13 +57,11 @@ fn absorb(masks: &Masks, members: &[u16], set: u64) -> u64
     ensures { result ≡ absorbed masks.now members.now set }
 {
     let mut grown = set;
-    let mut i = 0;
-    while i < members.len() {
-        let mask = masks[wide(members[i])];
+    for r in members {
+        let mask = masks[wide(*r)];
         if mask & grown != 0 {
-            grown = grown | mask;
+            grown |= mask;
         }
-        i += 1;
     }
     grown
 }
@@ -77,12 +71,10 @@ fn all_meet(masks: &Masks, members: &[u16], set: u64) -> bool
     requires { below max_relations members.now ≡ true }
     ensures { result ≡ all (meets masks.now set) members.now }
 {
-    let mut at = 0;
-    while at < members.len() {
-        if masks[wide(members[at])] & set == 0 {
+    for r in members {
+        if masks[wide(*r)] & set == 0 {
             return false;
         }
-        at += 1;
     }
     true
 }
@@ -92,7 +84,7 @@ fn connected(masks: &Masks, members: &[u16]) -> bool
     requires { all (known masks.now) members.now ≡ true }
     ensures { result ≡ connected_in masks.now members.now }
 {
-    if members.len() == 0 {
+    if members.is_empty() {
         return true;
     }
     let mut reached = masks[wide(members[0])];
@@ -109,38 +101,21 @@ fn connected(masks: &Masks, members: &[u16]) -> bool
 pub fn all_below(count: usize, members: &[u16]) -> bool
     ensures { result ≡ below count members.now }
 {
-    let mut j = 0;
-    while j < members.len() {
-        if count <= wide(members[j]) {
-            return false;
-        }
-        j += 1;
-    }
-    true
+    members.iter().all(|r| wide(*r) < count)
 }
 
 // Whether the members rise.
 fn rising(members: &[u16]) -> bool
     ensures { result ≡ pairwise ltb members.now }
 {
-    let mut i = 1;
-    while i < members.len() {
-        if members[i] <= members[i - 1] {
-            return false;
-        }
-        i += 1;
-    }
-    true
+    members.is_sorted_by(|r, s| *r < *s)
 }
 
 // Whether the members of one combination exist and rise.
 fn proper(count: usize, members: &[u16]) -> bool
     ensures { result ≡ proper count members.now }
 {
-    if !all_below(count, members) {
-        return false;
-    }
-    rising(members)
+    all_below(count, members) && rising(members)
 }
 
 // Whether the members of every combination exist and rise.
@@ -148,15 +123,10 @@ fn all_proper(count: usize, m: usize, members: &[u16]) -> bool
     requires { 1 ≤ m }
     ensures { result ≡ all (proper count) (combinations m members.now) }
 {
-    let mut start = 0;
-    let mut passed = 0;
-    while passed < members.len() / m {
-        let end = start + m;
-        if !proper(count, &members[start..end]) {
+    for c in members.chunks_exact(m) {
+        if !proper(count, c) {
             return false;
         }
-        start = end;
-        passed += 1;
     }
     true
 }
@@ -167,15 +137,10 @@ fn all_connected(masks: &Masks, m: usize, members: &[u16]) -> bool
     requires members_value { all (all (known masks.now)) (combinations m members.now) ≡ true }
     ensures { result ≡ all (connected_in masks.now) (combinations m members.now) }
 {
-    let mut start = 0;
-    let mut k = 0;
-    while k < members.len() / m {
-        let end = start + m;
-        if !connected(masks, &members[start..end]) {
+    for c in members.chunks_exact(m) {
+        if !connected(masks, c) {
             return false;
         }
-        start = end;
-        k += 1;
     }
     true
 }
@@ -214,11 +179,8 @@ pub fn needed(starts: &Starts, members: &[u16], m: u16) -> usize
     ensures { result ≡ needed (outline starts.now) (combinations m members.now) }
 {
     let mut tuples = 0;
-    let mut place = 0;
-    while place < members.len() {
-        let r = members[place];
-        tuples += wide(tuple_start(starts, r + 1) - tuple_start(starts, r));
-        place += 1;
+    for r in members {
+        tuples += wide(tuple_start(starts, *r + 1) - tuple_start(starts, *r));
     }
     tuples * wide(m)
 }

@@ -14,10 +14,10 @@ use Rattle.model.specs.TupleSet.{TupleSet, has}
 use Rattle.model.specs.Network.{Network, size, total, first_id, ids_of}
 use Rattle.model.specs.Combination.{Combination, pair_member}
 use Rattle.model.specs.Support.{candidates, is_support}
-use Rattle.model.specs.LiveWords.{is_live, next_live}
+use Rattle.model.specs.LiveWords.{is_live}
 use Rattle.model.proofs.Bools.{iff-eq, implies-intro, implies-elim, not-both}
 use Rattle.model.proofs.Lists.{all-at, all-intro, any_at, any-intro, from-mem, mem-from}
-use Rattle.model.proofs.LiveWords.{living-length, living-has, next_live-first}
+use Rattle.model.proofs.LiveWords.{living-length, living-has}
 use Rattle.model.proofs.Support.{Supported}
 use Rattle.model.proofs.Consistency.{is_consistent-pairs}
 use Rattle.layout.specs.Setting.{Setting, network, live_in, Sound}
@@ -26,6 +26,7 @@ use Rattle.layout.proofs.SoundStarts.{tuples-few}
 use Rattle.layout.proofs.Pairs.{combination-length, combination-proper, place-below, member-at}
 use Rattle.layout.proofs.Rows.{Row, row-total, row-index, row-id}
 use Rattle.narrowing.specs.Narrows.{Long}
+use Rattle.spreading.specs.Fresh.{Meets}
 use Rattle.support.specs.Search.{Search, SoundSearch}
 use Rattle.lean.specs.Lean.{Lean}
 use Rattle.lean.proofs.Leaner.{pair-asks}
@@ -93,12 +94,24 @@ module _ {G : Setting} (sound : Sound G) (words : List ℕ) where
 
 -- ---- One pair
 
+-- every support in pair p's combination has a fresh tuple beside the member's own, if there is another member
+abbrev pub FreshIn : Setting → ℕ → List ℕ → List ℕ → Type 0
+FreshIn G p words fresh = Long fresh × (1 < length (combination_of G p) → Meets (network G) (combination_of G p) (p % G.m) words fresh)
+
+-- the words over which its tuples seek their supports
+abbrev pub LeanIn : Setting → ℕ → List ℕ → List ℕ → Type 0
+LeanIn G p words lean = Lean G.lists (combination_of G p) (p % G.m) words lean
+
+-- every live tuple of pair p's member before id g has a support
+abbrev pub Passed : Setting → List ℕ → ℕ → ℕ → ℕ → Type 0
+Passed G words p first g = (i : ℕ) → first ≤ i → i < g → has (live_in G words) i ≡ true → Supported (network G) (live_in G words) (combination_of G p) i
+
 -- The walk over the ids of pair p's member has come to id g, which is live or the end: every live tuple before it has a support.
 pub record WalkAt (G : Setting) (words : List ℕ) (p first end g : ℕ) : Type 0 where
   pub from_first : first ≤ g
   pub to_end : g ≤ end
   pub lives : g < end → has (live_in G words) g ≡ true
-  pub passed : (i : ℕ) → first ≤ i → i < g → has (live_in G words) i ≡ true → Supported (network G) (live_in G words) (combination_of G p) i
+  pub passed : Passed G words p first g
 
 module _ {G : Setting} (words : List ℕ) {p first end : ℕ} (long : Long words) (row : Row G p first end) where
   abbrev N : Network
@@ -116,25 +129,19 @@ module _ {G : Setting} (words : List ℕ) {p first end : ℕ} (long : Long words
   pub words-enough : total N ≤ word_bits * length words
   words-enough = omega (arith, long, tuples-few row.sound.laid.framed)
 
-  -- from i on to the next that lives
-  walk-next : (i : ℕ) → first ≤ i → i ≤ end → ((j : ℕ) → first ≤ j → j < i → has S j ≡ true → Supported N S c j) → WalkAt G words p first end (next_live words i end)
-  walk-next i low high before =
-      let f = next_live-first words i end high in
+  -- all before `at` are passed, and none lives from there to g
+  pub walk-at : {at g : ℕ} → Passed G words p first at → first ≤ at → at ≤ g → g ≤ end → (g < end → is_live words g ≡ true) → ((i : ℕ) → at ≤ i → i < g → is_live words i ≡ false) → WalkAt G words p first end g
+  walk-at {at} {g} before low here high live none =
       record {
-        from_first = omega (arith, f.from-i);
-        to_end = f.to_end;
-        lives = λ l. living-has (total N) words (next_live words i end) (omega (arith, row-total row)) ∙ f.passes l;
-        passed = λ j k l e. earlier j k l e (dec_lt j i);
+        from_first = omega (arith, low, here);
+        to_end = high;
+        lives = λ l. living-has (total N) words g (omega (arith, l, row-total row)) ∙ live l;
+        passed = λ j k l e. earlier j k l e (dec_lt j at);
       }
     where
-      earlier : (j : ℕ) → first ≤ j → j < next_live words i end → has S j ≡ true → Dec (j < i) → Supported N S c j
+      earlier : (j : ℕ) → first ≤ j → j < g → has S j ≡ true → Dec (j < at) → Supported N S c j
       earlier j k l e (yes b) = before j k b e
-      earlier j k l e (no b) =
-          let f = next_live-first words i end high in
-          absurd (not-both e (living-has (total N) words j (omega (arith, f.to_end, row-total row)) ∙ f.none_before j (omega arith) l))
-
-  pub walk-starts : WalkAt G words p first end (next_live words first end)
-  walk-starts = walk-next first (omega arith) (omega (arith, row.is-end)) (λ j k l _. absurd (omega arith))
+      earlier j k l e (no b) = absurd (not-both e (living-has (total N) words j (omega (arith, l, high, row-total row)) ∙ none j (omega (arith, b)) l))
 
   module _ {g : ℕ} (w : WalkAt G words p first end g) where
     -- every tuple has a support
@@ -202,8 +209,8 @@ module _ {G : Setting} (words : List ℕ) {p first end : ℕ} (long : Long words
           consistent_in-not N S c (pair_member G.members p) g m (w.lives b) (sym (e ∙ searched-is))
 
       -- there is one
-      pub walk-goes : true ≡ has_support (searched words) → WalkAt G words p first end (next_live words (g + 1) end)
-      walk-goes e = walk-next (g + 1) (omega (arith, w.from_first)) (omega arith) (λ j l m a. before j l a (dec_lt j g) m)
+      pub walk-goes : true ≡ has_support (searched words) → Passed G words p first (g + 1)
+      walk-goes e = λ j l m a. before j l a (dec_lt j g) m
         where
           before : (j : ℕ) → first ≤ j → has S j ≡ true → Dec (j < g) → j < g + 1 → Supported N S c j
           before j l a (yes d) m = w.passed j l d a

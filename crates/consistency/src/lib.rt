@@ -13,7 +13,8 @@ ghost use Rattle.consistency.specs.Consistent.{lowest, has_support, PairAt, pair
 
 use layout::{Shape, Starts, tuple_count, tuple_start, wide};
 use lean::lean_once_hard;
-use live::{WORDS, Words, copied, next, words_for};
+use live::ids::live_ids;
+use live::{WORDS, Words, copied, words_for};
 use model::{MAX_MEMBERS, Value, Verdict};
 use request::checks::test_checked;
 use spreading::steps::{steps_of_pair, steps_once_hard};
@@ -76,8 +77,7 @@ fn pair_supported(
     let mut fresh = [!0u64; WORDS];
     let mut candidates = [0u64; WORDS];
     let mut spare = [0u64; WORDS];
-    let mut g = next(words, first, end);
-    while g < end {
+    for g in live_ids(words, first, end) {
         let kind = has_support(
             variables,
             values,
@@ -116,7 +116,6 @@ fn pair_supported(
             tried,
             steps,
         );
-        g = next(words, g + 1, end);
     }
     true
 }
@@ -135,14 +134,9 @@ pub fn all_supported(
 {
     let mut index = [0u64; INDEX];
     index_all(variables, values, starts, &mut index);
-    let mut p = 0;
-    while p < members.len() {
-        if !pair_supported(variables, values, starts, &index, words, members, m, p) {
-            return false;
-        }
-        p += 1;
-    }
-    true
+    (0..members.len()).all(|p| pair_supported(
+        variables, values, starts, &index, words, members, m, p,
+    ))
 }
 
 // Whether the live tuples are consistent: each has a support in every combination that holds its relation.

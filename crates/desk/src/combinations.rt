@@ -25,10 +25,8 @@ fn widened(members: &[u16], into: &mut [u32])
     requires { length members.now ≤ length into.old }
     ensures { take (length members.now) into.new ≡ members.now }
 {
-    let mut i = 0;
-    while i < members.len() {
-        into[i] = members[i] as u32;
-        i += 1;
+    for (i, member) in members.iter().enumerate() {
+        into[i] = u32::from(*member);
     }
 }
 

@@ -64,10 +64,8 @@ fn copied(fields: &[u32], into: &mut [u16])
     requires { (small max_field fields.now ≡ true) × (length fields.now ≤ length into.old) }
     ensures { take (length fields.now) into.new ≡ fields.now }
 {
-    let mut i = 0;
-    while i < fields.len() {
-        into[i] = fields[i] as u16;
-        i += 1;
+    for (i, field) in fields.iter().enumerate() {
+        into[i] = *field as u16;
     }
 }
 

@@ -1,25 +1,16 @@
 -- Laws of the table by which doubles are found: how a tuple is entered.
 -- From the laws of lists.
-use mathlib.Core.Path.{◌≡◌, refl, sym, ◌∙◌, ap}
+use mathlib.Core.Path.{◌≡◌, refl, sym, ◌∙◌}
 use mathlib.Core.Logic.{◌⊎◌, inl, inr, ⊎_elim}
 use mathlib.Core.List.{List}
-use Prim.Native.Nat.{ℕ, ◌<◌}
-use native.Mathlib.Decide.{ℕ_discrete}
+use Prim.Native.Nat.{ℕ}
 use native.Mathlib.Omega.{arith}
-use lib.ListN.{length, get_or, set, length-set}
-use lib.Seq.{get_or-set_same, get_or-set_other}
+use lib.ListN.{get_or}
 use Rattle.layout.specs.Setting.{Lists}
 use Rattle.doubles.specs.Doubles.{Entered, FirstAlike}
 
 pub entered-none : (x : ℕ) (table : List ℕ) → Entered x table table
 entered-none x table = (refl, λ i. inl refl)
-
-pub entered_at : (x k : ℕ) (table : List ℕ) → k < length table → Entered x table (set table k x)
-entered_at x k table h = (length-set table k x, λ i. go i (ℕ_discrete i k))
-  where
-    go : (i : ℕ) → Dec (i ≡ k) → (get_or (set table k x) i 0 ≡ get_or table i 0) ⊎ (get_or (set table k x) i 0 ≡ x)
-    go i (yes e) = inr (ap (λ (n : ℕ). get_or (set table k x) n 0) e ∙ get_or-set_same table k x 0 h)
-    go i (no d) = inl (get_or-set_other table k i x 0 d)
 
 module _ (x : ℕ) (before between after : List ℕ) (first : Entered x before between) where
   -- one time after the other

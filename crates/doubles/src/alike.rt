@@ -48,12 +48,10 @@ pub fn variables_from(
     ensures { CoversFrom (network_in (lists entry variables values starts)) members.now place from (is_set result) }
 {
     let mut common: u64 = 0;
-    let mut j = from;
-    while j < members.len() {
+    for j in from..members.len() {
         if j != place {
-            common = common | variables_of(variables, values, starts, members[j]);
+            common |= variables_of(variables, values, starts, members[j]);
         }
-        j += 1;
     }
     common
 }
@@ -65,14 +63,10 @@ fn equal_in(scope: &[u16], a: &[Value], b: &[Value], common: u64) -> bool
     requires { (length scope.now ≡ length a.now) × (length scope.now ≡ length b.now) }
     ensures { result ≡ true → under (is_set common) (cells scope.now a.now) ≡ under (is_set common) (cells scope.now b.now) }
 {
-    let mut c = 0;
-    while c < scope.len() {
-        if has_variable(common, scope[c]) {
-            if a[c] != b[c] {
-                return false;
-            }
+    for (c, v) in scope.iter().enumerate() {
+        if has_variable(common, *v) && a[c] != b[c] {
+            return false;
         }
-        c += 1;
     }
     true
 }

@@ -28,7 +28,7 @@ fn mixed(hash: u64, value: Value) -> u64
     requires { hash < hash_bound }
     ensures { result < hash_bound }
 {
-    let product = (hash + value as u64) * SPREAD;
+    let product = (hash + u64::from(value)) * SPREAD;
     (product / 4294967296 + product % 4294967296) % 4294967296
 }
 
@@ -38,12 +38,10 @@ fn hash_in(scope: &[u16], tuple: &[Value], common: u64, seed: u64) -> usize
     ensures { result < places }
 {
     let mut hash = seed;
-    let mut c = 0;
-    while c < scope.len() {
-        if has_variable(common, scope[c]) {
+    for (c, v) in scope.iter().enumerate() {
+        if has_variable(common, *v) {
             hash = mixed(hash, tuple[c]);
         }
-        c += 1;
     }
     (hash / 2097152) as usize
 }
@@ -146,8 +144,7 @@ pub fn first_alike(
     requires { TupleAt (lists (λ x. x.now) variables values starts) r x × (length table.old ≡ places) }
     ensures { FirstAlike (lists entry variables values starts) common r x table.old result table.new }
 {
-    let place = tuple_hash(variables, values, starts, r, x, common, 0);
-    alike_by(variables, values, starts, table, r, x, common, place)
+    alike_from(variables, values, starts, table, r, x, common, 0)
 }
 
 // The same by a hash that begins with the seed.

@@ -7,7 +7,7 @@ use native.Mathlib.Nat.{zero-add, not-suc-le-zero}
 use native.Mathlib.Numerals.{add-one}
 use native.Mathlib.Omega.{arith}
 use lib.ListN.{length, take, drop, get_or, set, replicate, length-append, length-drop, length-map, take-append-drop}
-use lib.Seq.{length-take-le, take-add, take-take, take_at, drop_at, drop-drop, take-length, take-append-le, take-append-add, drop-append-add, ext_get_or}
+use lib.Seq.{length-take-le, take-add, take-take, take_at, drop_at, drop-drop, take-append-le, take-append-add, drop-append-add, ext_get_or}
 use Rattle.model.specs.Limits.{max_relations}
 use Rattle.model.specs.Lists.{from}
 use Rattle.model.proofs.Lists.{length_from, get_d-map-from}
@@ -175,33 +175,11 @@ put-later r x p q e =
     ∙ ap (λ (l : List ℕ). l ++ behind) (append_assoc p before (bytes_of 2 x))
     ∙ append_assoc p (before ++ bytes_of 2 x) behind
 
-put_count : (r : ℕ) (bs counts : List ℕ) → r < length counts → 6 * length counts ≤ length bs → put 2 (3 * r + 2) (get_or counts r 0) (with_counts bs (take r counts)) ≡ with_counts bs (take (r + 1) counts)
+-- one count more
+pub put_count : (r : ℕ) (bs counts : List ℕ) → r < length counts → 6 * length counts ≤ length bs → put 2 (3 * r + 2) (get_or counts r 0) (with_counts bs (take r counts)) ≡ with_counts bs (take (r + 1) counts)
 put_count r bs [] l h = absurd (not-suc-le-zero l)
 put_count zero bs (n ∷ counts) l h = refl
 put_count (suc r) bs (n ∷ counts) l h =
     put-later r (get_or counts r 0) (front bs n) (with_counts (drop 6 bs) (take r counts)) (front_length bs n (omega arith))
     ∙ ap (λ (rest : List ℕ). front bs n ++ rest) (put_count r (drop 6 bs) counts (omega arith) (omega (arith, length-drop 6 bs)))
     ∙ rw (add-one, add-one)
-
--- The bytes hold the first r counts, and else what they held at the start, d₀.
-pub record Written (counts d₀ : List ℕ) (r : ℕ) (d : List ℕ) : Type 0 where
-  pub within : r ≤ length counts
-  pub kept : length d ≡ length d₀
-  pub holds : d ≡ with_counts d₀ (take r counts)
-
-pub written_start : (counts d : List ℕ) → Written counts d 0 d
-written_start counts d = record { within = omega arith; kept = refl; holds = refl }
-
-pub written_next : (counts d₀ : List ℕ) (r : ℕ) (d d' : List ℕ) → Written counts d₀ r d → 6 * length counts ≤ length d₀ → r < length counts → d' ≡ put 2 (3 * r + 2) (get_or counts r 0) d → Written counts d₀ (r + 1) d'
-written_next counts d₀ r d d' w room more wrote =
-    let holds = wrote ∙ ap (put 2 (3 * r + 2) (get_or counts r 0)) w.holds ∙ put_count r d₀ counts more room in
-    record {
-      within = omega arith;
-      kept = ap length holds ∙ written-length d₀ (take (r + 1) counts) (omega (arith, room, length-take-le (r + 1) counts (omega arith)));
-      holds = holds;
-    }
-
-pub written-end : (counts d₀ : List ℕ) (r : ℕ) (d : List ℕ) → Written counts d₀ r d → length counts ≤ r → d ≡ with_counts d₀ counts
-written-end counts d₀ r d w all =
-    let same : r ≡ length counts = omega (arith, w.within) in
-    w.holds ∙ ap (λ (k : ℕ). with_counts d₀ (take k counts)) same ∙ ap (with_counts d₀) (take-length counts)

@@ -1,18 +1,10 @@
 -- Laws of tests that all have to hold. From the definition of the conjunction.
-use mathlib.Core.Path.{◌≡◌, sym, ap, ◌∙◌}
-use mathlib.Core.Bool.{Bool, true, ◌&&◌}
+use mathlib.Core.Path.{◌≡◌}
+use mathlib.Core.Bool.{true, ◌&&◌}
 use Prim.Native.Nat.{ℕ, ◌%◌}
 use borrow.Author.Tests.{eqb-true}
 use Rattle.model.proofs.Bools.{and_left, and_right}
 use Rattle.encoding.specs.Whole.{whole, whole_cells, whole_network, whole_instance, whole_change}
-
--- where the first holds, the second decides
-pub second : {a : Bool} (x : Bool) → a ≡ true → x ≡ (a && x)
-second x e = sym (ap (λ (d : Bool). d && x) e)
-
--- where the first two hold, the third decides
-pub third : {a b : Bool} (x : Bool) → a ≡ true → b ≡ true → x ≡ (a && (b && x))
-third {b = b} x e f = sym (ap (λ (d : Bool). d && (b && x)) e ∙ ap (λ (d : Bool). d && x) f)
 
 -- whole lists have a whole number of records
 pub whole-records : (sheets questions codes combinations marks supports : ℕ) → whole_change sheets questions codes combinations marks supports ≡ true → sheets % 6 ≡ 0

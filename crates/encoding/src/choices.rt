@@ -4,7 +4,7 @@ ghost use Rattle.wire.specs.Entries.{entries16, entries32};
 
 use model::{ANY_VALUE, VARIABLES};
 use request::choices::{Choices, add_choice, lesser};
-use wire::{u16_at, u32_at};
+use wire::Entry;
 
 // The pairs of two lists.
 pub fn choices_at(questions: &[u8], codes: &[u8]) -> Choices
@@ -16,12 +16,10 @@ pub fn choices_at(questions: &[u8], codes: &[u8]) -> Choices
     let mut firsts = [ANY_VALUE; VARIABLES];
     let mut seconds = [ANY_VALUE; VARIABLES];
     let mut bound = 0;
-    let mut i = 0;
-    while i < count {
-        let x = u16_at(questions, i);
-        let v = u32_at(codes, i);
+    for i in 0..count {
+        let x = u16::at(questions, i);
+        let v = u32::at(codes, i);
         bound = add_choice(&mut firsts, &mut seconds, bound, x, v);
-        i += 1;
     }
     Choices {
         variables,

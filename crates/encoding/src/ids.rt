@@ -4,7 +4,7 @@ ghost use Rattle.wire.specs.Entries.{entries16};
 
 use live::WORDS;
 use request::removal::{Ids, add};
-use wire::u16_at;
+use wire::Entry;
 
 // The ids of a list.
 pub fn ids_at(ids: &[u8]) -> Ids
@@ -13,10 +13,8 @@ pub fn ids_at(ids: &[u8]) -> Ids
     let n = ids.len() / 2;
     let mut words = [0u64; WORDS];
     let mut bound = 0;
-    let mut i = 0;
-    while i < n {
-        bound = add(&mut words, bound, u16_at(ids, i));
-        i += 1;
+    for i in 0..n {
+        bound = add(&mut words, bound, u16::at(ids, i));
     }
     Ids { words, bound }
 }

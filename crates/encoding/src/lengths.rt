@@ -7,30 +7,21 @@ ghost use Rattle.encoding.specs.Whole.{whole_cells, whole_network, whole_instanc
 pub fn cells_whole(questions: usize, codes: usize) -> bool
     ensures { result ≡ whole_cells questions codes }
 {
-    if questions % 2 != 0 {
-        return false;
-    }
-    codes % 4 == 0
+    questions % 2 == 0 && codes % 4 == 0
 }
 
 // Tests the three lists of a network.
 pub fn network_whole(sheets: usize, questions: usize, codes: usize) -> bool
     ensures { result ≡ whole_network sheets questions codes }
 {
-    if sheets % 6 != 0 {
-        return false;
-    }
-    cells_whole(questions, codes)
+    sheets % 6 == 0 && cells_whole(questions, codes)
 }
 
 // Tests the lists of a network and the list of its combinations.
 pub fn instance_whole(sheets: usize, questions: usize, codes: usize, combinations: usize) -> bool
     ensures { result ≡ whole_instance sheets questions codes combinations }
 {
-    if !network_whole(sheets, questions, codes) {
-        return false;
-    }
-    combinations % 2 == 0
+    network_whole(sheets, questions, codes) && combinations % 2 == 0
 }
 
 // Tests every list of a change call but the change's own.
@@ -44,11 +35,5 @@ pub fn change_whole(
 ) -> bool
     ensures { result ≡ whole_change sheets questions codes combinations marks supports }
 {
-    if !instance_whole(sheets, questions, codes, combinations) {
-        return false;
-    }
-    if marks % 8 != 0 {
-        return false;
-    }
-    supports % 2 == 0
+    instance_whole(sheets, questions, codes, combinations) && marks % 8 == 0 && supports % 2 == 0
 }

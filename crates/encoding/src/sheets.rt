@@ -6,7 +6,7 @@ ghost use Rattle.encoding.specs.Records.{records, counts_in, with_counts};
 
 use layout::Shape;
 use model::MAX_RELATIONS;
-use wire::{least, put_u16, u16_at};
+use wire::{Entry, least};
 
 // The relation records taken apart.
 pub fn shape_at(sheets: &[u8]) -> Shape
@@ -16,11 +16,9 @@ pub fn shape_at(sheets: &[u8]) -> Shape
     let first = least(count, MAX_RELATIONS);
     let mut widths = [0u16; 64];
     let mut tuples = [0u16; 64];
-    let mut r = 0;
-    while r < first {
-        widths[r] = u16_at(sheets, 3 * r);
-        tuples[r] = u16_at(sheets, 3 * r + 1);
-        r += 1;
+    for r in 0..first {
+        widths[r] = u16::at(sheets, 3 * r);
+        tuples[r] = u16::at(sheets, 3 * r + 1);
     }
     Shape {
         count,
@@ -35,10 +33,8 @@ pub fn counts_at(sheets: &[u8]) -> [u16; 64]
 {
     let first = least(sheets.len() / 6, MAX_RELATIONS);
     let mut counts = [0u16; 64];
-    let mut r = 0;
-    while r < first {
-        counts[r] = u16_at(sheets, 3 * r + 2);
-        r += 1;
+    for r in 0..first {
+        counts[r] = u16::at(sheets, 3 * r + 2);
     }
     counts
 }
@@ -48,9 +44,7 @@ pub fn put_counts(counts: &[u16], sheets: &mut [u8])
     requires { 6 * length counts.now ≤ length sheets.old }
     ensures { sheets.new ≡ with_counts sheets.old counts.now }
 {
-    let mut r = 0;
-    while r < counts.len() {
-        put_u16(sheets, 3 * r + 2, counts[r]);
-        r += 1;
+    for (r, count) in counts.iter().enumerate() {
+        count.put(sheets, 3 * r + 2);
     }
 }

@@ -42,9 +42,6 @@ module _ (start first g end m : ℕ) (from : first ≤ g) (below : g < end) wher
   next-inside = let l : g + 1 - first ≤ end - first = omega arith in omega (arith, mul-le-mul_right m l)
 
 module _ (m at g : ℕ) (words numbers : List ℕ) where
-  pub blank_none : Blank m at g 0 words numbers numbers
-  blank_none = record { long = refl; before = refl; after = refl; «at_each» = λ x h. absurd (omega arith) }
-
   -- the same place, first id and number of tuples, told otherwise
   pub blank-as : (at' g' n n' : ℕ) (after : List ℕ) → at ≡ at' → g ≡ g' → n ≡ n' → Blank m at g n words numbers after → Blank m at' g' n' words numbers after
   blank-as at' g' n n' after e f q b =
@@ -103,9 +100,6 @@ part-before (suc a) (suc b) k [] h = refl
 part-before (suc a) (suc b) k (x ∷ xs) h = part-before a b k xs (omega arith)
 
 module _ (N : Network) (m : ℕ) (members words numbers : List ℕ) where
-  pub blanked-none : Blanked N m members 0 words numbers numbers
-  blanked-none = record { long = refl; after = refl; «at_each» = λ p x h. absurd (omega arith) }
-
   module _ (p : ℕ) (h : p < length members) (now next : List ℕ) (sofar : Blanked N m members p words numbers now) (done : Blank m (support_start N m members p) (first_id N (pair_member members p)) (size N (pair_member members p)) words now next) where
     abbrev start : ℕ → ℕ
     start = support_start N m members

@@ -25,7 +25,7 @@ use Rattle.model.proofs.TupleSet.{restrict-has, restrict-inside, restrict-test}
 use Rattle.model.proofs.Network.{ids-below}
 use Rattle.model.proofs.Support.{is_support-self, is_support-agree, is_support-mono, first_support-least, first_support-length, first_support-earliest}
 use Rattle.model.proofs.LiveWords.{cleared-length, living-cleared, cleared-count, living-has}
-use Rattle.model.proofs.Work.{Unused, first_support-without, supported-without, unused-unsupported, unused-elsewhere, unused-sibling, filtered-remove}
+use Rattle.model.proofs.Work.{Unused, first_support-without, supported-without, unused-unsupported, unused-elsewhere, unused-sibling}
 use Rattle.model.proofs.Twins.{partners-supported}
 use Rattle.worklist.specs.Pairs.{queues}
 use Rattle.worklist.proofs.Stretch.{replaced, replaced-length, replaced-here, replaced-after, replaced-elsewhere}

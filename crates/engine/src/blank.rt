@@ -13,14 +13,12 @@ fn blank_dead(words: &[u64], numbers: &mut [u16], m: u16, first: u16, end: u16, 
     ensures { Blank m start first (end - first) words.now numbers.old numbers.new }
 {
     let each = wide(m);
-    let mut g = first;
     let mut at = start;
-    while g < end {
+    for g in first..end {
         if !live::is_live(words, g) {
             blank(numbers, at, each);
         }
         at += each;
-        g += 1;
     }
 }
 
@@ -36,12 +34,9 @@ pub fn blank_all(
     requires { BlankAllAsks starts.now m members.now pair_starts.now words.now numbers.old }
     ensures { Blanked (outline starts.now) m members.now (length members.now) words.now numbers.old numbers.new }
 {
-    let mut p = 0;
-    while p < members.len() {
-        let r = members[p];
-        let first = tuple_start(starts, r);
-        let end = tuple_start(starts, r + 1);
+    for (p, r) in members.iter().enumerate() {
+        let first = tuple_start(starts, *r);
+        let end = tuple_start(starts, *r + 1);
         blank_dead(words, numbers, m, first, end, wide(pair_starts[p]));
-        p += 1;
     }
 }

@@ -6,7 +6,8 @@ ghost use Rattle.layout.specs.Setting.{setting};
 ghost use Rattle.engine.specs.Rest.{HeldAt, SeekingAt, Seeking, RestAt, Rested};
 
 use layout::{Starts, tuple_start, wide};
-use live::{WORDS, Words, next, put_back, set};
+use live::ids::live_ids;
+use live::{WORDS, Words, put_back, set};
 use model::{NO_SUPPORT, Value};
 use support::HARD;
 use together::seek_together;
@@ -49,13 +50,11 @@ fn seeking(
     ensures { Seeking words.now from result }
 {
     let mut pending = [0u64; WORDS];
-    let mut g = next(words, from, end);
-    while g < end {
+    for g in live_ids(words, from, end) {
         let at = start + wide(g - first) * each;
         if !holds(starts, members, base, each, words, numbers, at) {
             set(&mut pending, g);
         }
-        g = next(words, g + 1, end);
     }
     pending
 }

@@ -328,6 +328,7 @@ pub fn visit(
     let mut waiting = queue;
     let mut shrunk = false;
     let mut g = next(words, first, end);
+    // stays a while: the loop writes the words that it goes over
     while g < end {
         let x = g - first;
         let at = start + wide(x) * wide(m);

@@ -1,9 +1,9 @@
 -- The answer of the call by what was found, and what is then left in the list lent. From the order of the faults.
 use mathlib.Core.Path.{◌≡◌, refl, sym, ◌∙◌, ap, ap₂, subst}
-use mathlib.Core.Bool.{Bool, true, false, not}
+use mathlib.Core.Bool.{true, false, not}
 use mathlib.Core.Option.{Option, none, some, some-ne-none}
 use mathlib.Core.List.{List, [], ◌∷◌, ◌++◌, Memᴰ}
-use Prim.Native.Nat.{ℕ, ◌+◌, ◌*◌, ◌≤◌, ◌<◌}
+use Prim.Native.Nat.{ℕ, ◌*◌, ◌≤◌, ◌<◌}
 use native.Mathlib.Nat.{zero-mul, zero-add, mul-le-mul}
 use native.Mathlib.Omega.{arith}
 use borrow.Author.Tests.{leb-true, lt-ltb, le-ltb, ltb-false, not-false}
@@ -17,8 +17,8 @@ use Rattle.model.specs.Edges.{max_member_list}
 use Rattle.model.specs.Network.{Network}
 use Rattle.model.specs.Combination.{Combination}
 use Rattle.model.specs.Fault.{Fault, first_fault, within, network_faults}
-use Rattle.model.specs.Enumeration.{connected_combinations, end_to_end, enumeration_faults, EnumerationReply, enumerated, enumeration_reply, enumeration_for}
-use Rattle.model.proofs.Bools.{and_left, and_right}
+use Rattle.model.specs.Enumeration.{connected_combinations, end_to_end, enumeration_faults, enumerated, enumeration_reply, enumeration_for}
+use Rattle.model.proofs.Bools.{and_right}
 use Rattle.model.proofs.Lists.{here}
 use Rattle.model.proofs.Fault.{fault-here, fault-next, no-fault-at, first_fault-append-none, first_fault-append-some, first_fault-back}
 use Rattle.enumeration.specs.Adds.{Adds}

@@ -1,15 +1,15 @@
 -- The completions of members chosen: those with the next relation first, then those without it; none where some set has no relation
 -- left; and of no members at all the connected combinations. From the laws of choices and of members reached.
-use mathlib.Core.Path.{◌≡◌, refl, sym, ◌∙◌, ap, ap₂, subst}
+use mathlib.Core.Path.{◌≡◌, refl, sym, ◌∙◌, ap, subst}
 use mathlib.Core.Bool.{Bool, true, false, not, cond}
 use mathlib.Core.List.Memᴰ
 use mathlib.Core.List.{List, [], ◌∷◌, ◌++◌, map, Memᴰ}
-use Prim.Native.Nat.{ℕ, zero, suc, ◌+◌, ◌-◌, ◌/◌, ◌^◌, ◌≤◌, ◌<◌}
+use Prim.Native.Nat.{ℕ, suc, ◌+◌, ◌-◌, ◌/◌, ◌^◌, ◌≤◌, ◌<◌}
 use native.Mathlib.Omega.{arith}
 use borrow.Author.Tests.{eqb-true, not-false}
 use lib.Dec.{eqb}
 use lib.ListN.{length, get_or, length-append, length-map}
-use Rattle.model.specs.Lists.{from, all, select}
+use Rattle.model.specs.Lists.{from, select}
 use Rattle.model.specs.Network.{Network}
 use Rattle.model.specs.Agreement.{share}
 use Rattle.model.specs.Combination.{Combination, connected}

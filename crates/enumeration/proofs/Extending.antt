@@ -1,5 +1,5 @@
 -- The combinations that complete the first k of m members: with one more relation chosen, and without it. From the laws of completions.
-use mathlib.Core.Path.{◌≡◌, sym, ◌∙◌, ap, ap₂, subst}
+use mathlib.Core.Path.{◌≡◌, sym, ◌∙◌, ap, ap₂}
 use mathlib.Core.Bool.{false}
 use mathlib.Core.List.{List, [], ◌∷◌, ◌++◌, map, map-map, map-append, append_assoc}
 use Prim.Native.Nat.{ℕ, zero, suc, ◌+◌, ◌-◌, ◌≤◌, ◌<◌}
@@ -15,8 +15,6 @@ use Rattle.model.proofs.Bools.{not-both}
 use Rattle.model.proofs.Lists.{First, select-cong, select-none, from-mem}
 use Rattle.enumeration.specs.Reach.{joined, common, Joining, completions, extendable}
 use Rattle.enumeration.specs.Stage.{last_extensions, extensions}
-use Rattle.enumeration.specs.Adds.{Adds}
-use Rattle.enumeration.proofs.Added.{adds_none}
 use Rattle.enumeration.proofs.Joining.{Tried}
 use Rattle.enumeration.proofs.Completions.{joined_length, completions-end, completions-next, completions-last, completions-shut}
 
@@ -80,9 +78,6 @@ module _ (near sets members : List ℕ) (m k count : ℕ) where
       ∙ ap (map behind) (completions-next near ns j r count below)
       ∙ map-append behind (map (λ (t : List ℕ). r ∷ t) with-r) without
       ∙ ap₂ (λ (a b : List Combination). a ++ b) first (ap (λ (i : ℕ). map behind (completions near ns i (r + 1) count)) (sym two))
-
-  pub none-adds : (i found : ℕ) (list : List ℕ) → es i ≡ [] → Adds m (es i) found list found list
-  none-adds i found list e = subst (λ (cs : List Combination). Adds m cs found list found list) (sym e) (adds_none m found list)
 
 -- ---- Two left to choose
 

@@ -1,26 +1,11 @@
--- Walks of the first k elements of a list: what is left of them from place j on, and a list of their images. From the laws of lists.
+-- A list of images of the first k elements of another. From the laws of lists.
 use mathlib.Core.Path.{◌≡◌, sym, ◌∙◌, ap, ap₂}
 use mathlib.Core.List.{List, [], ◌∷◌, ◌++◌, map}
-use Prim.Native.Nat.{ℕ, suc, ◌+◌, ◌≤◌, ◌<◌}
-use native.Mathlib.Numerals.{add-one}
+use Prim.Native.Nat.{ℕ, suc, ◌≤◌, ◌<◌}
 use native.Mathlib.Omega.{arith}
-use lib.ListN.{length, get_or, take, drop, length-map, drop_of_length-le}
-use lib.Seq.{length-take-le, drop-cons, take-suc, get_or-take, ext_get_or}
+use lib.ListN.{length, get_or, take, length-map}
+use lib.Seq.{length-take-le, take-suc, get_or-take, ext_get_or}
 use Rattle.model.proofs.Lists.{get_d-map-in}
-
-module _ (xs : List ℕ) (k j : ℕ) where
-  pub front-next : k ≤ length xs → j < k → drop j (take k xs) ≡ get_or xs j 0 ∷ drop (j + 1) (take k xs)
-  front-next h l =
-      drop-cons (take k xs) j 0 (omega (arith, length-take-le k xs h))
-      ∙ ap (λ (x : ℕ). x ∷ drop (suc j) (take k xs)) (get_or-take k xs j 0 l)
-      ∙ ap (λ (i : ℕ). get_or xs j 0 ∷ drop i (take k xs)) (sym (add-one j))
-
-  pub front-end : k ≤ length xs → k ≤ j → drop j (take k xs) ≡ []
-  front-end h l = let e : length (take k xs) ≤ j = omega (arith, length-take-le k xs h) in drop_of_length-le (take k xs) e
-
--- nothing is left behind them
-pub front-past : (xs : List ℕ) (k j : ℕ) → k ≤ length xs → k ≤ j → drop (j + 1) (take k xs) ≡ drop j (take k xs)
-front-past xs k j h l = front-end xs k (j + 1) h (omega arith) ∙ sym (front-end xs k j h l)
 
 -- a list whose first k elements are the images of another's, and the one behind them is x
 pub front-images : (f : ℕ → ℕ) (x : ℕ) (xs ys : List ℕ) (k : ℕ) → k ≤ length xs → k < length ys → ((i : ℕ) → i < k → get_or ys i 0 ≡ f (get_or xs i 0)) → get_or ys k 0 ≡ x → take (suc k) ys ≡ map f (take k xs) ++ (x ∷ [])

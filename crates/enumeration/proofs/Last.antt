@@ -31,7 +31,7 @@ module _ (word : ℕ) (members : List ℕ) (k count : ℕ) where
   pub last-here : (i r : ℕ) → First (is_set word) i count r → r < count → cs i ≡ with-last r ∷ cs (r + 1)
   last-here i r f h = ap (map with-last) (select-first (is_set word) i count r f h)
 
-  pub last-itself : (i r : ℕ) → First (is_set word) i count r → First (is_set word) r count r
+  last-itself : (i r : ℕ) → First (is_set word) i count r → First (is_set word) r count r
   last-itself i r f = record { from-i = omega arith; to_end = f.to_end; none_before = λ j h l. absurd (omega arith); passes = f.passes }
 
   pub last-skip : (i r : ℕ) → First (is_set word) i count r → cs i ≡ cs r
@@ -49,6 +49,13 @@ module _ (word : ℕ) (members : List ℕ) (k count : ℕ) where
 pub next-first : (word i end : ℕ) → i ≤ end → First (is_set word) i end (next_in word i end)
 unfolding next_in
 next-first word i end h = select-from (is_set word) i (end - i) end (omega arith)
+
+-- .. is none before the place where the search begins, and none behind its end
+pub next_from : (word i end : ℕ) → i ≤ end → i ≤ next_in word i end
+next_from word i end h = (next-first word i end h).from-i
+
+pub next_to : (word i end : ℕ) → i ≤ end → next_in word i end ≤ end
+next_to word i end h = (next-first word i end h).to_end
 
 module _ (word i end r : ℕ) (h : i ≤ end) where
   pub next-is : First (is_set word) i end r → r ≡ next_in word i end

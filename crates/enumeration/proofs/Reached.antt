@@ -1,21 +1,20 @@
 -- Members whose sets hold the neighbours of all that they reach make a connected combination with one more relation exactly if it is in
 -- every set; for any relation that is symmetric and that the members have to themselves. From the model's laws of connected combinations.
 use mathlib.Core.Path.{◌≡◌, refl, sym, ◌∙◌, ap, subst}
-use mathlib.Core.Bool.{Bool, true, false, ◌&&◌, ◌||◌, cond}
+use mathlib.Core.Bool.{Bool, true, false, ◌&&◌, cond}
 use mathlib.Core.List.Memᴰ
 use mathlib.Core.List.{List, [], ◌∷◌, ◌++◌, map, map-map, map-append, append_assoc, Memᴰ}
 use mathlib.Core.Logic.{◌⊎◌, inl, inr, ⊎_elim}
 use Prim.Native.Nat.{ℕ, ◌<◌}
-use native.Mathlib.Omega.{arith}
 use borrow.Author.Tests.{eqb-true, eq-eqb}
 use lib.Bits.{bit_or}
 use lib.Dec.{eqb}
 use lib.ListN.{get_or}
-use Rattle.model.specs.Lists.{all, any}
+use Rattle.model.specs.Lists.{any}
 use Rattle.model.specs.Combination.{Combination}
 use Rattle.model.specs.LiveWords.{is_set}
 use Rattle.model.proofs.Bools.{and_left, and_right, and_intro, or_left, or_right, or_cases, iff-eq, not-both}
-use Rattle.model.proofs.Lists.{here, all-at, all-intro, all_map, any_at, any-intro}
+use Rattle.model.proofs.Lists.{here, all-at, all-intro, any_at, any-intro}
 use Rattle.model.proofs.Combination.{connected_by, connected-all, Reaches, start, step, reaches-on, reaches_more, reaches-back, reached-connected}
 use Rattle.live.proofs.Bits.{is_set-or}
 use Rattle.enumeration.specs.Reach.{reach, joined, common, completes}

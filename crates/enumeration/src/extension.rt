@@ -7,7 +7,7 @@ ghost use Rattle.enumeration.specs.Adds.{Adds};
 ghost use Rattle.enumeration.specs.Stage.{Choice, Stage, last_extensions, extensions};
 
 use super::neighbours::{Neighbours, tries};
-use super::sets::{Sets, candidates, common, extendable, joined, next_in, union};
+use super::sets::{Sets, candidates, common, extendable, joined, relations_in, union};
 use layout::{Members, put, wide};
 use model::{MAX_COMBINATIONS, MAX_MEMBERS};
 
@@ -16,11 +16,7 @@ pub fn paste(list: &mut [u16], at: usize, s: &[u16], n: usize)
     requires { (at + n ≤ length list.old) × (n ≤ length s.now) }
     ensures { list.new ≡ paste list.old at s.now n }
 {
-    let mut j = 0;
-    while j < n {
-        list[at + j] = s[j];
-        j += 1;
-    }
+    list[at..at + n].copy_from_slice(&s[..n]);
 }
 
 // Writes the first k members and r behind so many combinations, and gives the number of them then. As many numbers are always written, and
@@ -49,13 +45,11 @@ fn extend_last(
     ensures { Adds (suc k) (last_extensions set members k from count) found list.old result list.new }
 {
     let mut n = found;
-    let mut r = next_in(set, from, count);
-    while r < count {
+    for r in relations_in(set, from, count) {
         if wide(n) == MAX_COMBINATIONS {
             return n + 1;
         }
         n = add(list, n, members, k, r);
-        r = next_in(set, r + 1, count);
     }
     n
 }
@@ -99,14 +93,12 @@ fn extend_two(
     let all = common(sets, k);
     let tried = tries(near, count, some, all, from);
     let mut n = found;
-    let mut r = next_in(tried, from, count);
-    while r < count {
+    for r in relations_in(tried, from, count) {
         let last = candidates(sets, k, some, all, r, near[wide(r)]);
         n = extend_by(last, members, k, r, count, list, n);
         if MAX_COMBINATIONS < wide(n) {
             return n;
         }
-        r = next_in(tried, r + 1, count);
     }
     n
 }
@@ -131,8 +123,7 @@ pub fn extend(
         return extend_two(near, count, m, members, k, sets, from, list, found);
     }
     let mut n = found;
-    let mut r = from;
-    while r < count {
+    for r in from..count {
         if !extendable(sets, k, r) {
             return n;
         }
@@ -151,7 +142,6 @@ pub fn extend(
         if MAX_COMBINATIONS < wide(n) {
             return n;
         }
-        r += 1;
     }
     n
 }

@@ -5,7 +5,7 @@ ghost use Rattle.model.specs.LiveWords.{is_set};
 ghost use Rattle.combination.specs.Masks.{meets};
 ghost use Rattle.enumeration.specs.Reach.{Near, Tries};
 
-use super::sets::next_in;
+use super::sets::relations_in;
 use combination::Masks;
 use layout::wide;
 use model::MAX_RELATIONS;
@@ -19,12 +19,10 @@ fn meeting(masks: &Masks, count: u16, set: u64) -> u64
     ensures { (s : ℕ) → is_set result s ≡ (ltb s count && meets masks.now set s) }
 {
     let mut found: u64 = 0;
-    let mut s: u16 = 0;
-    while s < count {
+    for s in 0..count {
         if masks[wide(s)] & set != 0 {
-            found = found | (1u64 << s);
+            found |= 1u64 << s;
         }
-        s += 1;
     }
     found
 }
@@ -35,10 +33,8 @@ pub fn neighbours(masks: &Masks, count: u16) -> Neighbours
     ensures { Near masks.now count result }
 {
     let mut near = [0u64; MAX_RELATIONS];
-    let mut r: u16 = 0;
-    while r < count {
+    for r in 0..count {
         near[wide(r)] = meeting(masks, count, masks[wide(r)]);
-        r += 1;
     }
     near
 }
@@ -49,10 +45,8 @@ pub fn tries(near: &Neighbours, count: u16, some: u64, all: u64, from: u16) -> u
     ensures { Tries result near.now count some all from }
 {
     let mut word = some;
-    let mut s = next_in(all, from, count);
-    while s < count {
-        word = word | near[wide(s)];
-        s = next_in(all, s + 1, count);
+    for s in relations_in(all, from, count) {
+        word |= near[wide(s)];
     }
     word
 }

@@ -1,9 +1,11 @@
 // Of each member chosen the neighbours of all that it reaches among those chosen.
-ghost use Rattle.std.specs.Prelude.{◌≡◌, cond, suc, ◌≤◌, ◌<◌, length, take};
+ghost use Rattle.std.specs.Prelude.{◌≡◌, cond, suc, ◌-◌, ◌≤◌, ◌<◌, length, take};
 ghost use Rattle.std.specs.Int.Bits.{bit_and, bit_or};
+ghost use Rattle.std.specs.Iterator.{at_most};
 ghost use Rattle.model.specs.Limits.{max_relations};
 ghost use Rattle.model.specs.LiveWords.{is_set};
 ghost use Rattle.enumeration.specs.Reach.{max_sets, reach, widened, joined, Joining, Union, Common, next_in, extendable};
+ghost use Rattle.enumeration.specs.Sets.{Ordered, TakesRelation};
 
 use model::{MAX_MEMBERS, MIN_MEMBERS};
 
@@ -57,12 +59,10 @@ fn reach(sets: &Sets, k: usize, r: u16, own: u64) -> u64
     ensures { result ≡ reach r own (take k sets.now) }
 {
     let mut all = own;
-    let mut j = 0;
-    while j < SETS {
+    for (j, set) in sets.iter().enumerate() {
         if j < k {
-            all = grown(all, sets[j], r);
+            all = grown(all, *set, r);
         }
-        j += 1;
     }
     all
 }
@@ -74,10 +74,8 @@ pub fn joined(sets: &Sets, k: usize, r: u16, own: u64) -> Sets
 {
     let all = reach(sets, k, r, own);
     let mut next = [0u64; SETS];
-    let mut j = 0;
-    while j < SETS {
-        next[j] = widened(all, sets[j], r, j, k);
-        j += 1;
+    for (j, set) in sets.iter().enumerate() {
+        next[j] = widened(all, *set, r, j, k);
     }
     next
 }
@@ -88,12 +86,10 @@ pub fn union(sets: &Sets, k: usize) -> u64
     ensures { Union result (take k sets.now) }
 {
     let mut some: u64 = 0;
-    let mut j = 0;
-    while j < SETS {
+    for (j, set) in sets.iter().enumerate() {
         if j < k {
-            some = some | sets[j];
+            some |= *set;
         }
-        j += 1;
     }
     some
 }
@@ -104,12 +100,10 @@ pub fn common(sets: &Sets, k: usize) -> u64
     ensures { Common result (take k sets.now) }
 {
     let mut all: u64 = EVERY;
-    let mut j = 0;
-    while j < SETS {
+    for (j, set) in sets.iter().enumerate() {
         if j < k {
-            all = all & sets[j];
+            all &= *set;
         }
-        j += 1;
     }
     all
 }
@@ -121,13 +115,11 @@ fn joining(sets: &Sets, k: usize, r: u16, own: u64) -> u64
 {
     let mut all = own;
     let mut rest: u64 = EVERY;
-    let mut j = 0;
-    while j < SETS {
+    for (j, set) in sets.iter().enumerate() {
         if j < k {
-            all = grown(all, sets[j], r);
-            rest = kept(rest, sets[j], r);
+            all = grown(all, *set, r);
+            rest = kept(rest, *set, r);
         }
-        j += 1;
     }
     all & rest
 }
@@ -160,19 +152,56 @@ pub fn next_in(set: u64, from: u16, count: u16) -> u16
     if r < count { r } else { count }
 }
 
+// The relations of the set from `at` on and below count, in their order.
+#[derive(Clone, Copy)]
+pub struct Relations {
+    pub set: u64,
+    pub at: u16,
+    pub count: u16,
+    ghost ordered: { Ordered at count },
+}
+
+impl Iterator for Relations {
+    type Item = u16;
+
+    ghost next_gives = { λ s o t. TakesRelation s.set s.at s.count o t.set t.at t.count };
+
+    ghost remaining = { λ s. at_most (s.count - s.at) };
+
+    #[tactic(auto, using(crate::proofs::Last::next_from, crate::proofs::Last::next_to))]
+    fn next(&mut self) -> Option<u16> {
+        let r = next_in(self.set, self.at, self.count);
+        if r == self.count {
+            return None;
+        }
+        self.at = r + 1;
+        Some(r)
+    }
+}
+
+// The relations of the set from `from` on and below count.
+pub fn relations_in(set: u64, from: u16, count: u16) -> Relations
+    requires { (from ≤ count) × (count ≤ max_relations) }
+    ensures set { result.set ≡ set }
+    ensures from { result.at ≡ from }
+    ensures count { result.count ≡ count }
+{
+    Relations {
+        set,
+        at: from,
+        count,
+    }
+}
+
 // Whether each of the first k sets has a relation from r on.
 pub fn extendable(sets: &Sets, k: usize, r: u16) -> bool
     requires { (length sets.now ≡ max_sets) × ((k ≤ max_sets) × (r < max_relations)) }
     ensures { result ≡ extendable (take k sets.now) r }
 {
-    let mut j = 0;
-    while j < SETS {
-        if j < k {
-            if sets[j] >> r == 0 {
-                return false;
-            }
+    for (j, set) in sets.iter().enumerate() {
+        if j < k && *set >> r == 0 {
+            return false;
         }
-        j += 1;
     }
     true
 }

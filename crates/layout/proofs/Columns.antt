@@ -3,31 +3,23 @@
 use mathlib.Core.Path.{◌≡◌, refl}
 use mathlib.Core.Bool.{Bool, true, false, cond}
 use mathlib.Core.List.{List, [], ◌∷◌}
-use Prim.Native.Nat.{ℕ, zero, suc, ◌+◌, ◌≤◌, ◌<◌}
+use Prim.Native.Nat.{ℕ, zero, suc, ◌≤◌, ◌<◌}
 use native.Mathlib.Nat.{le_of_suc-le-suc}
-use native.Mathlib.Numerals.{add-one}
 use native.Mathlib.Omega.{arith}
 use lib.Dec.{eqb}
-use lib.ListN.{length, drop, get_or, drop_of_length-le}
-use lib.Seq.{drop-cons}
-use borrow.Author.Tests.{eqb-true, eqb-false, eq-eqb, ne_eqb}
+use lib.ListN.{length, get_or}
+use borrow.Author.Tests.{eqb-true, eqb-false}
+use Rattle.std.specs.List.{position}
+use Rattle.std.specs.Option.{unwrap_or}
+use Rattle.std.proofs.lemmas.Bool.Decides.{nat_tests}
 use Rattle.layout.specs.Columns.{column_of}
 
+-- the first place with the variable, as a walk of the scope finds it
+pub column-position : (x : ℕ) (xs : List ℕ) → column_of x xs ≡ unwrap_or (position (λ (y : ℕ). eqb y x) xs) (length xs)
+column-position x [] = refl
+column-position x (y ∷ ys) = grind (arith, nat_tests, column-position x ys)
+
 module _ (x : ℕ) where
-  -- ---- A walk of the scope
-
-  module _ (xs : List ℕ) (k : ℕ) where
-    pub column-here : k < length xs → get_or xs k 0 ≡ x → column_of x (drop k xs) ≡ 0
-    column-here h e = rw (drop-cons xs k 0 h, eq-eqb (get_or xs k 0) x e)
-
-    pub column-later : k < length xs → (get_or xs k 0 ≡ x → ⊥) → column_of x (drop k xs) ≡ column_of x (drop (k + 1) xs) + 1
-    column-later h d = rw (drop-cons xs k 0 h, ne_eqb (get_or xs k 0) x d, add-one (column_of x (drop (k + 1) xs)), add-one k)
-
-    pub column-end : length xs ≤ k → column_of x (drop k xs) ≡ 0
-    column-end h = rw (drop_of_length-le xs h)
-
-  -- ---- What stands there
-
   -- the variable stands in a column below the width
   pub column-found : (xs : List ℕ) → column_of x xs < length xs → get_or xs (column_of x xs) 0 ≡ x
   column-found [] h = absurd (omega arith)

@@ -1,4 +1,5 @@
 -- The laws of the crate's definitions.
+pub mod StdLists
 pub mod Relations
 pub mod Starts
 pub mod SoundStarts

@@ -52,17 +52,16 @@ pub fn put(numbers: Members, k: usize, x: u16) -> Members
     ensures { result ≡ set numbers k x }
 {
     let mut t = numbers;
-    let mut j = 0;
-    while j < MAX_MEMBERS {
+    for (j, place) in t.iter_mut().enumerate() {
         if j == k {
-            t[j] = x;
+            *place = x;
         }
-        j += 1;
     }
     t
 }
 
 // Whether the value stands for every value.
+#[tactic(auto, unfolding(model::specs::Agreement::is_any))]
 pub fn is_any(value: Value) -> bool
     ensures { result ≡ is_any value }
 {
@@ -70,6 +69,7 @@ pub fn is_any(value: Value) -> bool
 }
 
 // Whether two values fit.
+#[tactic(auto, unfolding(model::specs::Agreement::fit))]
 pub fn fit(a: Value, b: Value) -> bool
     ensures { result ≡ fit a b }
 {
@@ -123,8 +123,7 @@ pub fn starts_of(shape: Shape) -> Starts
     let mut variable: u16 = 0;
     let mut tuple: u16 = 0;
     let mut value: u16 = 0;
-    let mut r = 0;
-    while r < TABLE {
+    for r in 0..TABLE {
         starts[r] = variable;
         starts[TABLE + r] = tuple;
         starts[2 * TABLE + r] = value;
@@ -135,7 +134,6 @@ pub fn starts_of(shape: Shape) -> Starts
             tuple += size;
             value += width * size;
         }
-        r += 1;
     }
     starts[3 * TABLE] = shape.count as u16;
     starts
@@ -147,6 +145,7 @@ pub fn relation_of(starts: &Starts, g: u16) -> u16
     ensures { result ≡ relation_of (outline starts.now) g }
 {
     let mut r: u16 = 0;
+    // stays a while: a range would need an end that is never met
     while tuple_start(starts, r + 1) <= g {
         r += 1;
     }
@@ -174,12 +173,5 @@ pub fn place_of(starts: &Starts, r: u16, x: u16) -> Place
 pub fn column_of(scope: &[u16], x: u16) -> usize
     ensures { result ≡ column_of x scope.now }
 {
-    let mut k = 0;
-    while k < scope.len() {
-        if scope[k] == x {
-            return k;
-        }
-        k += 1;
-    }
-    k
+    scope.iter().position(|y| *y == x).unwrap_or(scope.len())
 }

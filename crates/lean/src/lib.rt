@@ -36,6 +36,7 @@ fn thin(
     let end = tuple_start(starts, r + 1);
     let mut kept = [NO_SUPPORT; PLACES];
     let mut g = next(words, first, end);
+    // stays a while: the loop writes the words that it goes over
     while g < end {
         let x = g - first;
         if first_alike(variables, values, starts, &mut kept, r, x, common) < x {
@@ -57,13 +58,11 @@ fn without_doubles(
     requires { Long words.old × LeanAt (lists (λ x. x.now) variables values starts) members.now place }
     ensures { LeanFrom (lists entry variables values starts) members.now place words.old words.new }
 {
-    let mut j = 0;
-    while j < members.len() {
+    for (j, r) in members.iter().enumerate() {
         if j != place {
             let common = variables_from(variables, values, starts, members, j, 0);
-            thin(variables, values, starts, members[j], common, words);
+            thin(variables, values, starts, *r, common, words);
         }
-        j += 1;
     }
 }
 

@@ -4,12 +4,29 @@ use mathlib.Core.List.{List, ◌++◌}
 use Prim.Native.Nat.{ℕ, ◌*◌, ◌^◌, ◌≤◌, ◌<◌}
 use native.Mathlib.Decide.{dec_lt}
 use native.Mathlib.Omega.{arith}
-use lib.ListN.{length, get_or, take, drop}
+use lib.ListN.{length, get_or, take, drop, replicate}
+use Rattle.std.proofs.Common.{◌∙◌, ◌+◌, ◌-◌}
+use Rattle.std.proofs.Math.ListN.{get_or-append}
+use Rattle.std.proofs.lemmas.List.{get_or-append_right, get_or-take, get_or-drop, get_or-replicate, length-append, length-take-le, length-replicate}
+use lib.ListN.{length-drop}
 use Rattle.model.specs.Limits.{word_bits}
 use Rattle.model.specs.TupleSet.{TupleSet}
 use Rattle.model.specs.LiveWords.{living, written}
 use Rattle.model.proofs.LiveWords.{living-same, written-copy}
 use Rattle.live.specs.Words.{WordArray, Copied}
+
+-- the first n words before what stands behind the first n noughts
+pub copied-front : (n : ℕ) (words : List ℕ) → n ≤ 64 → n ≤ length words → Copied n words (take n words ++ drop n (replicate 64 0))
+copied-front n words few h =
+    let long : length (take n words) ≡ n = length-take-le n words h in
+    record {
+      long = simp (length-append, length-drop, length-replicate) (omega arith);
+      same = λ j l. get_or-append (take n words) (drop n (replicate 64 0)) 0 j (omega arith) ∙ get_or-take n words j 0 l;
+      none = λ j m l.
+          get_or-append_right (take n words) (drop n (replicate 64 0)) n j 0 long m
+          ∙ get_or-drop n (replicate 64 0) (j - n) 0
+          ∙ get_or-replicate 64 (n + (j - n)) 0 0 (omega arith);
+    }
 
 module _ (n : ℕ) (words array : List ℕ) (copy : Copied n words array) where
   pub copied-array : ((i : ℕ) → get_or words i 0 < 2 ^ 64) → WordArray array

@@ -6,6 +6,8 @@ ghost use Rattle.model.specs.TupleSet.{count};
 ghost use Rattle.model.specs.LiveWords.{words_for, is_live, living_from, next_live, cleared, raised};
 ghost use Rattle.live.specs.Words.{Copied};
 
+pub mod ids; // the live ids, one after the other
+
 // The words of 4,096 ids.
 pub const WORDS: usize = 64;
 
@@ -56,10 +58,8 @@ pub fn count(words: &[u64], start: u16, end: u16) -> u16
     ensures { result ≡ count (living_from start (end - start) words.now) }
 {
     let mut n: u16 = 0;
-    let mut i = (start / 64) as usize;
-    while i < (end / 64) as usize {
-        n += u64::count_ones(words[i]) as u16;
-        i += 1;
+    for i in (start / 64) as usize..(end / 64) as usize {
+        n += words[i].count_ones() as u16;
     }
     n + count_below(words, end) - count_below(words, start)
 }
@@ -70,6 +70,7 @@ pub fn next(words: &[u64], start: u16, end: u16) -> u16
     ensures { result ≡ next_live words.now start end }
 {
     let mut at = start;
+    // stays a while: it goes on by whole words
     while at < end {
         let w = words[(at / 64) as usize] >> (at % 64);
         if w != 0 {
@@ -93,12 +94,8 @@ pub fn copied(words: &[u64], n: usize) -> Words
     requires { (n ≤ 64) × (n ≤ length words.now) }
     ensures { Copied n words.now result }
 {
-    let mut copy = [0u64; WORDS];
-    let mut i = 0;
-    while i < n {
-        copy[i] = words[i];
-        i += 1;
-    }
+    let mut copy = [0; WORDS];
+    copy[..n].copy_from_slice(&words[..n]);
     copy
 }
 
@@ -107,9 +104,5 @@ pub fn put_back(copy: &Words, words: &mut [u64], n: usize)
     requires { (length copy.now ≡ 64) × ((n ≤ 64) × (n ≤ length words.old)) }
     ensures { words.new ≡ take n copy.now ++ drop n words.old }
 {
-    let mut i = 0;
-    while i < n {
-        words[i] = copy[i];
-        i += 1;
-    }
+    words[..n].copy_from_slice(&copy[..n]);
 }

@@ -1,17 +1,15 @@
 -- What a move replies, fault after fault.
 -- From the order of the faults of a move.
 use mathlib.Core.Path.{◌≡◌, refl, sym, ◌∙◌, ap}
-use mathlib.Core.Bool.{true, false}
 use mathlib.Core.Option.{Option, none, some}
 use mathlib.Core.List.{List, [], ◌∷◌, ◌++◌, map}
 use Prim.Native.Nat.{ℕ, ◌≤◌, ◌<◌}
 use lib.Dec.{ltb}
 use lib.ListN.{length, drop, replicate, length-map, length-replicate}
 use borrow.Author.Tests.{lt-ltb, le-ltb}
-use Rattle.model.specs.Lists.{any}
 use Rattle.model.specs.Network.{Network}
 use Rattle.model.specs.Fault.{Fault, network_faults, first_fault, refusal}
-use Rattle.model.specs.Moves.{too_wide, Move, narrow, moved, too_wide_faults, move_faults, MoveReply, move_to, move_reply, with_values}
+use Rattle.model.specs.Moves.{Move, moved, too_wide_faults, move_faults, move_to, move_reply, with_values}
 use Rattle.model.proofs.Fault.{refusal-some, refusal-none, first_fault-append-none, first_fault-append-some}
 use Rattle.model.proofs.Meaning.{network_faults-values}
 

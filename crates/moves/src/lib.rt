@@ -14,6 +14,7 @@ use network::faults::fault_on;
 const OLD_ANY: u16 = 65535;
 
 // A value of the old form in the new one.
+#[tactic(auto, unfolding(model::specs::Moves::widened))]
 fn widened(v: u16) -> Value
     ensures { result ≡ widened v }
 {
@@ -34,6 +35,7 @@ fn too_wide(v: Value) -> bool
 }
 
 // A value of the new form in the old one.
+#[tactic(auto, using(model::proofs::Moves::not_wide), unfolding(model::specs::Moves::narrowed))]
 fn narrowed(v: Value) -> u16
     requires { too_wide v ≡ false }
     ensures { result ≡ narrowed v }
@@ -48,14 +50,7 @@ fn narrowed(v: Value) -> u16
 fn any_too_wide(values: &[Value]) -> bool
     ensures { result ≡ any too_wide values.now }
 {
-    let mut i = 0;
-    while i < values.len() {
-        if too_wide(values[i]) {
-            return true;
-        }
-        i += 1;
-    }
-    false
+    values.iter().any(|v| too_wide(*v))
 }
 
 // Writes the values in the new form to the front of a list.
@@ -63,10 +58,8 @@ fn put_widened(values: &[u16], target: &mut [Value])
     requires { length values.now ≤ length target.old }
     ensures { target.new ≡ map widened values.now ++ drop (length values.now) target.old }
 {
-    let mut i = 0;
-    while i < values.len() {
-        target[i] = widened(values[i]);
-        i += 1;
+    for (i, v) in values.iter().enumerate() {
+        target[i] = widened(*v);
     }
 }
 
@@ -75,10 +68,8 @@ fn put_narrowed(values: &[Value], target: &mut [u16])
     requires { (any too_wide values.now ≡ false) × (length values.now ≤ length target.old) }
     ensures { target.new ≡ map narrowed values.now ++ drop (length values.now) target.old }
 {
-    let mut i = 0;
-    while i < values.len() {
-        target[i] = narrowed(values[i]);
-        i += 1;
+    for (i, v) in values.iter().enumerate() {
+        target[i] = narrowed(*v);
     }
 }
 

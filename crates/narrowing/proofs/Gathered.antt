@@ -1,6 +1,6 @@
 -- Laws of live ids gathered in other words: of none, of some of one word, of ids behind ids, and of a relation's that agree with a tuple.
 -- From the laws of a word stored, and of the machine's `|`.
-use mathlib.Core.Path.{◌≡◌, sym, ◌∙◌, ap, subst}
+use mathlib.Core.Path.{◌≡◌, sym, ◌∙◌, ap}
 use mathlib.Core.Bool.{Bool, true, ◌||◌}
 use mathlib.Core.List.{List}
 use Prim.Native.Nat.{ℕ, ◌+◌, ◌*◌, ◌/◌, ◌%◌, ◌≤◌, ◌<◌}

@@ -7,10 +7,10 @@ use mathlib.Core.Logic.{◌⊎◌, inl, inr, ⊎_elim}
 use Prim.Native.Nat.{ℕ, zero, suc, ◌+◌, ◌-◌, ◌*◌, ◌/◌, ◌%◌, ◌≤◌, ◌<◌, min}
 use native.Mathlib.Nat.{zero-add}
 use native.Mathlib.Omega.{arith}
-use native.Mathlib.Decide.{ℕ_discrete, dec_lt}
+use native.Mathlib.Decide.{dec_lt}
 use lib.Dec.{ltb, leb}
 use lib.ListN.{length, get_or, set, take, drop, replicate, length-set, get_or-replicate, get_or-eq_default}
-use lib.Seq.{get_or-set_same, get_or-set_other}
+use lib.Seq.{get_or-set_other}
 use lib.Bits.{bit_and}
 use borrow.Author.Tests.{lt-leb, le-ltb}
 use Rattle.model.specs.Limits.{max_width, word_bits}
@@ -66,11 +66,6 @@ rows-for-within laid indexed r x s h f = rows-within (shared-within indexed.plan
 -- ---- Rows behind rows
 
 module _ {Such : ℕ → Type 0} where
-  -- no row is put
-  pub adds_none : (n : ℕ) {rows : List ℕ} → length rows ≡ 32 → Adds Such n n rows rows
-  adds_none n long =
-      record { long = long; rises = omega arith; few = omega arith; same = λ j h. refl; at = λ j a b. absurd (omega arith) }
-
   -- one more
   pub adds-more : (n k first : ℕ) (before rows : List ℕ) → k < 32 → k < n + 4 → Such first → Adds Such n k before rows → Adds Such n (k + 1) before (set rows k first)
   adds-more n k first before rows h l row now =
@@ -85,13 +80,6 @@ module _ {Such : ℕ → Type 0} where
   module _ {Others : ℕ → Type 0} (are : (first : ℕ) → Such first → Others first) {n k : ℕ} {rows after : List ℕ} (a : Adds Such n k rows after) where
     pub adds-as : Adds Others n k rows after
     adds-as = record { long = a.long; rises = a.rises; few = a.few; same = a.same; at = λ j l h. are (get_or after j 0) (a.at j l h) }
-
-    pub rows_then : k ≤ 32 → FirstRows Others n rows → FirstRows Others k after
-    rows_then few f = record { long = a.long; few = few; at = λ j l. go j l (dec_lt j n) }
-      where
-        go : (j : ℕ) → j < k → Dec (j < n) → Others (get_or after j 0)
-        go j l (yes b) = subst Others (sym (a.same j b)) (f.at j b)
-        go j l (no b) = are (get_or after j 0) (a.at j (omega arith) l)
 
 -- ---- Ids in rows
 
@@ -136,14 +124,6 @@ module _ (index rows : List ℕ) where
   unfolding in_rows
   two-both n a b g e d f = ap₂ (λ (j k : ℕ). in_rows index (both j k) 2 g) d f ∙ ap (λ (k : ℕ). in_rows index rows k g) (sym e)
 
-  pub both-within : (n j k a b : ℕ) → j < n → k < n → a ≡ get_or rows j 0 → b ≡ get_or rows k 0 → Within index n rows → Within index 2 (both a b)
-  both-within n j k a b hj hk ea eb w = record { few = omega arith; inside = one }
-    where
-      one : (i : ℕ) → i < 2 → get_or (both a b) i 0 + row_words index ≤ index_words
-      one zero h = omega (arith, ea, w.inside j hj)
-      one (suc zero) h = omega (arith, eb, w.inside k hk)
-      one (suc (suc i)) h = absurd (omega arith)
-
   module _ (i : ℕ) where
     -- of one word
     pub bits_none : (w : ℕ) → BitsInRows index 0 rows i w w
@@ -178,18 +158,21 @@ module _ (index rows : List ℕ) where
         e ∙ sym (ap (λ (x : Bool). x && in_rows index rows n (word_bits * i + j)) e)
 
     -- a word none of whose ids is in all of them
+    pub apart-word : (n g : ℕ) (words : List ℕ) → BitsInRows index n rows i (get_or words i 0) 0 → g / word_bits ≡ i → is_live words g ≡ true → in_rows index rows n g ≡ true → ⊥
+    apart-word n g words bits h live inside =
+        let j = g % word_bits in
+        let e : word_bits * i + j ≡ g = omega arith in
+        let k : j < word_bits = omega arith in
+        not-both
+        (bits j k ∙ and_intro (sym (is_live-at words i j k) ∙ ap (is_live words) e ∙ live) (ap (in_rows index rows n) e ∙ inside))
+        (is_set-nought j)
+
     pub apart_more : (n from : ℕ) (words : List ℕ) → BitsInRows index n rows i (get_or words i 0) 0 → Apart index n rows from i words → Apart index n rows from (i + 1) words
     apart_more n from words bits f g l h live inside = go (dec_lt g (word_bits * i))
       where
         go : Dec (g < word_bits * i) → ⊥
         go (yes b) = f g l b live inside
-        go (no b) =
-            let j = g - word_bits * i in
-            let e : word_bits * i + j ≡ g = omega arith in
-            let k : j < word_bits = omega arith in
-            not-both
-            (bits j k ∙ and_intro (sym (is_live-at words i j k) ∙ ap (is_live words) e ∙ live) (ap (in_rows index rows n) e ∙ inside))
-            (is_set-nought j)
+        go (no b) = apart-word n g words bits (omega arith) live inside
 
 -- of one word, in two rows
 pub bits-both : (index : List ℕ) (a b i w : ℕ) → BitsInRows index 2 (both a b) i w (bit_and (bit_and w (get_or index (a + i) 0)) (get_or index (b + i) 0))
@@ -219,9 +202,6 @@ module _ (index : List ℕ) {rows : List ℕ} {n : ℕ} {f : Four} (of : FourOf 
   four-at (suc (suc zero)) h = of.c
   four-at (suc (suc (suc zero))) h = of.d
   four-at (suc (suc (suc (suc k)))) h = absurd (omega arith)
-
-  pub four-within : Within index n rows → Within index 4 these
-  four-within w = record { few = omega arith; inside = λ k h. omega (arith, four-at k h, w.inside (min k (n - 1)) (omega arith)) }
 
   pub four-rows : (g : ℕ) → in_rows index these 4 g ≡ in_rows index rows n g
   four-rows g =

@@ -9,7 +9,7 @@ use native.Mathlib.Omega.{arith}
 use native.Mathlib.Decide.{ℕ_discrete, dec_lt}
 use lib.Dec.{ltb, leb}
 use lib.ListN.{length, get_or, set, length-set}
-use lib.Bits.{bit_and, bit_or, and_le_l, and_le_r, or_add_and}
+use lib.Bits.{bit_and, bit_or, and_le_r}
 use lib.Pow.{pow_pos}
 use borrow.Author.Tests.{lt-ltb, le-ltb, ltb-true, ltb-false, le-leb, lt-leb, leb-true}
 use Rattle.model.specs.LiveWords.{is_set, is_live}
@@ -18,8 +18,7 @@ use Rattle.model.proofs.LiveWords.{is_live-at}
 use Rattle.live.proofs.Bits.{is_set-nought, is_set-high, is_set-not, is_set-and, is_set-or, one_shl, or-none}
 use Rattle.live.proofs.Stores.{is_live-set-same, is_live-set-other}
 use Rattle.value_index.specs.Index.{row_bit}
-use Rattle.narrowing.specs.Narrows.{Long, stays, Kept, KeptIds, first_in, end_in, Keeps, BitsBetween, HasBits}
-use Rattle.narrowing.specs.TupleRows.{Spans}
+use Rattle.narrowing.specs.Narrows.{Long, stays, Kept, KeptIds, first_in, end_in, Keeps, BitsBetween}
 
 -- ---- The ids below a bound
 
@@ -69,9 +68,6 @@ pub record Edges (start end i last : ℕ) : Type 0 where
   pub first : i ≡ start / 64
   pub final : last ≡ (end - 1) / 64
 
-pub edges-span : (index : List ℕ) {start end i last : ℕ} → Edges start end i last → HasBits index end → Spans index (last + 1)
-edges-span index e bits = (omega (arith, e, bits.1), omega (arith, e, bits.0))
-
 module _ {start end i last : ℕ} (e : Edges start end i last) where
   pub edges-rise : i ≤ last
   edges-rise = omega (arith, e)
@@ -89,9 +85,6 @@ module _ {start end i last : ℕ} (e : Edges start end i last) where
 
   pub last-in : end_in last end ≡ end
   last-in = omega (arith, e)
-
-  pub only-in : i ≡ last → end_in i end ≡ end
-  only-in h = omega (arith, e)
 
   edges-order : i < last → (start ≤ 64 * (i + 1)) × ((64 * (i + 1) ≤ 64 * last) × ((start ≤ 64 * last) × (64 * last ≤ end)))
   edges-order h = (omega (arith, e.first), (omega arith, (omega (arith, e.first), omega (arith, e))))
@@ -124,14 +117,6 @@ module _ (passes : ℕ → Bool) (start end g : ℕ) where
 -- ---- Words narrowed, by any test of ids
 
 module _ (passes : ℕ → Bool) where
-  -- there are none to narrow
-  pub kept-none : (start end : ℕ) (ws : List ℕ) → end ≤ start → KeptIds passes start end ws ws
-  kept-none start end ws h g = sym (ap (λ (x : Bool). is_live ws g && x) (go (dec_lt g start)) ∙ and-true (is_live ws g))
-    where
-      go : Dec (g < start) → stays passes start end g ≡ true
-      go (yes l) = stays-before passes start end g l
-      go (no l) = stays-behind passes start end g (omega arith)
-
   -- some of one word
   kept-part : (i start end new : ℕ) (ws : List ℕ) → i < length ws → 64 * i ≤ start → end ≤ 64 * (i + 1) → ((j : ℕ) → j < 64 → is_set new j ≡ (is_set (get_or ws i 0) j && stays passes start end (64 * i + j))) → KeptIds passes start end ws (set ws i new)
   kept-part i start end new ws inside low high bits g = go (ℕ_discrete (g / 64) i)
@@ -164,10 +149,6 @@ module _ (passes : ℕ → Bool) where
       kept-part i (first_in i start) (end_in i end) new ws inside (omega arith) (omega arith)
       (λ j l. bits j l ∙ ap (λ (x : Bool). is_set (get_or ws i 0) j && x) (stays-in passes start end (64 * i + j) i (omega arith) (omega arith)))
 
-  -- of ids whose first and end are named otherwise
-  pub kept_at : {start end start' end' : ℕ} (a b : List ℕ) → start ≡ start' → end ≡ end' → KeptIds passes start end a b → KeptIds passes start' end' a b
-  kept_at a b es ee f g = f g ∙ ap₂ (λ (x y : ℕ). is_live a g && stays passes x y g) es ee
-
   -- ids, and the ids behind them
   pub kept_on : (start mid end : ℕ) (a b c : List ℕ) → start ≤ mid → mid ≤ end → KeptIds passes start mid a b → KeptIds passes mid end b c → KeptIds passes start end a c
   kept_on start mid end a b c h k f s g = s g ∙ go (dec_lt g mid)
@@ -183,18 +164,6 @@ module _ (passes : ℕ → Bool) where
           (f g ∙ ap (λ (x : Bool). is_live a g && x) (stays-behind passes start mid g (omega arith)) ∙ and-true (is_live a g))
           (le-ltb g mid (omega arith) ∙ sym (le-ltb g start (omega arith)))
 
-  -- all words of the ids: the only one, or the first, those between and the last
-  module _ {start end i last : ℕ} (e : Edges start end i last) where
-    pub kept-only : (a b : List ℕ) → i ≡ last → KeptIds passes (first_in i start) (end_in i end) a b → KeptIds passes start end a b
-    kept-only a b h f = kept_at a b (first-in e) (only-in e h) f
-
-    pub kept-edges : (a b c d : List ℕ) → i < last → KeptIds passes (first_in i start) (end_in i end) a b → Kept passes (i + 1) last b c → KeptIds passes (first_in last start) (end_in last end) c d → KeptIds passes start end a d
-    kept-edges a b c d h f m s =
-        let o = edges-order e h in
-        kept_on start (64 * last) end a c d o.1.1.0 o.1.1.1
-        (kept_on start (64 * (i + 1)) (64 * last) a b c o.0 o.1.0 (kept_at a b (first-in e) (first_ends e h) f) m)
-        (kept_at c d (last_begins e h) (last-in e) s)
-
 -- ---- What is left of them
 
 -- of word x at place i, the bits of w are those that pass the test, as far as their ids are from start on and below end
@@ -203,10 +172,6 @@ Passing passes i start end x w =
     (j : ℕ) → j < 64 → start ≤ 64 * i + j → 64 * i + j < end → is_set w j ≡ (is_set x j && passes (64 * i + j))
 
 module _ (passes : ℕ → Bool) where
-  pub keeps-none : (start end w : ℕ) (ws : List ℕ) → end ≤ start → Long ws → Keeps passes start end ws ws w
-  keeps-none start end w ws h long =
-      record { long = long; kept = kept-none passes start end ws h; none = λ e g l k. absurd (omega arith) }
-
   pub keeps_on : (start mid end v w : ℕ) (a b c : List ℕ) → start ≤ mid → mid ≤ end → Keeps passes start mid a b v → Keeps passes mid end b c w → Keeps passes start end a c (bit_or v w)
   keeps_on start mid end v w a b c h k f s =
       record {
@@ -234,9 +199,6 @@ module _ (passes : ℕ → Bool) where
       }
 
   module _ {start end i last : ℕ} (e : Edges start end i last) {u : ℕ} {a b : List ℕ} (f : Keeps passes (first_in i start) (end_in i end) a b u) where
-    pub keeps-only : i ≡ last → Keeps passes start end a b u
-    keeps-only h = keeps-at (first-in e) (only-in e h) f
-
     pub keeps-edges : {v w : ℕ} {c d : List ℕ} → i < last → Keeps passes (64 * (i + 1)) (64 * last) b c v → Keeps passes (first_in last start) (end_in last end) c d w → Keeps passes start end a d (bit_or (bit_or u v) w)
     keeps-edges {v} {w} {c} {d} h m s =
         let o = edges-order e h in

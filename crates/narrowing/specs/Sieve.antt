@@ -1,5 +1,5 @@
 -- A sieve of relation r's tuples, by the live tuples of relation s: for one variable that both have, the bits of the values.
-use Rattle.std.specs.Prelude.{◌≡◌, Bool, true, false, not, ◌||◌, List, ℕ, ◌+◌, ◌-◌, ◌*◌, ◌/◌, ◌%◌, ◌^◌, ◌<◌, eqb, leb, length, get_or}
+use Rattle.std.specs.Prelude.{◌≡◌, Bool, true, false, not, ◌||◌, List, ℕ, ◌+◌, ◌-◌, ◌/◌, ◌^◌, ◌<◌, eqb, leb, length, get_or}
 use Rattle.std.specs.Int.Bits.{bit_and}
 use Rattle.model.specs.Limits.{max_relations, max_width, word_bits}
 use Rattle.model.specs.Network.{Network, width, size, first_id, scope_of, values_at}

@@ -28,10 +28,8 @@ pub fn shared_columns(index: &Index, scope_a: &[u16], scope_b: &[u16], s: u16) -
     ensures { Shares scope_a.now scope_b.now index.now s result }
 {
     let mut columns = [0; MAX_WIDTH];
-    let mut i = 0;
-    while i < scope_a.len() {
-        columns[i] = column_rows(index, scope_b, s, scope_a[i]);
-        i += 1;
+    for (i, v) in scope_a.iter().enumerate() {
+        columns[i] = column_rows(index, scope_b, s, *v);
     }
     columns
 }

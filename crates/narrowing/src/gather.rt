@@ -28,10 +28,8 @@ fn gather_four(
     requires { (Long from.now × Long to.old) × (Within index.now 4 (four a b c d) × Spans index.now last) }
     ensures { Joins (in_rows index.now (four a b c d) 4) (word_bits * first) (word_bits * last) from.now to.old to.new }
 {
-    let mut i = first;
-    while i < last {
-        to[i] = to[i] | (from[i] & index[a + i] & index[b + i] & index[c + i] & index[d + i]);
-        i += 1;
+    for i in first..last {
+        to[i] |= from[i] & index[a + i] & index[b + i] & index[c + i] & index[d + i];
     }
 }
 
@@ -48,10 +46,8 @@ fn gather_all(
     requires { (Long from.now × Long to.old) × (Within index.now n rows.now × Spans index.now last) }
     ensures { Joins (in_rows index.now rows.now n) (word_bits * first) (word_bits * last) from.now to.old to.new }
 {
-    let mut i = first;
-    while i < last {
-        to[i] = to[i] | in_rows(index, rows, n, from[i], i);
-        i += 1;
+    for i in first..last {
+        to[i] |= in_rows(index, rows, n, from[i], i);
     }
 }
 

@@ -45,12 +45,10 @@ fn keep_four(
     ensures { Keeps (in_rows index.now (four a b c d) 4) (word_bits * from) (word_bits * to) words.old words.new result }
 {
     let mut any = 0;
-    let mut i = from;
-    while i < to {
+    for i in from..to {
         let w = words[i] & index[a + i] & index[b + i] & index[c + i] & index[d + i];
-        any = any | w;
+        any |= w;
         words[i] = w;
-        i += 1;
     }
     any
 }
@@ -61,12 +59,10 @@ fn keep_all(index: &Index, rows: &Rows, n: usize, words: &mut Words, from: usize
     ensures { Keeps (in_rows index.now rows.now n) (word_bits * from) (word_bits * to) words.old words.new result }
 {
     let mut any = 0;
-    let mut i = from;
-    while i < to {
+    for i in from..to {
         let w = in_rows(index, rows, n, words[i], i);
-        any = any | w;
+        any |= w;
         words[i] = w;
-        i += 1;
     }
     any
 }

@@ -50,7 +50,7 @@ fn keep_word(rows: &[u64], words: &mut Words, first: usize, i: usize, start: u16
     requires { Long words.old × ((first + i < length rows.now) × (i < 64)) }
     ensures { Long words.new × KeptIds (row_bit rows.now first) (first_in i start) (end_in i end) words.old words.new }
 {
-    words[i] = words[i] & (!between(i, start, end) | rows[first + i]);
+    words[i] &= !between(i, start, end) | rows[first + i];
 }
 
 // The same for all ids of the words from `from` on and below `to`.
@@ -58,10 +58,8 @@ fn keep_words(rows: &[u64], words: &mut Words, first: usize, from: usize, to: us
     requires { Long words.old × ((first + to ≤ length rows.now) × ((from ≤ to) × (to ≤ 64))) }
     ensures { Long words.new × Kept (row_bit rows.now first) from to words.old words.new }
 {
-    let mut i = from;
-    while i < to {
-        words[i] = words[i] & rows[first + i];
-        i += 1;
+    for i in from..to {
+        words[i] &= rows[first + i];
     }
 }
 
@@ -123,14 +121,12 @@ pub fn narrow_members(
     requires { Long words.old × (Seeks (lists (λ x. x.now) variables values starts) index.now r x × Others members.now place k r) }
     ensures { NarrowsMembers (lists entry variables values starts) members.now place k r x words.old words.new result }
 {
-    let mut j = k;
-    while j < members.len() {
+    for j in k..members.len() {
         if j != place {
             if !narrow_member(variables, values, starts, index, words, r, x, members[j]) {
                 return false;
             }
         }
-        j += 1;
     }
     true
 }

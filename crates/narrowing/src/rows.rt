@@ -45,12 +45,10 @@ fn add_value(index: &Index, rows: &mut Rows, n: usize, start: usize, value: Valu
     }
     let mut hash = hash_of(index, value);
     let mut k = n;
-    let mut i: u64 = 0;
-    while i < digit_count(index) {
+    for i in 0..digit_count(index) {
         rows[k] = row_of(index, start, hash, i) as u16;
         hash = hash_behind(index, hash);
         k += 1;
-        i += 1;
     }
     k
 }
@@ -61,10 +59,8 @@ pub fn rows_of(index: &Index, columns: &Columns, tuple: &[Value], rows: &mut Row
     ensures { FirstRows (RowOf index.now columns.now tuple.now) result rows.new }
 {
     let mut n = 0;
-    let mut c = 0;
-    while c < tuple.len() {
-        n = add_value(index, rows, n, columns[c], tuple[c]);
-        c += 1;
+    for (c, value) in tuple.iter().enumerate() {
+        n = add_value(index, rows, n, columns[c], *value);
     }
     n
 }
@@ -112,10 +108,8 @@ fn rows_between(
     ensures { FirstRows (SharedRow scope_a.now a.now scope_b.now index.now s) result rows.new }
 {
     let mut n = 0;
-    let mut j: u16 = 0;
-    while wide(j) < scope_b.len() {
-        n = add_column(bits, scope_a, a, scope_b[wide(j)], index, s, j, rows, n);
-        j += 1;
+    for (j, v) in scope_b.iter().enumerate() {
+        n = add_column(bits, scope_a, a, *v, index, s, j as u16, rows, n);
     }
     n
 }
@@ -182,10 +176,8 @@ pub fn in_rows(index: &Index, rows: &Rows, n: usize, word: u64, i: usize) -> u64
     ensures { BitsInRows index.now n rows.now i word result }
 {
     let mut w = word;
-    let mut k = 0;
-    while k < n {
-        w = w & index[wide(rows[k]) + i];
-        k += 1;
+    for row in &rows[..n] {
+        w &= index[wide(*row) + i];
     }
     w
 }
@@ -197,10 +189,8 @@ fn meet_both(index: &Index, a: usize, b: usize, words: &Words, from: usize, to: 
     ensures { result ≡ false → Apart index.now 2 (both a b) from to words.now }
 {
     let mut any = 0;
-    let mut i = from;
-    while i < to {
-        any = any | (words[i] & index[a + i] & index[b + i]);
-        i += 1;
+    for i in from..to {
+        any |= words[i] & index[a + i] & index[b + i];
     }
     any != 0
 }
@@ -222,14 +212,7 @@ fn meet_all(index: &Index, rows: &Rows, n: usize, words: &Words, from: usize, to
     requires { Within index.now n rows.now × ((2 ≤ n) × Spans index.now to) }
     ensures { result ≡ false → Apart index.now n rows.now from to words.now }
 {
-    let mut i = from;
-    while i < to {
-        if in_all(index, rows, n, words[i], i) {
-            return true;
-        }
-        i += 1;
-    }
-    false
+    (from..to).any(|i| in_all(index, rows, n, words[i], i))
 }
 
 // The same, by the one or the other. True where there are no rows.
@@ -263,6 +246,7 @@ pub fn next_in_rows(
     ensures { NextInRows index.now n rows.now words.now start end result }
 {
     let mut at = start;
+    // stays a while: it goes on by whole words
     while at < end {
         let i = wide(at / 64);
         let w = in_rows(index, rows, n, words[i], i) >> (at % 64);
@@ -282,10 +266,8 @@ pub fn live_between(words: &Words, start: u16, end: u16) -> Words
 {
     let last = words_for(end);
     let mut alive = [0u64; WORDS];
-    let mut i = wide(start / 64);
-    while i < last {
+    for i in wide(start / 64)..last {
         alive[i] = words[i] & between(i, start, end);
-        i += 1;
     }
     alive
 }

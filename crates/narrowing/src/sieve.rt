@@ -9,7 +9,8 @@ ghost use Rattle.narrowing.specs.Narrows.{Long};
 ghost use Rattle.narrowing.specs.Sieve.{bits_of, value_in, bits_at, passes_sieve, Sieves, Shares, CommonColumns, SharedIn, Masks, TupleIn, ColumnIn};
 
 use layout::{Starts, column_of, is_any, place_of, tuple_start, variable_start, wide};
-use live::{Words, next};
+use live::Words;
+use live::ids::live_ids;
 use model::{MAX_WIDTH, Value};
 use value_index::digits::mix;
 
@@ -79,19 +80,16 @@ fn shared_columns(scope_a: &[u16], scope_b: &[u16], without: u64) -> Shared
     ensures shares { Shares scope_a.now scope_b.now result }
     ensures common { CommonColumns scope_a.now scope_b.now result }
 {
-    let mut i: u16 = 0;
-    while wide(i) < scope_a.len() {
-        let x = scope_a[wide(i)];
-        if !is_in(without, x) {
-            let j = column_of(scope_b, x);
+    for (i, x) in scope_a.iter().enumerate() {
+        if !is_in(without, *x) {
+            let j = column_of(scope_b, *x);
             if j < scope_b.len() {
                 return Shared {
-                    own: i,
+                    own: i as u16,
                     other: j as u16,
                 };
             }
         }
-        i += 1;
     }
     Shared {
         own: MAX_WIDTH as u16,
@@ -133,10 +131,8 @@ fn mask_of(
     let first = tuple_start(starts, s);
     let end = tuple_start(starts, s + 1);
     let mut bits: u64 = 0;
-    let mut g = next(words, first, end);
-    while g < end {
-        bits = bits | bits_at(variables, values, starts, s, g - first, column);
-        g = next(words, g + 1, end);
+    for g in live_ids(words, first, end) {
+        bits |= bits_at(variables, values, starts, s, g - first, column);
     }
     bits
 }

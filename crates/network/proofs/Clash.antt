@@ -49,9 +49,6 @@ module _ (xs vs ys ws : List ℕ) where
     pub below : (k : ℕ) → k < i → (l : ℕ) → ClashAt k l → n ≤ get_or xs k 0
     pub found : Found i n
 
-  pub lowest_start : Lowest 0 no_variable
-  lowest_start = record { below = λ k h. absurd (omega arith); found = inl refl }
-
   module _ {i n : ℕ} (s : Lowest i n) where
     -- the next column clashes with none
     pub lowest-passes : ((l : ℕ) → ClashAt i l → ⊥) → Lowest (i + 1) n

@@ -7,18 +7,8 @@ ghost use Rattle.layout.specs.Loan.{entry};
 ghost use Rattle.layout.specs.Setting.{lists};
 ghost use Rattle.network.specs.Tuples.{Columns, Two, clash_at, agree_at};
 
-use layout::{Starts, fit, place_of};
+use layout::{Starts, column_of, fit, place_of};
 use model::{NO_VARIABLE, Value};
-
-// The lesser of two variables.
-fn lesser(x: u16, y: u16) -> u16
-    ensures { result ≡ lesser x (some y) }
-{
-    if y < x {
-        return y;
-    }
-    x
-}
 
 // The lowest variable of both scopes whose values do not fit; 64 where there is none.
 pub fn first_clash(scope_a: &[u16], a: &[Value], scope_b: &[u16], b: &[Value]) -> u16
@@ -26,19 +16,11 @@ pub fn first_clash(scope_a: &[u16], a: &[Value], scope_b: &[u16], b: &[Value]) -
     ensures { result ≡ clash_number (first_clashing (cells scope_a.now a.now) (cells scope_b.now b.now)) }
 {
     let mut lowest = NO_VARIABLE;
-    let mut i = 0;
-    while i < scope_a.len() {
-        let mut j = 0;
-        'shared: while j < scope_b.len() {
-            if scope_a[i] == scope_b[j] {
-                if !fit(a[i], b[j]) {
-                    lowest = lesser(lowest, scope_a[i]);
-                }
-                break 'shared;
-            }
-            j += 1;
+    for (i, x) in scope_a.iter().enumerate() {
+        let j = column_of(scope_b, *x);
+        if j < scope_b.len() && !fit(a[i], b[j]) {
+            lowest = lowest.min(*x);
         }
-        i += 1;
     }
     lowest
 }
@@ -58,19 +40,11 @@ pub fn tuples_clash(
 {
     let p = place_of(starts, r, x);
     let q = place_of(starts, s, y);
-    let scope_a = p.scope;
-    let scope_a_end = p.scope_end;
-    let a = p.tuple;
-    let a_end = p.tuple_end;
-    let scope_b = q.scope;
-    let scope_b_end = q.scope_end;
-    let b = q.tuple;
-    let b_end = q.tuple_end;
     first_clash(
-        &variables[scope_a..scope_a_end],
-        &values[a..a_end],
-        &variables[scope_b..scope_b_end],
-        &values[b..b_end],
+        &variables[p.scope..p.scope_end],
+        &values[p.tuple..p.tuple_end],
+        &variables[q.scope..q.scope_end],
+        &values[q.tuple..q.tuple_end],
     )
 }
 

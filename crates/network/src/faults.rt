@@ -22,10 +22,7 @@ pub struct Totals {
 pub fn within(low: usize, high: usize, n: usize) -> bool
     ensures { result ≡ within low high n }
 {
-    if n < low {
-        return false;
-    }
-    n <= high
+    (low..=high).contains(&n)
 }
 
 // Whether every width is allowed.
@@ -33,14 +30,9 @@ fn proper_widths(shape: Shape) -> bool
     requires { shape.count ≤ max_relations }
     ensures { result ≡ all proper_width (relations_of shape) }
 {
-    let mut r = 0;
-    while r < shape.count {
-        if !within(1, MAX_WIDTH, wide(shape.widths[r])) {
-            return false;
-        }
-        r += 1;
-    }
-    true
+    shape.widths[..shape.count]
+        .iter()
+        .all(|width| within(1, MAX_WIDTH, wide(*width)))
 }
 
 // The sums over all records.
@@ -53,14 +45,12 @@ fn totals_of(shape: Shape) -> Totals
     let mut variables = 0;
     let mut tuples = 0;
     let mut values = 0;
-    let mut r = 0;
-    while r < shape.count {
+    for r in 0..shape.count {
         let width = wide(shape.widths[r]);
         let size = wide(shape.tuples[r]);
         variables += width;
         tuples += size;
         values += width * size;
-        r += 1;
     }
     Totals {
         variables,
@@ -73,41 +63,17 @@ fn totals_of(shape: Shape) -> Totals
 fn all_variables(scope: &[u16]) -> bool
     ensures { result ≡ all (λ (x : ℕ). ltb x variable_count) scope.now }
 {
-    let mut i = 0;
-    while i < scope.len() {
-        if VARIABLES <= wide(scope[i]) {
-            return false;
-        }
-        i += 1;
-    }
-    true
-}
-
-// Whether x stands nowhere from the given column on.
-fn absent(scope: &[u16], x: u16, from: usize) -> bool
-    requires { from ≤ length scope.now }
-    ensures { result ≡ all (different x) (drop from scope.now) }
-{
-    let mut j = from;
-    while j < scope.len() {
-        if scope[j] == x {
-            return false;
-        }
-        j += 1;
-    }
-    true
+    scope.iter().all(|x| wide(*x) < VARIABLES)
 }
 
 // Whether no variable stands twice.
 fn all_different(scope: &[u16]) -> bool
     ensures { result ≡ pairwise different scope.now }
 {
-    let mut i = 0;
-    while i < scope.len() {
-        if !absent(scope, scope[i], i + 1) {
+    for (i, x) in scope.iter().enumerate() {
+        if scope[i + 1..].contains(x) {
             return false;
         }
-        i += 1;
     }
     true
 }
@@ -116,10 +82,7 @@ fn all_different(scope: &[u16]) -> bool
 fn proper_scope(scope: &[u16]) -> bool
     ensures { result ≡ proper_scope scope.now }
 {
-    if !all_variables(scope) {
-        return false;
-    }
-    all_different(scope)
+    all_variables(scope) && all_different(scope)
 }
 
 // Whether every relation's part of the variable list is a proper scope.
@@ -129,14 +92,12 @@ fn proper_scopes(shape: Shape, variables: &[u16]) -> bool
     ensures { result ≡ proper_scopes (network_of shape variables.now []) }
 {
     let mut start = 0;
-    let mut r: usize = 0;
-    while r < shape.count {
-        let end = start + wide(shape.widths[r]);
+    for width in &shape.widths[..shape.count] {
+        let end = start + wide(*width);
         if !proper_scope(&variables[start..end]) {
             return false;
         }
         start = end;
-        r += 1;
     }
     true
 }

@@ -1,40 +1,31 @@
--- The lines of combinations from one number on: the first of them before the rest, and how long all are at most.
+-- The lines of combinations: the first of them before the rest, and how long all are at most.
 -- From the laws of combinations by number, and of lines.
 use mathlib.Core.Path.{◌≡◌, ap, ◌∙◌}
 use mathlib.Core.List.{List, [], ◌∷◌, ◌++◌, map}
-use Prim.Native.Nat.{ℕ, ◌+◌, ◌*◌, ◌-◌, ◌/◌, ◌≤◌, ◌<◌}
-use native.Mathlib.Nat.{sub-zero, suc-mul, div-mul-le_self, min-le_left}
+use Prim.Native.Nat.{ℕ, suc, ◌+◌, ◌*◌, ◌/◌, ◌≤◌, ◌<◌}
+use native.Mathlib.Nat.{suc-mul, add-div_left, div-eq_of_lt, div-mul-le_self, min-le_left}
+use native.Mathlib.Numerals.{add-one}
 use native.Mathlib.Omega.{arith}
 use lib.ListN.{length, take, drop, length-append, length-take}
 use Rattle.model.specs.Lists.{from}
 use Rattle.model.specs.Combination.{combinations}
 use Rattle.model.specs.Text.{line_text, text_of}
-use Rattle.model.proofs.Lists.{from_cons, length_from}
+use Rattle.model.proofs.Lists.{length_from, pieces, pieces-cons}
 use Rattle.model.proofs.Text.{line_text-length, text_of-cons}
 
-module _ (m : ℕ) (members : List ℕ) where
-  -- combination k
-  abbrev pub combination : ℕ → List ℕ
-  combination k = take m (drop (k * m) members)
-
-  -- the lines of the combinations from number k on
-  abbrev pub lines_from : ℕ → List ℕ
-  lines_from k = text_of (map combination (from k (length members / m - k)))
-
-  pub lines_from-all : lines_from 0 ≡ text_of (combinations m members)
+module _ (m : ℕ) where
+  -- the first one before the others
+  pub combination_first : (c rest : List ℕ) → 0 < m → length c ≡ m → text_of (combinations m (c ++ rest)) ≡ line_text c ++ text_of (combinations m rest)
   unfolding combinations
-  lines_from-all = ap (λ (n : ℕ). text_of (map combination (from 0 n))) (sub-zero (length members / m))
+  combination_first c rest pos e =
+      let n : length (c ++ rest) / m ≡ suc (length rest / m) =
+      ap (λ (k : ℕ). k / m) (length-append c rest ∙ ap (λ (k : ℕ). k + length rest) e) ∙ add-div_left (length rest) pos ∙ add-one (length rest / m)
+      in
+      ap text_of (ap (λ (k : ℕ). pieces k m (c ++ rest)) n ∙ pieces-cons (length rest / m) m c rest e) ∙ text_of-cons c (combinations m rest)
 
-  pub lines_from-next : (k : ℕ) → k < length members / m → lines_from k ≡ line_text (combination k) ++ lines_from (k + 1)
-  lines_from-next k h =
-      ap (λ (ks : List ℕ). text_of (map combination ks)) (from_cons k (length members / m) h)
-      ∙ text_of-cons (combination k) (map combination (from (k + 1) (length members / m - (k + 1))))
-
-  pub lines_from-none : (k : ℕ) → length members / m ≤ k → lines_from k ≡ []
-  unfolding text_of
-  lines_from-none k h =
-      let e : length members / m - k ≡ 0 = omega arith in
-      ap (λ (n : ℕ). text_of (map combination (from k n))) e
+  pub combination_none : (rest : List ℕ) → length rest < m → text_of (combinations m rest) ≡ []
+  unfolding combinations text_of
+  combination_none rest h = ap (λ (k : ℕ). text_of (pieces k m rest)) (div-eq_of_lt h)
 
 -- ---- How long the lines are
 
@@ -54,6 +45,6 @@ module _ (m : ℕ) (pos : 0 < m) where
   unfolding combinations
   combinations-short members =
       let count = length members / m in
-      let l = lines-short (combination m members) (λ k. rw length-take (min-le_left m (length (drop (k * m) members)))) (from 0 count) in
+      let l = lines-short (λ (k : ℕ). take m (drop (k * m) members)) (λ k. rw length-take (min-le_left m (length (drop (k * m) members)))) (from 0 count) in
       let e = ap (λ (n : ℕ). n * m) (length_from 0 count) in
       omega (arith, l, e, div-mul-le_self (length members) m)

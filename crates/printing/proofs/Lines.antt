@@ -1,4 +1,4 @@
--- Laws of lines: where a field ends, and a line as its first field and the line of the others, with their lengths.
+-- Laws of lines: a line as its first field and the line of the others, with their lengths.
 -- From the laws of decimals.
 use mathlib.Core.Path.{◌≡◌, sym, ◌∙◌, ap}
 use mathlib.Core.List.{List, [], ◌∷◌, ◌++◌, append_assoc}
@@ -9,15 +9,9 @@ use native.Mathlib.Omega.{arith}
 use lib.ListN.{length, drop, get_or, length-append, length-drop, drop_of_length-le}
 use lib.Seq.{drop-cons}
 use Rattle.model.specs.Text.{comma, newline, decimal, line_text}
-use Rattle.printing.specs.Appended.{Appended}
-use Rattle.printing.proofs.Appended.{appended-end}
 
 field-length : (v end : ℕ) → length (decimal v ++ (end ∷ [])) ≡ length (decimal v) + 1
 field-length v end = length-append (decimal v) (end ∷ [])
-
--- where a field ends
-pub field_end : {before after : List ℕ} {at n : ℕ} (v end : ℕ) → at ≤ length before → Appended (decimal v ++ (end ∷ [])) before at after n → n ≡ at + (length (decimal v) + 1)
-field_end v end h a = omega (arith, appended-end h a, field-length v end)
 
 line_text-front : (n : ℕ) (ns : List ℕ) → 0 < length ns → line_text (n ∷ ns) ≡ (decimal n ++ (comma ∷ [])) ++ line_text ns
 line_text-front n [] h = absurd (omega arith)
@@ -26,12 +20,6 @@ line_text-front n (k ∷ ks) h = sym (append_assoc (decimal n) (comma ∷ []) (l
 -- a tuple's line: its relation, its index, and the line of its values
 pub line_text-tuple : (r x : ℕ) (values : List ℕ) → 0 < length values → line_text (r ∷ x ∷ values) ≡ (decimal r ++ (comma ∷ [])) ++ ((decimal x ++ (comma ∷ [])) ++ line_text values)
 line_text-tuple r x values h = line_text-front r (x ∷ values) (omega arith) ∙ ap (λ (t : List ℕ). (decimal r ++ (comma ∷ [])) ++ t) (line_text-front x values h)
-
-pub tuple-length : (r x : ℕ) (values : List ℕ) → 0 < length values → length (line_text (r ∷ x ∷ values)) ≡ (length (decimal r) + 1) + ((length (decimal x) + 1) + length (line_text values))
-tuple-length r x values h =
-    let first = decimal r ++ (comma ∷ []) in
-    let second = decimal x ++ (comma ∷ []) in
-    omega (arith, ap length (line_text-tuple r x values h), length-append first (second ++ line_text values), length-append second (line_text values), field-length r comma, field-length x comma)
 
 module _ (fields : List ℕ) (i : ℕ) where
   at_front : i < length fields → drop i fields ≡ get_or fields i 0 ∷ drop (i + 1) fields

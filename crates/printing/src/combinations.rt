@@ -11,14 +11,9 @@ pub fn combination_lines(members: &[u32], m: usize, out: &mut [u8], at: usize) -
     requires { (0 < m) × (at + length (text_of (combinations m members.now)) ≤ length out.old) }
     ensures { Appended (text_of (combinations m members.now)) out.old at out.new result }
 {
-    let count = members.len() / m;
     let mut n = at;
-    let mut k = 0;
-    while k < count {
-        let place = k * m;
-        let end = place + m;
-        n = line(out, n, &members[place..end]);
-        k += 1;
+    for combination in members.chunks_exact(m) {
+        n = line(out, n, combination);
     }
     n
 }

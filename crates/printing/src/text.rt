@@ -44,10 +44,8 @@ pub fn line(out: &mut [u8], at: usize, fields: &[u32]) -> usize
 {
     let last = fields.len() - 1;
     let mut n = at;
-    let mut i = 0;
-    while i < last {
-        n = field(out, n, fields[i], COMMA);
-        i += 1;
+    for v in &fields[..last] {
+        n = field(out, n, *v, COMMA);
     }
     field(out, n, fields[last], NEWLINE)
 }
@@ -57,7 +55,7 @@ pub fn tuple_line(out: &mut [u8], at: usize, relation: u16, index: u16, values: 
     requires { (0 < length values.now) × (at + length (line_text (relation ∷ index ∷ values.now)) ≤ length out.old) }
     ensures { Appended (line_text (relation ∷ index ∷ values.now)) out.old at out.new result }
 {
-    let k = field(out, at, relation as u32, COMMA);
-    let n = field(out, k, index as u32, COMMA);
+    let k = field(out, at, u32::from(relation), COMMA);
+    let n = field(out, k, u32::from(index), COMMA);
     line(out, n, values)
 }

@@ -8,7 +8,7 @@ ghost use Rattle.printing.specs.Lines.{rows, relation_text, Printable};
 
 use super::text::tuple_line;
 use layout::{Starts, relation_count, tuple_start, value_start, variable_start, wide};
-use live::next;
+use live::ids::live_ids;
 use model::Value;
 
 // Writes the line of each live tuple of relation r.
@@ -29,13 +29,11 @@ fn relation_lines(
     let first = value_start(starts, r);
     let width = variable_start(starts, r + 1) - variable_start(starts, r);
     let mut n = at;
-    let mut g = next(words, start, end);
-    while g < end {
+    for g in live_ids(words, start, end) {
         let index = g - start;
         let place = first + wide(index) * width;
         let place_end = place + width;
         n = tuple_line(out, n, r, index, &values[place..place_end]);
-        g = next(words, g + 1, end);
     }
     n
 }
@@ -54,10 +52,8 @@ pub fn tuple_lines(
 {
     let relations = relation_count(starts);
     let mut n = at;
-    let mut r = 0;
-    while r < relations {
+    for r in 0..relations {
         n = relation_lines(values, starts, words, r, out, n);
-        r += 1;
     }
     n
 }

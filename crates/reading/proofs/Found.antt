@@ -4,22 +4,17 @@ use mathlib.Core.Path.{◌≡◌, refl, sym, ap, ◌∙◌}
 use mathlib.Core.Bool.{Bool, true, false, cond}
 use mathlib.Core.Option.{none, some, some-injective, none-ne-some, some-ne-none}
 use mathlib.Core.List.{List, [], ◌++◌, append_assoc}
-use Prim.Native.Nat.{ℕ, zero, suc, ◌+◌, ◌≤◌, ◌<◌}
+use Prim.Native.Nat.{ℕ, zero, suc, ◌<◌}
 use native.Mathlib.Omega.{arith}
-use borrow.Author.Tests.{eq-eqb, ne_eqb, leb-true}
-use lib.Dec.{eqb, leb}
+use borrow.Author.Tests.{eq-eqb, ne_eqb}
+use lib.Dec.{eqb}
 use lib.ListN.{drop}
-use Rattle.model.specs.Fault.{within}
 use Rattle.model.specs.Reading.{Read, and_then}
-use Rattle.model.proofs.Bools.{and_right}
 use Rattle.reading.specs.Parts.{found_at, map_read, behind}
 
 pub positive : (n : ℕ) → (n ≡ 0 → ⊥) → 0 < n
 positive zero h = absurd (h refl)
 positive (suc n) h = omega arith
-
-pub within-high : (low high n : ℕ) → within low high n ≡ true → n ≤ high
-within-high low high n h = leb-true n high (and_right (leb low n) (leb n high) h)
 
 module _ {A : Type 0} (t : List ℕ) where
   -- a position other than 0
@@ -28,9 +23,6 @@ module _ {A : Type 0} (t : List ℕ) where
 
   pub found_none : (next : ℕ) (x : A) → next ≡ 0 → found_at next x t ≡ none
   found_none next x e = ap (λ (b : Bool). cond b none (some (x, drop next t))) (eq-eqb next 0 e)
-
-  pub found-past : (i : ℕ) (x : A) → found_at (i + 1) x t ≡ some (x, drop (i + 1) t)
-  found-past i x = found-at (i + 1) x (λ (e : i + 1 ≡ 0). omega arith)
 
 -- numbers behind vs, and these behind us
 pub behind-behind : (us vs : List ℕ) (R : Read (List ℕ)) → behind us (behind vs R) ≡ behind (us ++ vs) R

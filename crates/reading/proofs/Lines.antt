@@ -1,18 +1,16 @@
 -- How a line is read field by field, and lines line by line, behind what was read before; and what is kept behind them.
 -- From the definitions of `read_line` and `read_lines`.
-use mathlib.Core.Path.{◌≡◌, refl, sym, ap, ◌∙◌}
-use mathlib.Core.Bool.{Bool, true, false, cond}
+use mathlib.Core.Path.{◌≡◌, sym, ap, ◌∙◌}
 use mathlib.Core.Option.{none, some}
 use mathlib.Core.List.{List, [], ◌∷◌, ◌++◌, append-nil}
 use Prim.Native.Nat.{ℕ, zero, suc, ◌+◌, ◌-◌, ◌*◌, ◌≤◌, ◌<◌}
 use native.Mathlib.Nat.{suc-mul, mul-le-mul_right}
 use native.Mathlib.Numerals.{add-one}
 use native.Mathlib.Omega.{arith}
-use lib.Dec.{eqb}
 use lib.ListN.{length, take, drop, set}
 use lib.Seq.{take-suc-set, drop-drop}
-use Rattle.model.specs.Text.{newline, comma}
-use Rattle.model.specs.Reading.{Read, and_then, read_field, read_line, read_lines}
+use Rattle.model.specs.Text.{comma}
+use Rattle.model.specs.Reading.{read_field, read_line, read_lines}
 use Rattle.reading.specs.Parts.{found_at, behind}
 use Rattle.reading.proofs.Found.{found-at, behind-behind, map-split, map-none}
 
@@ -45,15 +43,6 @@ module _ (top j k : ℕ) (T us : List ℕ) (h : 0 < j) (q : k ≡ j + 1) where
       go : (i : ℕ) → 0 < i → behind us (read_line top (i + 1) T) ≡ behind (us ++ (v ∷ [])) (read_line top i rest)
       go zero p = absurd (omega arith)
       go (suc i) p = rw (add-one (suc i), e) (behind-behind us (v ∷ []) (read_line top (suc i) rest))
-
--- the last field of a line
-pub line-last : (top : ℕ) (t T us : List ℕ) (next v : ℕ) → found_at next v t ≡ read_field top newline T → found_at next (us ++ (v ∷ [])) t ≡ behind us (read_line top 1 T)
-line-last top t T us next v h =
-    go (eqb next 0) ∙ ap (λ (R : Read ℕ). behind us (and_then R (λ (w : ℕ) (rest : List ℕ). some (w ∷ [], rest)))) h
-  where
-    go : (b : Bool) → cond b none (some (us ++ (v ∷ []), drop next t)) ≡ behind us (and_then (cond b none (some (v, drop next t))) (λ (w : ℕ) (rest : List ℕ). some (w ∷ [], rest)))
-    go true = refl
-    go false = refl
 
 lines-first : (top j n : ℕ) (T us vs rest : List ℕ) → read_line top n T ≡ some (vs, rest) → behind us (read_lines top (j + 1) n T) ≡ behind (us ++ vs) (read_lines top j n rest)
 lines-first top j n T us vs rest e = rw (add-one, e) (behind-behind us vs (read_lines top j n rest))

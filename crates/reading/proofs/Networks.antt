@@ -4,7 +4,7 @@
 use mathlib.Core.Path.{◌≡◌, refl, sym, ap, ap₂, subst, ◌∙◌}
 use mathlib.Core.Bool.{Bool, true, false, ◌&&◌, cond}
 use mathlib.Core.Option.{none, some}
-use mathlib.Core.List.{List, [], ◌∷◌, ◌++◌, append_assoc, append-nil, map, map-append}
+use mathlib.Core.List.{List, [], ◌∷◌, ◌++◌, append_assoc, map, map-append}
 use Prim.Native.Nat.{ℕ, zero, suc, ◌+◌, ◌-◌, ◌≤◌, ◌<◌}
 use native.Mathlib.Nat.{le_of_suc-le-suc, zero-add, sub-zero}
 use native.Mathlib.Numerals.{add-one}
@@ -26,7 +26,7 @@ use Rattle.layout.specs.declared.Shape.{Shape}
 use Rattle.layout.specs.Shape.{padded, shape_of, record_at, relations_of, network_of}
 use Rattle.layout.proofs.Relations.{relation-count}
 use Rattle.reading.specs.Parts.{found_at, map_read, behind, append, single, unlisted, read_record, read_relation, blank_shape, IsBlankBehind}
-use Rattle.reading.proofs.Found.{found-at, behind-nil, map-split, map_found, passed-test}
+use Rattle.reading.proofs.Found.{behind-nil, map-split, map_found, passed-test}
 
 -- a line read into a list of its own
 pub line-alone : (top n : ℕ) (t T xs : List ℕ) (next : ℕ) → length xs ≡ n → found_at next (take (0 + n) xs) t ≡ behind [] (read_line top n T) → found_at next xs t ≡ read_line top n T
@@ -165,12 +165,6 @@ module _ (j k room : ℕ) (T : List ℕ) (q : k ≡ j + 1) where
       relations-then N M (drop next t) s.1
       ∙ ap₂ (λ (K : Network) (i : ℕ). map_read (append K) (read_relations j i (drop next t)))
       (network-same (ap (λ (Qs : List Relation). N.relations ++ Qs) (sym Rs)) (sym us) (sym zs)) room-left
-
--- no relation is left
-pub relations-end : (room : ℕ) (t : List ℕ) (N : Network) (at : ℕ) → 0 < at → found_at at N t ≡ map_read (append N) (read_relations 0 room (drop at t))
-relations-end room t N at h =
-    found-at t at N (λ (z : at ≡ 0). omega arith)
-    ∙ ap (λ (K : Network). some (K, drop at t)) (network-same (sym (append-nil N.relations)) (sym (append-nil N.variables)) (sym (append-nil N.values)))
 
 -- ---- The records
 

@@ -30,8 +30,7 @@ fn digits(text: &[u8], from: usize, top: u32, first: u32, end: u8) -> Decimal
     ensures inside { result.next ≤ length text.now }
 {
     let mut v = first;
-    let mut i = from;
-    while i < text.len() {
+    for i in from..text.len() {
         let b = text[i];
         if b == end {
             let next = i + 1;
@@ -46,12 +45,11 @@ fn digits(text: &[u8], from: usize, top: u32, first: u32, end: u8) -> Decimal
         if v == 0 {
             break;
         }
-        let w = 10 * (v as u64) + (b - NOUGHT) as u64;
-        if (top as u64) < w {
+        let w = 10 * u64::from(v) + u64::from(b - NOUGHT);
+        if u64::from(top) < w {
             break;
         }
         v = w as u32;
-        i += 1;
     }
     Decimal { value: 0, next: 0 }
 }
@@ -71,7 +69,7 @@ pub fn field(text: &[u8], at: usize, top: u32, end: u8) -> Decimal
     if NINE < b {
         return Decimal { value: 0, next: 0 };
     }
-    digits(text, at + 1, top, (b - NOUGHT) as u32, end)
+    digits(text, at + 1, top, u32::from(b - NOUGHT), end)
 }
 
 // Reads a line of n fields, each at most `top`, into a list, from entry `start` on. Gives the position behind the line; 0 if there is
@@ -83,15 +81,13 @@ pub fn line(text: &[u8], at: usize, top: u32, n: usize, into: &mut [u32], start:
 {
     let last = start + n - 1;
     let mut from = at;
-    let mut to = start;
-    while to < last {
+    for to in start..last {
         let f = field(text, from, top, COMMA);
         if f.next == 0 {
             return 0;
         }
         into[to] = f.value;
         from = f.next;
-        to += 1;
     }
     let f = field(text, from, top, NEWLINE);
     into[last] = f.value;
@@ -113,15 +109,11 @@ pub fn lines(
     ensures kept { KeptFrom (start + k * n) into.old into.new }
 {
     let mut from = at;
-    let mut to = start;
-    let mut i = 0;
-    while i < k {
-        from = line(text, from, top, n, into, to);
+    for i in 0..k {
+        from = line(text, from, top, n, into, start + i * n);
         if from == 0 {
             return 0;
         }
-        to += n;
-        i += 1;
     }
     from
 }
@@ -137,8 +129,5 @@ pub fn number(x: u32) -> usize
 pub fn within(low: usize, high: usize, n: usize) -> bool
     ensures { result ≡ within low high n }
 {
-    if n < low {
-        return false;
-    }
-    n <= high
+    low <= n && n <= high
 }

@@ -1,10 +1,10 @@
 // Reads the desk's text into the lists of a network and its combinations.
 #![tactic(auto)]
 
-ghost use Rattle.std.specs.Prelude.{◌≡◌, ◌≤◌};
-ghost use Rattle.std.proofs.Math.Option.{none};
+ghost use Rattle.std.specs.Prelude.{◌≡◌, MatchOption, IfSome, ◌≤◌, ◌<◌, drop};
+ghost use Rattle.std.proofs.Math.Option.{none, some};
 ghost use Rattle.model.specs.Limits.{max_relations, max_members, max_combinations};
-ghost use Rattle.reading.specs.Parts.{found_at, read_heading, numbers_of};
+ghost use Rattle.reading.specs.Parts.{read_heading, numbers_of};
 ghost use Rattle.reading.specs.Book.{book_of, Stands};
 
 use fields::{MAX_FIELD, line, lines, number, within};
@@ -27,7 +27,7 @@ pub const MAX_VALUES: usize = MAX_TUPLES * MAX_WIDTH;
 
 pub const MAX_MEMBER_LIST: usize = MAX_COMBINATIONS * MAX_MEMBERS;
 
-// The numbers of the first line, and the position behind it; 0 if it is not in the form.
+// The numbers of the first line, and the position behind it.
 #[derive(Clone, Copy)]
 pub struct Heading {
     pub next: usize,
@@ -47,40 +47,34 @@ pub struct Book {
     pub members: usize,
 }
 
-// The text's first line.
-fn heading_of(text: &[u8]) -> Heading
-    ensures read { found_at result.next (numbers_of result) text.now ≡ read_heading text.now }
-    ensures small { (result.relations ≤ max_relations) × (result.m ≤ max_members) × (result.combinations ≤ max_combinations) }
+// The text's first line, if it is in the form.
+fn heading_of(text: &[u8]) -> Option<Heading>
+    ensures read { MatchOption result (read_heading text.now ≡ none) (λ h. read_heading text.now ≡ some (numbers_of h, drop h.next text.now)) }
+    ensures small { IfSome result (λ h. (0 < h.next) × (h.relations ≤ max_relations) × (h.m ≤ max_members) × (h.combinations ≤ max_combinations)) }
 {
-    let none = Heading {
-        next: 0,
-        relations: 0,
-        m: 0,
-        combinations: 0,
-    };
     let mut numbers = [0u32; 3];
     let next = line(text, 0, MAX_FIELD, 3, &mut numbers, 0);
     if next == 0 {
-        return none;
+        return None;
     }
     let relations = number(numbers[0]);
     let m = number(numbers[1]);
     let combinations = number(numbers[2]);
     if !within(1, MAX_RELATIONS, relations) {
-        return none;
+        return None;
     }
     if !within(MIN_MEMBERS, MAX_MEMBERS, m) {
-        return none;
+        return None;
     }
     if MAX_COMBINATIONS < combinations {
-        return none;
+        return None;
     }
-    Heading {
+    Some(Heading {
         next,
         relations,
         m,
         combinations,
-    }
+    })
 }
 
 // Nothing was read.
@@ -110,10 +104,9 @@ pub fn read(
     if MAX_TEXT < text.len() {
         return nothing();
     }
-    let heading = heading_of(text);
-    if heading.next == 0 {
+    let Some(heading) = heading_of(text) else {
         return nothing();
-    }
+    };
     let listed = relations_at(text, heading.next, heading.relations, variables, values);
     if listed.next == 0 {
         return nothing();

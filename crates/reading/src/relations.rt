@@ -1,5 +1,6 @@
 // A relation of the text, and all relations.
-ghost use Rattle.std.specs.Prelude.{◌≡◌, ◌+◌, ◌*◌, ◌≤◌, ◌<◌, length, drop};
+ghost use Rattle.std.specs.Prelude.{◌≡◌, MatchOption, IfSome, ◌+◌, ◌*◌, ◌≤◌, ◌<◌, length, drop};
+ghost use Rattle.std.proofs.Math.Option.{none, some};
 ghost use Rattle.model.specs.Limits.{max_relations, max_width, max_tuples};
 ghost use Rattle.model.specs.Reading.{read_relations};
 ghost use Rattle.model.specs.Edges.{max_variables, max_values};
@@ -17,34 +18,29 @@ pub struct Record {
     pub tuples: usize,
 }
 
-// The relation record at a position, with at most `room` tuples.
-fn record_at(text: &[u8], at: usize, room: usize) -> Record
-    ensures read { found_at result.next (record_of result) text.now ≡ read_record room (drop at text.now) }
-    ensures small { (result.width ≤ max_width) × (result.tuples ≤ room) }
+// The relation record at a position, if it is in the form and has at most `room` tuples.
+fn record_at(text: &[u8], at: usize, room: usize) -> Option<Record>
+    ensures read { MatchOption result (read_record room (drop at text.now) ≡ none) (λ r. read_record room (drop at text.now) ≡ some (record_of r, drop r.next text.now)) }
+    ensures small { IfSome result (λ r. (0 < r.next) × (r.width ≤ max_width) × (r.tuples ≤ room)) }
 {
-    let none = Record {
-        next: 0,
-        width: 0,
-        tuples: 0,
-    };
     let mut numbers = [0u32; 2];
     let next = line(text, at, MAX_FIELD, 2, &mut numbers, 0);
     if next == 0 {
-        return none;
+        return None;
     }
     let width = number(numbers[0]);
     let tuples = number(numbers[1]);
     if !within(1, MAX_WIDTH, width) {
-        return none;
+        return None;
     }
     if room < tuples {
-        return none;
+        return None;
     }
-    Record {
+    Some(Record {
         next,
         width,
         tuples,
-    }
+    })
 }
 
 // Reads a relation of at most `room` tuples: its scope and its values go into the lists, from entry `variable` and `value` on.
@@ -61,12 +57,14 @@ fn relation_at(
     ensures read { RelationRead text.now at room variables.old variables.new variable values.old values.new value result }
     ensures rest { (result.width ≤ max_width) × (result.tuples ≤ room) × KeptFrom (variable + result.width) variables.old variables.new × KeptFrom (value + result.tuples * result.width) values.old values.new }
 {
-    let r = record_at(text, at, room);
-    let record_end = r.next;
-    if record_end == 0 {
-        return r;
-    }
-    let scope_end = line(text, record_end, MAX_FIELD, r.width, variables, variable);
+    let Some(r) = record_at(text, at, room) else {
+        return Record {
+            next: 0,
+            width: 0,
+            tuples: 0,
+        };
+    };
+    let scope_end = line(text, r.next, MAX_FIELD, r.width, variables, variable);
     if scope_end == 0 {
         return Record {
             next: 0,
@@ -121,8 +119,7 @@ pub fn relations_at(
     let mut from = at;
     let mut variable = 0;
     let mut value = 0;
-    let mut r = 0;
-    while r < count {
+    for r in 0..count {
         let found = relation_at(text, from, room, variables, variable, values, value);
         from = found.next;
         if from == 0 {
@@ -133,7 +130,6 @@ pub fn relations_at(
         room -= found.tuples;
         variable += found.width;
         value += found.tuples * found.width;
-        r += 1;
     }
     Listed {
         next: from,

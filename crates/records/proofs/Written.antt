@@ -1,12 +1,12 @@
 -- Laws of records with other live counts: the first i of them written, one more, and all that are to be written; and the counts read back.
 -- From the definition of `with_live`.
-use mathlib.Core.Path.{◌≡◌, refl, ap}
-use mathlib.Core.List.{List, [], ◌∷◌}
+use mathlib.Core.Path.{◌≡◌, refl, sym, ap}
+use mathlib.Core.List.{List, [], ◌∷◌, ◌++◌}
 use Prim.Native.Nat.{ℕ, zero, suc, ◌≤◌, min}
 use native.Mathlib.Nat.{not-suc-le-zero, le_of_suc-le-suc, suc_inj}
 use native.Mathlib.Decide.{dec_le}
 use native.Mathlib.Omega.{arith}
-use lib.ListN.{length, get_or, set}
+use lib.ListN.{length, get_or, set, take, drop}
 use Rattle.model.specs.declared.Record.{Record}
 use Rattle.layout.specs.Shape.{padded}
 use Rattle.records.specs.Records.{live_in, counted, with_live, no_record}
@@ -76,3 +76,11 @@ written_all Rs live k = either (dec_le (length Rs) k)
     either : Dec (length Rs ≤ k) → written Rs live (min (length Rs) k) ≡ with_live Rs (padded k live)
     either (yes h) = written-front Rs live (min (length Rs) k) k (omega (arith, h)) h
     either (no h) = let e : min (length Rs) k ≡ k = omega (arith, h) in ap (written Rs live) e
+
+-- written to the first records, they are written to all
+pub written-front_of : (n : ℕ) (Rs : List Record) (live : List ℕ) → written (take n Rs) live n ++ drop n Rs ≡ written Rs live n
+unfolding written with_live padded
+written-front_of zero Rs live = sym (with_live-none Rs)
+written-front_of (suc n) [] live = refl
+written-front_of (suc n) (R ∷ Rs) [] = ap (λ (Qs : List Record). counted R 0 ∷ Qs) (written-front_of n Rs [])
+written-front_of (suc n) (R ∷ Rs) (k ∷ live) = ap (λ (Qs : List Record). counted R k ∷ Qs) (written-front_of n Rs live)

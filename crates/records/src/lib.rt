@@ -2,7 +2,7 @@
 // means there. A change call takes the records apart, works on their parts, and writes the live counts back.
 #![tactic(auto)]
 
-ghost use Rattle.std.specs.Prelude.{◌≡◌, min, ◌<◌, get_or};
+ghost use Rattle.std.specs.Prelude.{◌≡◌, min, ◌<◌};
 ghost use Rattle.model.specs.Limits.{max_relations};
 ghost use Rattle.model.specs.Request.{filter, withdraw, choose, choose_several};
 ghost use Rattle.model.specs.Reply.{Tested, Compared};
@@ -72,10 +72,8 @@ pub fn parts_of(relations: &[Record]) -> Parts
 {
     let n = at_most_64(relations.len());
     let mut parts = blank(relations.len());
-    let mut i = 0;
-    while i < n {
-        parts = with_record(parts, i, relations[i]);
-        i += 1;
+    for (i, relation) in relations[..n].iter().enumerate() {
+        parts = with_record(parts, i, *relation);
     }
     parts
 }
@@ -88,23 +86,13 @@ fn to_write(records: usize, done: Done) -> usize
     if records < n { records } else { n }
 }
 
-// The live count of relation i.
-fn live_at(done: Done, i: usize) -> u16
-    requires { i < max_relations }
-    ensures { result ≡ get_or done.live i 0 }
-{
-    done.live[i]
-}
-
 // The live counts that are to be written go into the records; gives back the answer.
 fn write_back(relations: &mut [Record], done: Done) -> u64
     ensures { WritesBack result relations done }
 {
     let n = to_write(relations.len(), done);
-    let mut i = 0;
-    while i < n {
-        relations[i].live = live_at(done, i);
-        i += 1;
+    for (i, relation) in relations[..n].iter_mut().enumerate() {
+        relation.live = done.live[i];
     }
     done.answer
 }

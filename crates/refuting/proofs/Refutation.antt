@@ -4,7 +4,7 @@ use mathlib.Core.Path.{◌≡◌, refl, sym, ◌∙◌, ap, ap₂, subst}
 use mathlib.Core.Bool.{Bool, true, false}
 use mathlib.Core.List.{List, map}
 use Prim.Native.Nat.{ℕ, ◌+◌, ◌≤◌, ◌<◌}
-use native.Mathlib.Decide.{dec_lt, ℕ_discrete}
+use native.Mathlib.Decide.{ℕ_discrete}
 use native.Mathlib.Omega.{arith}
 use lib.ListN.{length, get_or}
 use Rattle.model.specs.Network.{Network, size, total, first_id, index_of}
@@ -12,7 +12,7 @@ use Rattle.model.specs.Agreement.{agree}
 use Rattle.model.specs.Combination.{Combination}
 use Rattle.model.specs.LiveWords.{is_set, is_live}
 use Rattle.model.proofs.Bools.{not-both}
-use Rattle.model.proofs.Lists.{First, from-mem}
+use Rattle.model.proofs.Lists.{from-mem}
 use Rattle.model.proofs.LiveWords.{living-has}
 use Rattle.model.proofs.Network.{ids-below}
 use Rattle.model.proofs.Support.{candidates-at, candidates-index, candidates-id}
@@ -108,13 +108,9 @@ module _ (N : Network) (c : Combination) (place own : ℕ) (words : List ℕ) wh
     pub past-none : Past left best first
     past-none t C = (bounds t C).0
 
-    -- on to the next live one
-    pub past_next : (i end g : ℕ) → Past left best i → First (is_live words) i end g → Past left best g
-    past_next i end g P f t C = go (dec_lt (get_or t best 0) g)
-      where
-        go : Dec (get_or t best 0 < g) → g ≤ get_or t best 0
-        go (yes h) = absurd (not-both (C.lives best l) (f.none_before (get_or t best 0) (P t C) h))
-        go (no h) = omega arith
+    -- no live one is from i to g
+    pub past_on : {i g : ℕ} → Past left best i → ((j : ℕ) → i ≤ j → j < g → is_live words j ≡ false) → Past left best g
+    past_on {g = g} P none t C = let late : get_or t best 0 < g → ⊥ = λ h. not-both (C.lives best l) (none (get_or t best 0) (P t C) h) in omega (arith, late)
 
     -- one more
     pub past_one : (rest x g : ℕ) → Without left best rest → first + x ≡ g → RefutedWith N c place own words rest best x → Past left best g → Past left best (g + 1)

@@ -2,7 +2,7 @@
 // order. Here the member with the fewest candidates is taken first.
 #![tactic(auto)]
 
-ghost use Rattle.std.specs.Prelude.{◌≡◌, true, false, ◌≤◌, ◌<◌, length};
+ghost use Rattle.std.specs.Prelude.{◌≡◌, true, false, ◌≤◌, ◌<◌, length, MatchOption, ⊤};
 ghost use Rattle.model.specs.Limits.{max_relations};
 ghost use Rattle.model.specs.Network.{size};
 ghost use Rattle.model.specs.LiveWords.{is_set};
@@ -10,19 +10,17 @@ ghost use Rattle.layout.specs.Loan.{entry};
 ghost use Rattle.layout.specs.Setting.{lists, network_in};
 ghost use Rattle.narrowing.specs.Narrows.{Long, Seeks};
 ghost use Rattle.spreading.specs.Spread.{Counted};
-ghost use Rattle.refuting.specs.Refuted.{Without, OthersLeft, NarrowsLeft, Unmet, Refuted, RefutedWith, Shows, Alone, Refutable, Taken};
+ghost use Rattle.refuting.specs.Refuted.{Without, Left, OthersLeft, NarrowsLeft, Unmet, Refuted, RefutedWith, Shows, Alone, Refutable, Taken};
 
 use layout::{Starts, tuple_start};
-use live::{Words, next};
+use live::Words;
+use live::ids::live_ids;
 use model::Value;
 use narrowing::narrow_member;
 use narrowing::rows::{TUPLE_ROWS, next_in_rows, rows_for};
 use network::agreement::tuples_agree;
 use spreading::steps::live_count;
 use value_index::Index;
-
-// More tuples than a relation has.
-const MORE: u16 = 65535;
 
 // What one candidate costs at most: itself, and a copy of the words.
 const COST: u32 = 4;
@@ -46,32 +44,21 @@ fn without(left: u64, j: usize) -> u64
     left & !(1u64 << j)
 }
 
-// How many live tuples the member at j has; MORE if that place is not in the set.
-fn count_left(starts: &Starts, words: &Words, members: &[u16], left: u64, j: usize) -> u16
-    requires { Counted starts.now words.now members.now × (j < length members.now) }
-    ensures { result < 65535 → is_set left j ≡ true }
-{
-    if !is_in(left, j) {
-        return MORE;
-    }
-    live_count(starts, words, members[j])
-}
-
-// Of the members' places in the set, one whose member has the fewest live tuples; the number of members if there is none.
-fn fewest(starts: &Starts, words: &Words, members: &[u16], left: u64) -> usize
+// Of the members' places in the set, one whose member has the fewest live tuples.
+fn fewest(starts: &Starts, words: &Words, members: &[u16], left: u64) -> Option<usize>
     requires { Counted starts.now words.now members.now }
-    ensures { result < length members.now → is_set left result ≡ true }
+    ensures { MatchOption result ⊤ (λ j. Left members.now left j) }
 {
-    let mut best = members.len();
-    let mut least = MORE;
-    let mut j = 0;
-    while j < members.len() {
-        let n = count_left(starts, words, members, left, j);
-        if n < least {
-            best = j;
-            least = n;
+    let mut best = None;
+    let mut least = u16::MAX;
+    for j in 0..members.len() {
+        if is_in(left, j) {
+            let n = live_count(starts, words, members[j]);
+            if n < least {
+                best = Some(j);
+                least = n;
+            }
         }
-        j += 1;
     }
     best
 }
@@ -98,6 +85,7 @@ fn meets(
     let mut rows = [0u16; TUPLE_ROWS];
     let n = rows_for(variables, values, starts, index, r, x, s, &mut rows);
     let mut g = next_in_rows(index, &rows, n, words, first, end);
+    // stays a while: the loop goes over the live ids that are in rows of the index too
     while g < end {
         if tuples_agree(variables, values, starts, q, y, s, g - first) {
             return true;
@@ -123,14 +111,12 @@ fn narrow_left(
     requires { Long words.old × (Seeks (lists (λ x. x.now) variables values starts) index.now r x × (OthersLeft members.now left r × (length members.now ≤ 64))) }
     ensures { NarrowsLeft (lists entry variables values starts) members.now left r x words.old words.new result }
 {
-    let mut j = 0;
-    while j < members.len() {
+    for j in 0..members.len() {
         if is_in(left, j) {
             if !narrow_member(variables, values, starts, index, words, r, x, members[j]) {
                 return false;
             }
         }
-        j += 1;
     }
     true
 }
@@ -223,16 +209,14 @@ fn refuted(
     requires place_value { is_set left place ≡ false }
     ensures { Shows (Refuted (network_in (lists entry variables values starts)) members.now place own words.now left) steps result }
 {
-    let best = fewest(starts, words, members, left);
-    if members.len() <= best {
+    let Some(best) = fewest(starts, words, members, left) else {
         return 0;
-    }
+    };
     let rest = without(left, best);
     let first = tuple_start(starts, members[best]);
     let end = tuple_start(starts, members[best] + 1);
     let mut over = steps;
-    let mut g = next(words, first, end);
-    while g < end {
+    for g in live_ids(words, first, end) {
         over = refuted_with(
             variables,
             values,
@@ -250,7 +234,6 @@ fn refuted(
         if over == 0 {
             return 0;
         }
-        g = next(words, g + 1, end);
     }
     over
 }

@@ -9,7 +9,7 @@ use native.Mathlib.Numerals.{add-one}
 use native.Mathlib.Decide.{dec_lt, ℕ_discrete}
 use native.Mathlib.Omega.{arith}
 use lib.Dec.{leb, ltb, eqb}
-use lib.ListN.{length, get_or, set, drop, replicate, length-set, get_or-replicate, drop_of_length-le}
+use lib.ListN.{length, get_or, set, drop, replicate, length-set, length-drop, get_or-replicate, drop_of_length-le}
 use lib.Seq.{drop-cons, get_or-set_same, get_or-set_other}
 use borrow.Author.Tests.{ltb-true, le-leb, eq-eqb, ne_eqb, eqb-true, not-true, not-false}
 use Rattle.model.specs.Limits.{max_tuples, variable_count, any_value}
@@ -129,6 +129,13 @@ ended a b i h = go (dec_lt a b)
 cells-short : (xs : List ℕ) → cells xs [] ≡ []
 cells-short [] = refl
 cells-short (x ∷ xs) = refl
+
+-- what a list begins with from place k on stands at k
+pub front : (xs : List ℕ) (k x : ℕ) (rest : List ℕ) → drop k xs ≡ x ∷ rest → (k < length xs) × (x ≡ get_or xs k 0) × (rest ≡ drop (k + 1) xs)
+front xs k x rest e =
+    let h : k < length xs = omega (arith, ap length e, length-drop k xs) in
+    let d : drop k xs ≡ get_or xs k 0 ∷ drop (k + 1) xs = rw add-one (drop-cons xs k 0 h) in
+    (h, (cc), cc)
 
 module _ (xs vs : List ℕ) where
   pub paired-start : Paired xs vs (replicate 64 any_value) (replicate 64 any_value) 0 0

@@ -32,7 +32,7 @@ use Rattle.layout.proofs.Columns.{column-found, column-none}
 use Rattle.live.specs.Words.{WordArray}
 use Rattle.request.specs.Removal.{Holds, between, removed_by, removed_in, Added}
 use Rattle.layout.proofs.Inside.{scope-proper, index_below, index_back, value-within}
-use Rattle.request.proofs.Removed.{blank-full, raised-full}
+use Rattle.request.proofs.Removed.{raised-full}
 
 -- ---- Ids from one on and below another
 

@@ -15,15 +15,13 @@ fn lowest_empty(starts: &Starts, words: &[u64]) -> u16
     ensures { result ≡ lowest_empty (outline starts.now) (living_in starts.now words.now) }
 {
     let relations = relation_count(starts);
-    let mut r = 0;
-    while r < relations {
+    for r in 0..relations {
         let end = tuple_start(starts, r + 1);
         if next(words, tuple_start(starts, r), end) == end {
             return r;
         }
-        r += 1;
     }
-    r
+    relations
 }
 
 // The answer once the filter is done: before tuples lived at entry, and kept of them after the change.

@@ -61,15 +61,14 @@ pub fn add_choice(
         firsts[at] = both.first;
         seconds[at] = both.second;
     }
-    let next = at + 1;
-    if bound < next { next } else { bound }
+    bound.max(at + 1)
 }
 
 // The lesser of two numbers.
 pub fn lesser(a: usize, b: usize) -> usize
     ensures { result ≡ min a b }
 {
-    if a < b { a } else { b }
+    a.min(b)
 }
 
 // The pairs of two lists.
@@ -78,14 +77,11 @@ pub fn paired(xs: &[u16], vs: &[Value]) -> Choices
 {
     let variables = xs.len();
     let values = vs.len();
-    let count = lesser(variables, values);
     let mut firsts = [ANY_VALUE; VARIABLES];
     let mut seconds = [ANY_VALUE; VARIABLES];
     let mut bound = 0;
-    let mut i = 0;
-    while i < count {
-        bound = add_choice(&mut firsts, &mut seconds, bound, xs[i], vs[i]);
-        i += 1;
+    for (x, v) in xs.iter().zip(vs) {
+        bound = add_choice(&mut firsts, &mut seconds, bound, *x, *v);
     }
     Choices {
         variables,
@@ -108,11 +104,9 @@ pub fn unlike_any(
     ensures { Holds result (removed_by_kept (network_in (lists entry variables values starts)) firsts.now seconds.now) }
 {
     let mut removed = [0u64; WORDS];
-    let mut x: u16 = 0;
-    while wide(x) < VARIABLES {
+    for x in 0..VARIABLES as u16 {
         add_unlike(variables, values, starts, x, firsts[wide(x)], &mut removed);
         add_unlike(variables, values, starts, x, seconds[wide(x)], &mut removed);
-        x += 1;
     }
     removed
 }

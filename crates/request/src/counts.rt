@@ -26,15 +26,14 @@ fn counts_true(starts: &Starts, words: &[u64], counts: &[u16]) -> bool
     requires { Covered starts.now words.now }
     ensures { result ≡ not (untrue (outline starts.now) words.now counts.now) }
 {
-    if counts.len() != wide(relation_count(starts)) {
+    let relations = relation_count(starts);
+    if counts.len() != wide(relations) {
         return false;
     }
-    let mut r: u16 = 0;
-    while wide(r) < counts.len() {
+    for r in 0..relations {
         if counts[wide(r)] != live_count(starts, words, r) {
             return false;
         }
-        r += 1;
     }
     true
 }
@@ -44,10 +43,8 @@ pub fn count_all(starts: &Starts, words: &[u64], counts: &mut [u16])
     requires { Covered starts.now words.now × (length counts.old ≡ length (records_in starts.now)) }
     ensures { counts.new ≡ live_counts (outline starts.now) (living_in starts.now words.now) }
 {
-    let mut r: u16 = 0;
-    while wide(r) < counts.len() {
+    for r in 0..relation_count(starts) {
         counts[wide(r)] = live_count(starts, words, r);
-        r += 1;
     }
 }
 

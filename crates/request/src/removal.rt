@@ -30,8 +30,7 @@ pub fn add(words: &mut [u64], bound: usize, g: u16) -> usize
     if wide_id < MAX_TUPLES {
         set(words, g);
     }
-    let next = wide_id + 1;
-    if bound < next { next } else { bound }
+    bound.max(wide_id + 1)
 }
 
 // The ids of a list.
@@ -40,10 +39,8 @@ pub fn listed(ids: &[u16]) -> Ids
 {
     let mut words = [0u64; WORDS];
     let mut bound = 0;
-    let mut i = 0;
-    while i < ids.len() {
-        bound = add(&mut words, bound, ids[i]);
-        i += 1;
+    for g in ids {
+        bound = add(&mut words, bound, *g);
     }
     Ids { words, bound }
 }
@@ -68,15 +65,12 @@ fn unlike_in(
     if width <= column {
         return;
     }
-    let end = tuple_start(starts, r + 1);
-    let mut g = tuple_start(starts, r);
     let mut at = value_start(starts, r) + column;
-    while g < end {
+    for g in tuple_start(starts, r)..tuple_start(starts, r + 1) {
         if !fit(values[at], v) {
             set(removed, g);
         }
         at += width;
-        g += 1;
     }
 }
 
@@ -96,10 +90,8 @@ pub fn add_unlike(
         return;
     }
     let count = relation_count(starts);
-    let mut r = 0;
-    while r < count {
+    for r in 0..count {
         unlike_in(variables, values, starts, r, x, v, removed);
-        r += 1;
     }
 }
 
@@ -118,10 +110,7 @@ pub fn remove(words: &mut [u64], removed: &Words, n: u16)
     requires { Room words.old removed.now n }
     ensures { words.new ≡ without_ids n (is_live removed.now) words.old }
 {
-    let end = words_for(n);
-    let mut i = 0;
-    while i < end {
-        words[i] = words[i] & !removed[i];
-        i += 1;
+    for i in 0..words_for(n) {
+        words[i] &= !removed[i];
     }
 }

@@ -1,7 +1,7 @@
 -- Laws of the members of a combination narrowed through each other: no step, one, and one after the other.
 -- From the parts of a candidate, and the law that tuples of a candidate have one relation each.
 use mathlib.Core.Path.{◌≡◌, refl, sym, ◌∙◌, ap, ap₂, subst}
-use mathlib.Core.Bool.{Bool, true, ◌&&◌}
+use mathlib.Core.Bool.{true}
 use mathlib.Core.List.{List, map, Memᴰ}
 use mathlib.Core.Logic.{◌⊎◌}
 use Prim.Native.Nat.{ℕ, ◌+◌, ◌-◌, ◌≤◌, ◌<◌}
@@ -11,7 +11,7 @@ use borrow.Author.Tests.{ltb-true}
 use lib.Dec.{ltb}
 use lib.ListN.{length, get_or}
 use Rattle.model.specs.Lists.{all, pairwise}
-use Rattle.model.specs.Network.{Network, size, total, first_id, ids_of, index_of, relation_of}
+use Rattle.model.specs.Network.{Network, size, total, first_id, index_of, relation_of}
 use Rattle.model.specs.Agreement.{agree}
 use Rattle.model.specs.Combination.{Combination}
 use Rattle.model.specs.Support.{candidates}

@@ -1,9 +1,9 @@
 -- Laws of fresh tuples: every support has one in fewer words too, and so its tuples stay where a member is narrowed through them.
 -- From the parts of a candidate, and what is gathered.
-use mathlib.Core.Path.{◌≡◌, sym, ◌∙◌, ap, ap₂, subst}
+use mathlib.Core.Path.{◌≡◌, ◌∙◌, ap, ap₂, subst}
 use mathlib.Core.Bool.{true}
 use mathlib.Core.List.{List, map, Memᴰ}
-use Prim.Native.Nat.{ℕ, suc, ◌+◌, ◌≤◌, ◌<◌}
+use Prim.Native.Nat.{ℕ, ◌+◌, ◌<◌}
 use native.Mathlib.Decide.{ℕ_discrete}
 use native.Mathlib.Omega.{arith}
 use lib.ListN.{length, get_or}
@@ -17,7 +17,7 @@ use Rattle.model.proofs.Support.{candidates-length, candidates-at, candidates-in
 use Rattle.value_index.specs.Index.{row_bit}
 use Rattle.narrowing.specs.Narrows.{Long, KeptIds}
 use Rattle.spreading.specs.Spread.{AllLive}
-use Rattle.spreading.specs.Fresh.{HasFresh, Meets, GathersFrom, GathersOthers}
+use Rattle.spreading.specs.Fresh.{HasFresh, Meets, GathersOthers}
 use Rattle.spreading.proofs.Relations.{kept-both}
 use Rattle.spreading.proofs.Kept.{agree-two}
 
@@ -42,34 +42,6 @@ module _ (N : Network) (c : Combination) (place : ℕ) where
       pub long : Long after
       pub keeps : (z : ℕ) → z < size N (get_or c j 0) → is_live before (first_id N (get_or c j 0) + z) ≡ true → is_live after (first_id N (get_or c j 0) + z) ≡ true
       pub adds : (i x z : ℕ) → i < n → (i ≡ place → ⊥) → (i ≡ j → ⊥) → x < size N (get_or c i 0) → z < size N (get_or c j 0) → agree N (first_id N (get_or c i 0) + x) (first_id N (get_or c j 0) + z) ≡ true → is_live fresh (first_id N (get_or c i 0) + x) ≡ true → is_live words (first_id N (get_or c j 0) + z) ≡ true → is_live after (first_id N (get_or c j 0) + z) ≡ true
-
-    pub through-none : (before : List ℕ) → Long before → Through before before 0
-    through-none before long = record { long = long; keeps = λ z h l. l; adds = λ i x z h. absurd (omega (arith, h)) }
-
-    -- a member that is passed over
-    pub through-past : (before after : List ℕ) (n : ℕ) → ((n ≡ place → ⊥) → (n ≡ j → ⊥) → ⊥) → Through before after n → Through before after (n + 1)
-    through-past before after n past T = record { long = T.long; keeps = T.keeps; adds = λ i x z h p q hx hz a f l. go i x z h p q hx hz a f l (ℕ_discrete i n) }
-      where
-        go : (i x z : ℕ) → i < n + 1 → (i ≡ place → ⊥) → (i ≡ j → ⊥) → x < size N (get_or c i 0) → z < size N (get_or c j 0) → agree N (first_id N (get_or c i 0) + x) (first_id N (get_or c j 0) + z) ≡ true → is_live fresh (first_id N (get_or c i 0) + x) ≡ true → is_live words (first_id N (get_or c j 0) + z) ≡ true → Dec (i ≡ n) → is_live after (first_id N (get_or c j 0) + z) ≡ true
-        go i x z h p q hx hz a f l (yes e) = absurd (past (λ k. p (e ∙ k)) (λ k. q (e ∙ k)))
-        go i x z h p q hx hz a f l (no d) = T.adds i x z (omega (arith, h, d)) p q hx hz a f l
-
-    -- one more
-    pub through-more : (before sum after : List ℕ) (n : ℕ) → GathersFrom N (get_or c n 0) (get_or c j 0) fresh words sum after → Through before sum n → Through before after (n + 1)
-    through-more before sum after n G T =
-        record {
-          long = G.long;
-          keeps = λ z h l. G.keeps z h (T.keeps z h l);
-          adds = λ i x z h p q hx hz a f l. go i x z h p q hx hz a f l (ℕ_discrete i n);
-        }
-      where
-        go : (i x z : ℕ) → i < n + 1 → (i ≡ place → ⊥) → (i ≡ j → ⊥) → x < size N (get_or c i 0) → z < size N (get_or c j 0) → agree N (first_id N (get_or c i 0) + x) (first_id N (get_or c j 0) + z) ≡ true → is_live fresh (first_id N (get_or c i 0) + x) ≡ true → is_live words (first_id N (get_or c j 0) + z) ≡ true → Dec (i ≡ n) → is_live after (first_id N (get_or c j 0) + z) ≡ true
-        go i x z h p q hx hz a f l (yes e) =
-            G.adds x z (subst (λ (k : ℕ). x < size N (get_or c k 0)) e hx) hz (subst (λ (k : ℕ). agree N (first_id N (get_or c k 0) + x) (first_id N (get_or c j 0) + z) ≡ true) e a) (subst (λ (k : ℕ). is_live fresh (first_id N (get_or c k 0) + x) ≡ true) e f) l
-        go i x z h p q hx hz a f l (no d) = G.keeps z hz (T.adds i x z (omega (arith, h, d)) p q hx hz a f l)
-
-    pub through-all : (before after : List ℕ) → Through before after (length c) → GathersOthers N c place j fresh words before after
-    through-all before after T = record { long = T.long; keeps = T.keeps; adds = T.adds }
 
   -- a support's tuple of member j is gathered, with the fresh ones
   pub gathered-own : (j : ℕ) → j < length c → (fresh words sum : List ℕ) → GathersOthers N c place j fresh words fresh sum → Meets N c place words fresh → (t : List ℕ) → Memᴰ t (candidates N c) → pairwise (agree N) t ≡ true → AllLive words t → is_live sum (get_or t j 0) ≡ true

@@ -1,17 +1,19 @@
 -- Laws of one relation narrowed through another: what is gathered of it, tuple by tuple, and what is then kept.
 -- From what `gather` ensures, and the laws of narrowing and of ids.
 use mathlib.Core.Path.{◌≡◌, refl, sym, ◌∙◌, ap, subst}
-use mathlib.Core.Bool.{Bool, true, ◌&&◌, and-true}
+use mathlib.Core.Bool.{Bool, true, false, ◌&&◌, and-true}
 use mathlib.Core.List.{List}
 use mathlib.Core.Logic.{◌⊎◌, ⊎_elim}
 use Prim.Native.Nat.{ℕ, ◌+◌, ◌*◌, ◌≤◌, ◌<◌}
 use native.Mathlib.Decide.{ℕ_discrete, dec_lt}
+use native.Mathlib.Nat.{lt_of_not-le}
 use native.Mathlib.Omega.{arith}
 use lib.Dec.{ltb, leb}
 use Rattle.model.specs.Network.{Network, size, first_id}
 use Rattle.model.specs.Agreement.{agree}
 use Rattle.model.specs.LiveWords.{is_live}
-use Rattle.model.proofs.Bools.{and_left, and_intro, or_right}
+use Rattle.model.proofs.Bools.{and_left, and_intro, or_right, not-both}
+use Rattle.live.proofs.Ahead.{NextLive}
 use Rattle.value_index.specs.Index.{row_bit}
 use Rattle.narrowing.specs.Narrows.{stays, KeptIds}
 use Rattle.narrowing.specs.Gathers.{Gathers}
@@ -24,14 +26,19 @@ module _ (N : Network) (r s : ℕ) where
   Gathered fresh words sum g =
       (x z : ℕ) → x < size N r → first_id N r + x < g → is_live fresh (first_id N r + x) ≡ true → z < size N s → agree N (first_id N r + x) (first_id N s + z) ≡ true → is_live words (first_id N s + z) ≡ true → is_live sum (first_id N s + z) ≡ true
 
-  -- .. with one more of them, behind which the next fresh one is at h
-  pub gathered-more : (fresh words sum after : List ℕ) (y h : ℕ) → ((k : ℕ) → first_id N r + y + 1 ≤ k → k < h → is_live fresh k ≡ true → ⊥) → Gathers N r y s words sum after → Gathered fresh words sum (first_id N r + y) → Gathered fresh words after h
-  gathered-more fresh words sum after y h none one so_far x z hx below live hz agrees lives = go (dec_lt x y) (ℕ_discrete x y)
+  -- .. with one more of them, the next that is fresh
+  pub gathered-more : {fresh words sum after : List ℕ} {end at g at' : ℕ} → NextLive fresh end at g at' → (y : ℕ) → first_id N r + y ≡ g → Gathers N r y s words sum after → Gathered fresh words sum at → Gathered fresh words after at'
+  gathered-more {fresh} {words} {sum} {after} {end} {at} {g} {at'} next y is-g one so_far x z hx below live hz agrees lives = go (dec_lt (first_id N r + x) at) (ℕ_discrete y x)
     where
-      go : Dec (x < y) → Dec (x ≡ y) → is_live after (first_id N s + z) ≡ true
-      go (yes l) d = one.keeps z hz (so_far x z hx (omega arith) live hz agrees lives)
-      go (no l) (yes e) = one.adds z hz (subst (λ (k : ℕ). agree N (first_id N r + k) (first_id N s + z) ≡ true) e agrees) lives
-      go (no l) (no d) = absurd (none (first_id N r + x) (omega arith) below live)
+      go : Dec (first_id N r + x < at) → Dec (y ≡ x) → is_live after (first_id N s + z) ≡ true
+      go (yes l) d = one.keeps z hz (so_far x z hx l live hz agrees lives)
+      go (no l) (yes e) = one.adds z hz (subst (λ (k : ℕ). agree N (first_id N r + k) (first_id N s + z) ≡ true) (sym e) agrees) lives
+      go (no l) (no d) = absurd (not-both live (next.none_before (first_id N r + x) (omega arith) (omega (arith, below, next.behind, is-g, d))))
+
+  -- .. where no fresh one is left
+  pub gathered-all : (fresh words sum : List ℕ) (end at : ℕ) → ((i : ℕ) → at ≤ i → i < end → is_live fresh i ≡ false) → Gathered fresh words sum at → Gathered fresh words sum end
+  gathered-all fresh words sum end at none so_far x z hx below live hz agrees lives =
+      so_far x z hx (lt_of_not-le (λ le. not-both live (none (first_id N r + x) le below))) live hz agrees lives
 
   -- nothing is narrowed
   pub spread_none : (words : List ℕ) → Spread N r s words words

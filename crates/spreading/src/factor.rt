@@ -47,6 +47,7 @@ fn classes_in(
     let step = 1 + (end - first) / SAMPLE;
     let mut seen = [0u64; 5];
     let mut g = next(words, first, end);
+    // stays a while: a turn goes several ids on
     while g < end {
         set(
             &mut seen,
@@ -72,13 +73,11 @@ fn classes_of(
 {
     let a = variable_start(starts, s);
     let a_end = variable_start(starts, s + 1);
-    let mut n: u64 = 0;
-    let mut c = a;
-    while c < a_end {
-        if is_in(shared, variables[c]) {
-            n += classes_in(variables, values, starts, words, s, (c - a) as u16, factor) as u64;
+    let mut n = 0;
+    for (column, v) in variables[a..a_end].iter().enumerate() {
+        if is_in(shared, *v) {
+            n += u64::from(classes_in(variables, values, starts, words, s, column as u16, factor));
         }
-        c += 1;
     }
     n
 }
@@ -87,13 +86,11 @@ fn classes_of(
 fn shared_beside(index: &Index, members: &[u16], place: usize, j: usize) -> u64
     requires { Numbers members.now }
 {
-    let mut bits: u64 = 0;
-    let mut i = 0;
-    while i < members.len() {
+    let mut bits = 0;
+    for (i, r) in members.iter().enumerate() {
         if i != place && i != j {
-            bits = bits | scope_bits(index, members[i]);
+            bits |= scope_bits(index, *r);
         }
-        i += 1;
     }
     bits
 }
@@ -111,14 +108,12 @@ fn classes_by(
 ) -> u64
     requires { Long words.now × (SoundLists (lists (λ x. x.now) variables values starts) × Numbers members.now) }
 {
-    let mut n: u64 = 0;
-    let mut j = 0;
-    while j < members.len() {
+    let mut n = 0;
+    for (j, s) in members.iter().enumerate() {
         if j != place {
             let shared = shared_beside(index, members, place, j);
-            n += classes_of(variables, values, starts, words, members[j], shared, factor);
+            n += classes_of(variables, values, starts, words, *s, shared, factor);
         }
-        j += 1;
     }
     n
 }
@@ -138,8 +133,7 @@ pub fn factor_for(
     let mut best: u64 = 1;
     let mut most: u64 = 0;
     let mut factor: u64 = 1;
-    let mut k: u64 = 0;
-    while k < FACTORS {
+    for _ in 0..FACTORS {
         let n = classes_by(
             variables, values, starts, index, words, members, place, factor,
         );
@@ -148,7 +142,6 @@ pub fn factor_for(
             best = factor;
         }
         factor = (factor % 65536 * 40503 + 2) % 65536;
-        k += 1;
     }
     best
 }

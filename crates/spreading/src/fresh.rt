@@ -11,6 +11,7 @@ ghost use Rattle.spreading.specs.Fresh.{GathersFrom, GathersOthers, Meets};
 
 use super::steps::live_count;
 use layout::{Starts, tuple_start};
+use live::ids::live_ids;
 use live::{WORDS, Words, next};
 use model::{MAX_TUPLES, Value};
 use narrowing::{keep, narrow_members};
@@ -21,10 +22,8 @@ fn join(words: &Words, sum: &mut Words)
     requires { Long words.now × Long sum.old }
     ensures { Joins (λ _. true) 0 max_tuples words.now sum.old sum.new }
 {
-    let mut i = 0;
-    while i < WORDS {
-        sum[i] = sum[i] | words[i];
-        i += 1;
+    for (i, word) in words.iter().enumerate() {
+        sum[i] |= *word;
     }
 }
 
@@ -70,8 +69,7 @@ fn gather_from(
 {
     let first = tuple_start(starts, r);
     let end = tuple_start(starts, r + 1);
-    let mut g = next(fresh, first, end);
-    while g < end {
+    for g in live_ids(fresh, first, end) {
         gather_near(
             variables,
             values,
@@ -83,7 +81,6 @@ fn gather_from(
             g - first,
             s,
         );
-        g = next(fresh, g + 1, end);
     }
 }
 
@@ -104,16 +101,12 @@ fn gather_others(
     requires spreadable { Spreadable (lists (λ x. x.now) variables values starts) index.now members.now place × (j < length members.now) }
     ensures { GathersOthers (network_in (lists entry variables values starts)) members.now place j fresh.now words.now sum.old sum.new }
 {
-    let mut i = 0;
-    while i < members.len() {
-        if i != place {
-            if i != j {
-                gather_from(
-                    variables, values, starts, index, fresh, words, sum, members[i], members[j],
-                );
-            }
+    for (i, r) in members.iter().enumerate() {
+        if i != place && i != j {
+            gather_from(
+                variables, values, starts, index, fresh, words, sum, *r, members[j],
+            );
         }
-        i += 1;
     }
 }
 
@@ -128,16 +121,10 @@ fn few_fresh(
 ) -> bool
     requires { Counted starts.now fresh.now members.now }
 {
-    let mut i = 0;
-    while i < members.len() {
-        if i != place {
-            if i != j {
-                if limit < live_count(starts, fresh, members[i]) {
-                    return false;
-                }
-            }
+    for (i, r) in members.iter().enumerate() {
+        if i != place && i != j && limit < live_count(starts, fresh, *r) {
+            return false;
         }
-        i += 1;
     }
     true
 }
@@ -193,16 +180,14 @@ pub fn narrow_to_fresh(
 {
     let mut left = *words;
     keep(fresh, &mut left, 0, 0, MAX_TUPLES as u16);
-    let mut j = 0;
-    while j < members.len() {
-        if j != place {
-            if !narrow_fresh(
+    for j in 0..members.len() {
+        if j != place
+            && !narrow_fresh(
                 variables, values, starts, index, &left, words, members, place, j, limit,
-            ) {
-                return false;
-            }
+            )
+        {
+            return false;
         }
-        j += 1;
     }
     true
 }

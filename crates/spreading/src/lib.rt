@@ -2,7 +2,7 @@
 // between, where those are few. The search would try them one by one.
 #![tactic(auto)]
 
-ghost use Rattle.std.specs.Prelude.{◌≡◌, ◌≤◌, ◌<◌, length};
+ghost use Rattle.std.specs.Prelude.{◌≡◌, ◌≤◌, ◌<◌, length, IfSome};
 ghost use Rattle.layout.specs.Loan.{entry};
 ghost use Rattle.layout.specs.Setting.{lists, network_in};
 ghost use Rattle.layout.specs.Starts.{SoundStarts};
@@ -12,6 +12,7 @@ ghost use Rattle.spreading.specs.Spread.{Two, Spreads, Spreadable, Free, OtherFr
 
 use bridging::bridge;
 use layout::{Starts, tuple_start};
+use live::ids::live_ids;
 use live::{WORDS, Words, count, next};
 use model::Value;
 use narrowing::gather::gather;
@@ -49,20 +50,19 @@ pub fn spread(
         return true;
     }
     let mut sum = [0u64; WORDS];
-    let mut g = next(words, first, end);
-    while g < end {
+    let given: &Words = words;
+    for g in live_ids(given, first, end) {
         gather(
             variables,
             values,
             starts,
             index,
-            words,
+            given,
             &mut sum,
             r,
             g - first,
             s,
         );
-        g = next(words, g + 1, end);
     }
     let from = tuple_start(starts, s);
     let to = tuple_start(starts, s + 1);
@@ -70,28 +70,19 @@ pub fn spread(
     next(words, from, to) < to
 }
 
-// The first place from `from` on that is neither `place` nor j.
-fn other_from(count: usize, place: usize, j: usize, from: usize) -> usize
-    ensures { OtherFrom count place j from result }
+// The first of `count` places from `from` on that is neither `place` nor j, if there is one.
+fn other_from(count: usize, place: usize, j: usize, from: usize) -> Option<usize>
+    ensures { IfSome result (λ n. (n < count) × OtherFrom count place j from n) }
 {
-    let mut i = from;
-    while i < count {
-        if i != place {
-            if i != j {
-                return i;
-            }
-        }
-        i += 1;
-    }
-    i
+    (from..count).find(|i| *i != place && *i != j)
 }
 
 // Whether relation r has so many live tuples that it is worth while to narrow it through those of s and t at once.
 fn is_worth(starts: &Starts, words: &Words, r: u16, s: u16, t: u16) -> bool
     requires { Long words.now × (SoundStarts starts.now × Three r s t) }
 {
-    let through = live_count(starts, words, s) as u32 + live_count(starts, words, t) as u32;
-    through <= SHARE * live_count(starts, words, r) as u32 + WORTH
+    let through = u32::from(live_count(starts, words, s)) + u32::from(live_count(starts, words, t));
+    through <= SHARE * u32::from(live_count(starts, words, r)) + WORTH
 }
 
 // Member j narrowed through two others at once, not the one at `place`. False where it has no live tuple left.
@@ -111,14 +102,12 @@ fn bridge_step(
     requires free { Free members.now place from j }
     ensures { SpreadsMembers (network_in (lists entry variables values starts)) members.now place from words.old words.new result }
 {
-    let a = other_from(members.len(), place, j, 0);
-    if members.len() <= a {
+    let Some(a) = other_from(members.len(), place, j, 0) else {
         return true;
-    }
-    let b = other_from(members.len(), place, j, a + 1);
-    if members.len() <= b {
+    };
+    let Some(b) = other_from(members.len(), place, j, a + 1) else {
         return true;
-    }
+    };
     if !is_worth(starts, words, members[j], members[a], members[b]) {
         return true;
     }
@@ -148,19 +137,7 @@ fn spread_step(
     requires { Long words.old × Spreadable (lists (λ x. x.now) variables values starts) index.now members.now place }
     ensures { SpreadsMembers (network_in (lists entry variables values starts)) members.now place from words.old words.new result }
 {
-    if members.len() <= i {
-        return true;
-    }
-    if members.len() <= j {
-        return true;
-    }
-    if i == j {
-        return true;
-    }
-    if j < from {
-        return true;
-    }
-    if j == place {
+    if members.len() <= i || members.len() <= j || i == j || j < from || j == place {
         return true;
     }
     if i == place {
@@ -193,6 +170,7 @@ pub fn spread_members(
 {
     let factor = steps / 4294967296;
     let mut left = steps % 4294967296;
+    // stays a while: the steps are taken off one number, from its low end
     while left != 0 {
         let i = (left % 4) as usize;
         let j = (left / 4 % 4) as usize;
@@ -201,7 +179,7 @@ pub fn spread_members(
         ) {
             return false;
         }
-        left = left / 16;
+        left /= 16;
     }
     true
 }

@@ -17,13 +17,11 @@ use value_index::{HASHES, Index, scope_bits};
 fn variables_at(index: &Index, members: &[u16], places: u64) -> u64
     requires { Numbers members.now }
 {
-    let mut bits: u64 = 0;
-    let mut j = 0;
-    while j < members.len() {
+    let mut bits = 0;
+    for (j, r) in members.iter().enumerate() {
         if (places >> j) % 2 == 1 {
-            bits = bits | scope_bits(index, members[j]);
+            bits |= scope_bits(index, *r);
         }
-        j += 1;
     }
     bits
 }
@@ -32,13 +30,11 @@ fn variables_at(index: &Index, members: &[u16], places: u64) -> u64
 fn places_with(index: &Index, members: &[u16], bits: u64) -> u64
     requires { Numbers members.now }
 {
-    let mut places: u64 = 0;
-    let mut j = 0;
-    while j < members.len() {
-        if scope_bits(index, members[j]) & bits != 0 {
-            places = places | (1u64 << j);
+    let mut places = 0;
+    for (j, r) in members.iter().enumerate() {
+        if scope_bits(index, *r) & bits != 0 {
+            places |= 1u64 << j;
         }
-        j += 1;
     }
     places
 }
@@ -50,14 +46,10 @@ fn steps_to(index: &Index, members: &[u16], from: u64, j: usize, steps: u64) -> 
 {
     let bits = scope_bits(index, members[j]);
     let mut steps = steps;
-    let mut i = j + 1;
-    while i < members.len() {
-        if (from >> i) % 2 == 1 {
-            if scope_bits(index, members[i]) & bits != 0 {
-                steps = steps % 1048576 * 16 + (4 * j + i) as u64;
-            }
+    for i in j + 1..members.len() {
+        if (from >> i) % 2 == 1 && scope_bits(index, members[i]) & bits != 0 {
+            steps = steps % 1048576 * 16 + (4 * j + i) as u64;
         }
-        i += 1;
     }
     steps
 }
@@ -67,12 +59,10 @@ fn add_steps(index: &Index, members: &[u16], from: u64, to: u64, steps: u64) -> 
     requires { Numbers members.now }
 {
     let mut steps = steps;
-    let mut j = 0;
-    while j < members.len() {
+    for j in 0..members.len() {
         if (to >> j) % 2 == 1 {
             steps = steps_to(index, members, from, j, steps);
         }
-        j += 1;
     }
     steps
 }
@@ -157,14 +147,13 @@ fn steps_through(
     requires { Counted starts.now words.now members.now × (j < length members.now) }
 {
     let mut steps = steps;
-    let mut i = from;
-    while i < members.len() {
-        if i != place && i != j {
-            if is_narrower(index, starts, words, members[i], members[j], walked) {
-                steps = steps % 1048576 * 16 + (4 * j + i) as u64;
-            }
+    for i in from..members.len() {
+        if i != place
+            && i != j
+            && is_narrower(index, starts, words, members[i], members[j], walked)
+        {
+            steps = steps % 1048576 * 16 + (4 * j + i) as u64;
         }
-        i += 1;
     }
     steps
 }
@@ -181,13 +170,11 @@ pub fn steps_between(
     requires { Counted starts.now words.now members.now × (from < length members.now) }
 {
     let walked = live_count(starts, words, members[from]);
-    let mut steps: u64 = 0;
-    let mut j = from;
-    while j < members.len() {
+    let mut steps = 0;
+    for j in from..members.len() {
         if j != place {
             steps = steps_through(index, starts, words, members, place, from, j, walked, steps);
         }
-        j += 1;
     }
     steps
 }

@@ -4,34 +4,33 @@ use mathlib.Core.Path.{◌≡◌, refl, sym, ◌∙◌, ap, ap₂, subst}
 use mathlib.Core.Bool.{Bool, true, false, ◌&&◌}
 use mathlib.Core.Option.{none}
 use mathlib.Core.List.{List, [], ◌∷◌, ◌++◌, map, map-append, Memᴰ}
-use mathlib.Core.Logic.{◌⊎◌, inl, inr, ⊎_elim}
+use mathlib.Core.Logic.{inl, inr, ⊎_elim}
 use Prim.Native.Nat.{ℕ, suc, ◌+◌, ◌-◌, ◌≤◌, ◌<◌}
 use native.Mathlib.Decide.{ℕ_discrete}
 use native.Mathlib.Numerals.{add-one}
 use native.Mathlib.Omega.{arith}
-use lib.Dec.{eqb, ltb}
+use lib.Dec.{eqb}
 use lib.ListN.{length, get_or, take, drop, set, replicate, length-map, length-set, length-drop, length-replicate, get_or-replicate, take-append-drop}
 use lib.Seq.{get_or-drop, take-suc}
 use Rattle.model.specs.Limits.{no_support}
 use Rattle.model.specs.Lists.{all, pairwise, earlier}
-use Rattle.model.specs.Network.{Network, size, total, first_id, ids_of, index_of, relation_of}
+use Rattle.model.specs.Network.{Network, size, total, first_id, ids_of, index_of}
 use Rattle.model.specs.Agreement.{agree}
 use Rattle.model.specs.LiveWords.{is_live, is_set}
 use Rattle.model.specs.TupleSet.{has}
 use Rattle.model.specs.Support.{is_support}
 use Rattle.model.proofs.Bools.{and_right, and_intro}
 use Rattle.model.proofs.Lists.{here, all-at, all-intro, all_append, mem-get_d, get_d-map-in, pairwise_append, pairwise-cross, later-append, later-earlier, Picks, pick, done, picks-append, picks-length, picks_at, mem-from, from-mem}
-use Rattle.model.proofs.Agreement.{agree-sym, agree-alike}
+use Rattle.model.proofs.Agreement.{agree-alike}
 use Rattle.model.proofs.Network.{relation_of-at, relation_of-ids, ids-below}
 use Rattle.model.proofs.LiveWords.{living-has}
 use Rattle.model.proofs.Support.{is_support-intro, is_support-self, is_support-live, is_support-agree, picks-same}
 use Rattle.model.proofs.Search.{completion-hopeless, completion-nothing}
-use Rattle.layout.specs.Starts.{tuple_start}
 use Rattle.doubles.specs.Alike.{Alike, CoversFrom}
 use Rattle.doubles.specs.Doubles.{places}
 use Rattle.narrowing.specs.declared.sieve.Sieve.{Sieve}
 use Rattle.narrowing.specs.Sieve.{passes_sieve}
-use Rattle.support.specs.Search.{Search, net_of, live_of, id_at, seeker, SoundSearch, chosen_ids, Prefix, span, onward, fits, Alone, Sifts, Repeats, hopeful, MayLead}
+use Rattle.support.specs.Search.{Search, net_of, live_of, seeker, chosen_ids, Prefix, span, onward, fits, Alone, Sifts, hopeful, MayLead}
 use Rattle.support.proofs.Chosen.{chosen-picks, chosen-indices}
 use Rattle.support.proofs.Prefix.{ids_more}
 use Rattle.support.proofs.Walking.{rises, few-tuples, member-within}

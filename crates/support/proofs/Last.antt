@@ -2,8 +2,7 @@
 -- From the laws of one member's turn, of the seeking tuple's own member, and of the search's ends.
 use mathlib.Core.Path.{◌≡◌, refl, sym, ◌∙◌, ap}
 use mathlib.Core.Bool.{Bool, true, false, ◌&&◌}
-use mathlib.Core.Logic.{◌⊎◌, ⊎_elim}
-use mathlib.Core.Option.{Option, none, some}
+use mathlib.Core.Option.{none, some}
 use mathlib.Core.List.{List}
 use Prim.Native.Nat.{ℕ, ◌+◌, ◌-◌, ◌≤◌, ◌<◌}
 use native.Mathlib.Omega.{arith}
@@ -21,13 +20,6 @@ use Rattle.support.proofs.Walking.{member_below}
 use Rattle.support.proofs.Own.{NextStage, next-stage, past-place}
 use Rattle.support.proofs.Ends.{turn-done}
 use Rattle.support.proofs.Turn.{Turn, come-none, come-found, come-more, onward-more, come-fitting, fitting-is, fitting-fits}
-
--- whether a search goes on resuming
-pub flag : (resumes equal on : Bool) → ((resumes ≡ true) × (on ≡ equal)) ⊎ ((resumes ≡ false) × (on ≡ resumes)) → (resumes && equal) ≡ on
-flag resumes equal on =
-    ⊎_elim
-    (λ w. ap (λ (b : Bool). b && equal) w.0 ∙ sym w.1)
-    (λ w. ap (λ (b : Bool). b && equal) w.0 ∙ sym (w.1 ∙ w.0))
 
 module _ {Q : Search} {k : ℕ} {resumes : Bool} {chosen : List ℕ} {first begin end : ℕ} (T : Turn Q k resumes chosen first begin end) where
   -- ---- A tuple more

@@ -21,9 +21,9 @@ use Rattle.model.specs.Agreement.{agree}
 use Rattle.model.specs.TupleSet.{TupleSet, has}
 use Rattle.model.specs.Combination.{Combination}
 use Rattle.model.specs.Support.{candidates, is_support, first_support, support_from}
-use Rattle.model.specs.LiveWords.{is_set, is_live, living, cleared}
-use Rattle.model.proofs.Bools.{and_right, or_left, or_right, and_intro, not-both}
-use Rattle.model.proofs.Lists.{all-intro, get_d-mem, mem-get_d, earlier-set}
+use Rattle.model.specs.LiveWords.{is_set, is_live, cleared}
+use Rattle.model.proofs.Bools.{or_left, or_right, and_intro, not-both}
+use Rattle.model.proofs.Lists.{all-intro, get_d-mem, mem-get_d}
 use Rattle.model.proofs.Network.{ids-below, ids-apart}
 use Rattle.model.proofs.LiveWords.{living-has}
 use Rattle.model.proofs.Support.{Supported, is_support-intro, is_support-self, candidates-length, candidates-at, candidates-index, candidates-id, candidates-own, first_support-least, first_support-earliest, first_support-length}

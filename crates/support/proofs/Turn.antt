@@ -7,6 +7,7 @@ use mathlib.Core.Option.{Option, none, some, or_else}
 use mathlib.Core.List.Memᴰ
 use mathlib.Core.List.{List, [], ◌∷◌, ◌++◌, map, Memᴰ}
 use Prim.Native.Nat.{ℕ, suc, ◌+◌, ◌-◌, ◌*◌, ◌≤◌, ◌<◌}
+use Rattle.std.proofs.Common.{Some, None}
 use native.Mathlib.Numerals.{add-one}
 use native.Mathlib.Omega.{arith}
 use lib.Dec.{eqb}
@@ -16,17 +17,20 @@ use Rattle.model.specs.Network.{size, total, first_id, ids_of, relation_of}
 use Rattle.model.specs.Agreement.{agree}
 use Rattle.model.specs.TupleSet.{has}
 use Rattle.model.specs.LiveWords.{is_live, next_live}
-use Rattle.model.specs.Support.{completion}
+use Rattle.model.proofs.Bools.{not-both}
 use Rattle.model.proofs.Lists.{here, all-at}
 use Rattle.model.proofs.Network.{relation_of-at}
 use Rattle.model.proofs.Agreement.{agree-sym}
 use Rattle.model.proofs.LiveWords.{living-has, next_live-first}
-use Rattle.model.proofs.Search.{completion-dead, completion-clash, reach, reach-none, reach-skip, reach_step, reach_live}
+use Rattle.model.proofs.Search.{completion-dead, completion-clash, reach-none, reach-skip, reach_step, reach_live}
+use Rattle.live.specs.Ids.{TakesLive}
+use Rattle.live.proofs.Ahead.{Ahead, next-id, next-ahead}
 use Rattle.layout.specs.Starts.{tuple_start}
 use Rattle.value_index.specs.Index.{Indexed}
+use Rattle.support.specs.declared.Found.{Found}
 use Rattle.support.specs.declared.Span.{Span}
 use Rattle.support.specs.declared.Walked.{Walked}
-use Rattle.support.specs.Search.{Search, net_of, live_of, id_at, seeker, SoundSearch, chosen_ids, Prefix, SearchAt, fits, Trial, Trials, FittingAt, FirstFitting, onward, span, left, WalkAt, Walks, is_found, answer, sought}
+use Rattle.support.specs.Search.{Search, net_of, live_of, id_at, seeker, SoundSearch, chosen_ids, Prefix, SearchAt, fits, Trial, Trials, FittingAt, FirstFitting, place_behind, onward, span, left, WalkAt, Walks, is_found, answer, sought, AttemptAt, Attempts}
 use Rattle.support.proofs.Chosen.{fits_each, fits-none}
 use Rattle.support.proofs.Prefix.{ids_more, prefix-next}
 use Rattle.support.proofs.Walking.{members-apart, few-tuples, member_below, member-start, member-within, span-inside, walk-whole}
@@ -63,6 +67,30 @@ turn_on A sized low-sized s e =
       is-begin = ap (λ (s : Span). s.start) e;
       is-end = ap (λ (s : Span). s.end) e;
     }
+
+-- the same where the walk begins at another id
+pub turn_at : {Q : Search} {index : List ℕ} {k : ℕ} {resumes : Bool} {chosen : List ℕ} {first end : ℕ} → SearchAt Q index k resumes chosen → length chosen ≡ 4 → length Q.low ≡ 4 → first ≡ (span Q k resumes).first → end ≡ (span Q k resumes).end → Turn Q k resumes chosen first (span Q k resumes).start end
+turn_at A sized low-sized f e =
+    record {
+      ready = A.seeking.sound;
+      begun = A.prefix;
+      inside = A.inside;
+      other = A.other;
+      sized = sized;
+      low-sized = low-sized;
+      is-first = f;
+      is-begin = refl;
+      is-end = e;
+    }
+
+-- .. or one of its tuples is tried
+pub turn_tried : {Q : Search} {index : List ℕ} {k : ℕ} {resumes : Bool} {chosen : List ℕ} {x : ℕ} → AttemptAt Q index k resumes chosen x → length chosen ≡ 4 → length Q.low ≡ 4 → Turn Q k resumes chosen (span Q k resumes).first (span Q k resumes).start (span Q k resumes).end
+turn_tried A sized low-sized = turn_at A.turn sized low-sized refl refl
+
+-- A loop over the live ids from `from` on has passed those before `at`: what is left to find is all there is to find.
+pub record Passed (Q : Search) (k : ℕ) (resumes : Bool) (chosen : List ℕ) (from end : ℕ) (words : List ℕ) (at end' : ℕ) : Type 0 where
+  pub ahead : Ahead Q.words from end words at end'
+  pub rest : left Q k resumes chosen at ≡ sought Q k chosen
 
 module _ {Q : Search} {k : ℕ} {resumes : Bool} {chosen : List ℕ} {first begin end : ℕ} (T : Turn Q k resumes chosen first begin end) where
   abbrev R : SoundSearch Q
@@ -135,18 +163,75 @@ module _ {Q : Search} {k : ℕ} {resumes : Bool} {chosen : List ℕ} {first begi
         ∙ reach_step (net_of Q) (live_of Q) (seeker Q) Q.low ids later g stop before-stop
         ∙ ap (λ (o : Option (List ℕ)). or_else o (left Q k resumes chosen (suc g))) e
 
-    pub come-next : onward Q k chosen g ≡ none → WalkAt Q k resumes chosen (next_live Q.words (g + 1) end)
+    -- what is left to find behind it, if it leads to nothing
+    pub come-past : onward Q k chosen g ≡ none → left Q k resumes chosen (g + 1) ≡ sought Q k chosen
     unfolding or_else
-    come-next e =
-        let b = before-stop in
-        come-live (g + 1) (omega (arith, C.from_start)) (omega arith)
-        (rw add-one
+    come-past e =
+        rw add-one
         (sym (ap (λ (o : Option (List ℕ)). or_else o (left Q k resumes chosen (suc g))) e)
         ∙ sym (reach_step (net_of Q) (live_of Q) (seeker Q) Q.low ids later g stop before-stop)
-        ∙ C.rest))
+        ∙ C.rest)
 
-    pub come-lives : is_live Q.words g ≡ true
-    come-lives = C.lives before-stop
+    pub come-next : onward Q k chosen g ≡ none → WalkAt Q k resumes chosen (next_live Q.words (g + 1) end)
+    come-next e = let b = before-stop in come-live (g + 1) (omega (arith, C.from_start)) (omega arith) (come-past e)
+
+    -- ---- Its tuple tried
+
+    pub id_is : (span Q k resumes).first + (g - first) ≡ g
+    id_is = let f = (come-from g C).0 in omega (arith, f, T.is-first)
+
+    pub come-attempt : {index : List ℕ} → SearchAt Q index k resumes chosen → place_behind Q.place k < length Q.members → AttemptAt Q index k resumes chosen (g - first)
+    come-attempt A further =
+        record {
+          turn = A;
+          from_start = omega (arith, id_is, C.from_start);
+          to_end = omega (arith, id_is, before-stop);
+          lives = subst (λ (n : ℕ). is_live Q.words n ≡ true) (sym id_is) (C.lives before-stop);
+          further = further;
+        }
+
+    module _ (f : Found) (tried : Attempts Q k chosen (g - first) f) where
+      tried-is : (b : Bool) → is_found f.kind ≡ b → onward Q k chosen g ≡ answer b (take (length Q.members) f.tuples)
+      tried-is b e = ap (onward Q k chosen) (sym id_is) ∙ sym tried ∙ ap (λ (b : Bool). answer b (take (length Q.members) f.tuples)) e
+
+      -- it leads to a support
+      pub walks-found : is_found f.kind ≡ true → Walks Q k resumes chosen (record { tuples = f.tuples; kind = f.kind; at = g })
+      walks-found e = record { found = λ _. come-found (take (length Q.members) f.tuples) (tried-is true e); on = λ d. absurd (not-both e d) }
+
+      -- .. or to nothing
+      pub tried-none : is_found f.kind ≡ false → onward Q k chosen g ≡ none
+      tried-none = tried-is false
+
+  -- ---- A loop over the live ids
+
+  module _ {from : ℕ} (C : WalkAt Q k resumes chosen from) where
+    pub passed-none : {ws : List ℕ} {at end' : ℕ} → ws ≡ Q.words → at ≡ from → end' ≡ end → Passed Q k resumes chosen from end ws at end'
+    passed-none w a e =
+        record {
+          ahead = record { same_words = w; same_end = e; from = omega (arith, a); to_end = omega (arith, a, C.to_end, T.is-end) };
+          rest = rw a C.rest;
+        }
+
+    module _ {ws : List ℕ} {at end' : ℕ} (P : Passed Q k resumes chosen from end ws at end') where
+      next-is : next_live ws at end' ≡ next_live Q.words at end
+      next-is = rw (P.ahead.same_words, P.ahead.same_end) refl
+
+      come-on : WalkAt Q k resumes chosen (next_live Q.words at end)
+      come-on = come-live at (omega (arith, P.ahead.from, C.from_start)) (omega (arith, P.ahead.to_end, T.is-end)) P.rest
+
+      -- the id taken
+      module _ {g : ℕ} {ws' : List ℕ} {at' end'' : ℕ} (takes : TakesLive ws at end' (Some g) ws' at' end'') where
+        pub come-taken : WalkAt Q k resumes chosen g
+        come-taken = subst (WalkAt Q k resumes chosen) (sym (takes.id.0 ∙ next-is)) come-on
+
+        pub passed-more : onward Q k chosen g ≡ none → Passed Q k resumes chosen from end ws' at' end''
+        passed-more e =
+            let n = next-id P.ahead takes in
+            record { ahead = next-ahead P.ahead takes; rest = rw n.behind (come-past g come-taken n.below e) }
+
+      -- none is left
+      pub come-end : {ws' : List ℕ} {at' end'' : ℕ} → TakesLive ws at end' None ws' at' end'' → WalkAt Q k resumes chosen end
+      come-end takes = subst (WalkAt Q k resumes chosen) (sym next-is ∙ takes.id ∙ P.ahead.same_end) come-on
 
   -- what the tests of its tuples ask
   pub trials : Trials Q.lists Q.members Q.place Q.own k chosen

@@ -2,7 +2,7 @@
 // the tuples that may agree with it, but for the last one, whose tuples are tried at once.
 #![tactic(auto)]
 
-ghost use Rattle.std.specs.Prelude.{◌≡◌, true, ◌+◌, ◌≤◌, ◌<◌, length};
+ghost use Rattle.std.specs.Prelude.{◌≡◌, true, ◌+◌, ◌≤◌, ◌<◌, ◌++◌, length, take, drop};
 ghost use Rattle.model.specs.Limits.{max_relations, max_members};
 ghost use Rattle.doubles.specs.Alike.{MembersIn};
 ghost use Rattle.doubles.specs.Doubles.{places};
@@ -16,7 +16,8 @@ ghost use Rattle.support.specs.Search.{searching, Seeking, SearchAt, past_own, p
 use doubles::alike::variables_from;
 use doubles::{PLACES, Table, first_alike};
 use layout::{Starts, put, tuple_count, tuple_start};
-use live::{WORDS, Words, clear, is_live, next, put_back, words_for};
+use live::ids::live_ids;
+use live::{WORDS, Words, clear, is_live, next, words_for};
 use model::{MAX_MEMBERS, MAX_WIDTH, NO_SUPPORT, Value};
 use narrowing::narrow_members;
 use narrowing::rows::{TUPLE_ROWS, next_in_rows, rows_for};
@@ -152,14 +153,10 @@ fn fits(
     if !tuples_agree(variables, values, starts, members[place], own, r, x) {
         return false;
     }
-    let mut j = 0;
-    while j < k {
-        if j != place {
-            if !tuples_agree(variables, values, starts, members[j], chosen[j], r, x) {
-                return false;
-            }
+    for j in 0..k {
+        if j != place && !tuples_agree(variables, values, starts, members[j], chosen[j], r, x) {
+            return false;
         }
-        j += 1;
     }
     true
 }
@@ -199,6 +196,7 @@ pub fn first_fitting(
         &mut rows,
     );
     let mut g = next_in_rows(index, &rows, n, words, from, end);
+    // stays a while: the loop goes over the live ids that are in rows of the index too
     while g < end {
         if fits(
             variables,
@@ -433,8 +431,7 @@ fn comb(
     let mut failed = [NO_SUPPORT; PLACES];
     let mut tried: u16 = 0;
     let mut patience = PATIENCE;
-    let mut g = from;
-    while g < end {
+    for g in live_ids(words, from, end) {
         let x = g - first;
         let resumed = resumes && x == lowest;
         if may_lead(
@@ -477,7 +474,6 @@ fn comb(
                 };
             }
         }
-        g = next(words, g + 1, end);
     }
     Found {
         tuples: chosen,
@@ -579,8 +575,7 @@ fn walk_last(
     let first = tuple_start(starts, r);
     let end = tuple_start(starts, r + 1);
     let mut failures: u16 = 0;
-    let mut g = from;
-    while g < end {
+    for g in live_ids(words, from, end) {
         let found = attempt_last(
             variables,
             values,
@@ -605,20 +600,19 @@ fn walk_last(
                 at: g,
             };
         }
-        g = next(words, g + 1, end);
         failures += 1;
         if failures == FAILURES {
             return Walked {
                 tuples: chosen,
                 kind: HARD,
-                at: g,
+                at: next(words, g + 1, end),
             };
         }
     }
     Walked {
         tuples: chosen,
         kind: NONE,
-        at: g,
+        at: end,
     }
 }
 
@@ -733,8 +727,7 @@ fn walk(
     let first = tuple_start(starts, r);
     let end = tuple_start(starts, r + 1);
     let mut failures: u16 = 0;
-    let mut g = from;
-    while g < end {
+    for g in live_ids(words, from, end) {
         let found = attempt_first(
             variables,
             values,
@@ -760,20 +753,19 @@ fn walk(
                 at: g,
             };
         }
-        g = next(words, g + 1, end);
         failures += 1;
         if HARD <= kind || failures == FAILURES {
             return Walked {
                 tuples: chosen,
                 kind: HARD,
-                at: g,
+                at: next(words, g + 1, end),
             };
         }
     }
     Walked {
         tuples: chosen,
         kind: NONE,
-        at: g,
+        at: end,
     }
 }
 
@@ -878,12 +870,10 @@ fn spend_member(
     ensures { Spent (network_in (lists entry variables values starts)) r x s end fresh.old fresh.new }
 {
     let first = tuple_start(starts, s);
-    let mut g = next(words, first, end);
-    while g < end {
+    for g in live_ids(words, first, end) {
         if tuples_agree(variables, values, starts, r, x, s, g - first) {
             clear(fresh, g);
         }
-        g = next(words, g + 1, end);
     }
 }
 
@@ -919,14 +909,13 @@ fn fresh_after(
 {
     let r = members[place];
     let mut fresh = [!0u64; WORDS];
-    let mut j = 0;
-    while j < members.len() {
-        if place != j {
-            let s = members[j];
-            let end = end_below(starts, s, j, k, bound);
-            spend_member(variables, values, starts, words, &mut fresh, r, own, s, end);
+    for (j, s) in members.iter().enumerate() {
+        if j != place {
+            let end = end_below(starts, *s, j, k, bound);
+            spend_member(
+                variables, values, starts, words, &mut fresh, r, own, *s, end,
+            );
         }
-        j += 1;
     }
     clear(&mut fresh, tuple_start(starts, r));
     fresh
@@ -1028,6 +1017,17 @@ fn search_fresh(
     search_all(
         variables, values, starts, index, &fewer, members, place, own, low, spare,
     )
+}
+
+// The first n words are those of the copy, and all others stay. It is live's, by a loop of its own: made by a slice's method it would
+// be a call of memmove here, and the archive for C needs memcpy and memset alone.
+fn put_back(copy: &Words, words: &mut [u64], n: usize)
+    requires { (length copy.now ≡ 64) × ((n ≤ 64) × (n ≤ length words.old)) }
+    ensures { words.new ≡ take n copy.now ++ drop n words.old }
+{
+    for i in 0..n {
+        words[i] = copy[i];
+    }
 }
 
 // These steps, or none where members are narrowed through fresh tuples first.

@@ -28,32 +28,27 @@ raised-array g table w =
 
 -- ---- One bit after the other
 
-module _ {members : List ℕ} {base r : ℕ} where
-  pub put-none : {table : List ℕ} → WordArray table → Put members base base r table table
-  put-none w = record { array = w; only = λ h l e. inl e }
+module _ {members : List ℕ} {base r q more : ℕ} {before now : List ℕ} (next : more ≡ q + 1) (p : Put members base q r before now) where
+  same : (h : ℕ) → h < max_tuples → is_live now h ≡ true → (is_live before h ≡ true) ⊎ PutAt members base more r h
+  same h l e =
+      ⊎_elim inl
+      (λ a. inr (record { q = a.q; from-base = a.from-base; to_end = omega (arith, a.to_end); other = a.other; bit = a.bit }))
+      (p.only h l e)
 
-  module _ {q : ℕ} {before now : List ℕ} (p : Put members base q r before now) where
-    same : (h : ℕ) → h < max_tuples → is_live now h ≡ true → (is_live before h ≡ true) ⊎ PutAt members base (q + 1) r h
-    same h l e =
-        ⊎_elim inl
-        (λ a. inr (record { q = a.q; from-base = a.from-base; to_end = omega (arith, a.to_end); other = a.other; bit = a.bit }))
-        (p.only h l e)
+  -- the member is relation r itself
+  pub put_same : Put members base more r before now
+  put_same = record { array = p.array; only = same }
 
-    -- the member is relation r itself
-    pub put_same : Put members base (q + 1) r before now
-    put_same = record { array = p.array; only = same }
-
-    -- the bit of another member
-    pub put-more : base ≤ q → (r ≡ get_or members q 0 → ⊥) → Put members base (q + 1) r before (raised (bit_of r (get_or members q 0)) now)
-    put-more b d =
-        let g = bit_of r (get_or members q 0) in
-        record {
-          array = raised-array g now p.array;
-          only = λ h l e. ⊎_elim
-              (same h l)
-              (λ f. inr (record { q = q; from-base = b; to_end = omega arith; other = d; bit = sym (eqb-true g h f) }))
-              (or_cases (is_live now h) (eqb g h) (sym (raised-is_live g now p.array.small h (omega (arith, p.array.long))) ∙ e));
-        }
+  -- the bit of another member
+  pub put-more : (s : ℕ) → s ≡ get_or members q 0 → base ≤ q → (s ≡ r → ⊥) → Put members base more r before (raised (bit_of r s) now)
+  put-more s is b d =
+      record {
+        array = raised-array (bit_of r s) now p.array;
+        only = λ h l e. ⊎_elim
+            (same h l)
+            (λ f. inr (record { q = q; from-base = b; to_end = omega arith; other = λ own. d (is ∙ sym own); bit = sym (eqb-true (bit_of r s) h f) ∙ ap (bit_of r) is }))
+            (or_cases (is_live now h) (eqb (bit_of r s) h) (sym (raised-is_live (bit_of r s) now p.array.small h (omega (arith, p.array.long))) ∙ e));
+      }
 
 -- ---- One pair after the other
 

@@ -14,6 +14,7 @@ ghost use Rattle.sweeping.specs.Shrunk.{Shrunk};
 ghost use Rattle.sweeping.specs.Sweep.{Besides, Few, PutAsks, Put, Prepared, Testable, Misses, Falls, Covers, Revises, Sweeps, AtMost};
 
 use layout::{Starts, relation_count, tuple_start, value_start, variable_start, wide};
+use live::ids::live_ids;
 use live::{WORDS, Words, clear, next, set, words_for};
 use model::Value;
 use narrowing::columns::{Columns, shared_columns};
@@ -85,24 +86,14 @@ fn sample_of(tuples: u16, few: bool) -> u32 {
     if few {
         return LEAST;
     }
-    let quarter = (tuples / 4) as u32;
-    if quarter < LEAST {
-        return LEAST;
-    }
-    if MOST < quarter {
-        return MOST;
-    }
-    quarter
+    u32::from(tuples / 4).clamp(LEAST, MOST)
 }
 
 // Whether as many were tested, and few fell.
 fn stops(tested: u32, fell: u32, sample: u32) -> bool
     requires { fell ≤ max_tuples }
 {
-    if tested < sample {
-        return false;
-    }
-    few_fell(tested, fell)
+    sample <= tested && few_fell(tested, fell)
 }
 
 // Live tuples of relation r fall, and only such ones as no live tuple of relation s agrees with; these are live in `alive` too. Not all
@@ -134,6 +125,7 @@ fn clear_tuples(
     let mut tested = 0;
     let mut fell = 0;
     let mut g = next(words, first, end);
+    // stays a while: the loop writes the words that it goes over
     while g < end {
         if stops(tested, fell, sample) {
             return Swept { tested, fell };
@@ -208,12 +200,10 @@ fn sweep_relation(
     let end = base + 64;
     let mut tested = 0;
     let mut fell = 0;
-    let mut k = next(beside, base, end);
-    while k < end {
+    for k in live_ids(beside, base, end) {
         let swept = revise(variables, values, starts, index, words, r, k - base, few);
         tested += swept.tested;
         fell += swept.fell;
-        k = next(beside, k + 1, end);
     }
     Swept { tested, fell }
 }
@@ -230,16 +220,13 @@ fn sweep(
     requires { WordArray words.old × (Long beside.now × Searchable (lists (λ x. x.now) variables values starts) index.now) }
     ensures { Sweeps (lists entry variables values starts) beside.now words.old words.new }
 {
-    let relations = relation_count(starts);
     let mut tested = 0;
     let mut fell = 0;
-    let mut r = 0;
-    while r < relations {
+    for r in 0..relation_count(starts) {
         let few = few_fell(tested, fell);
         let swept = sweep_relation(variables, values, starts, index, beside, words, r, few);
         tested += swept.tested;
         fell += swept.fell;
-        r += 1;
     }
     !few_fell(tested, fell)
 }
@@ -249,13 +236,10 @@ fn put_beside(beside: &mut Words, members: &[u16], base: usize, end: usize, r: u
     requires { PutAsks beside.old members.now base end r }
     ensures { Put members.now base end r beside.old beside.new }
 {
-    let mut q = base;
-    while q < end {
-        let s = members[q];
-        if s != r {
-            set(beside, r * 64 + s);
+    for s in &members[base..end] {
+        if *s != r {
+            set(beside, r * 64 + *s);
         }
-        q += 1;
     }
 }
 
@@ -266,11 +250,9 @@ fn all_beside(members: &[u16], m: u16) -> Words
 {
     let each = wide(m);
     let mut beside = [0u64; WORDS];
-    let mut p = 0;
-    while p < members.len() {
+    for (p, r) in members.iter().enumerate() {
         let base = p / each * each;
-        put_beside(&mut beside, members, base, base + each, members[p]);
-        p += 1;
+        put_beside(&mut beside, members, base, base + each, *r);
     }
     beside
 }

@@ -4,7 +4,7 @@
 use changes::{choose, choose_several, filter, withdraw};
 use enumeration::combinations;
 use layout::Shape;
-use model::{Answer, Comparison, Enumeration, NO_VARIABLE, Value, Verdict};
+use model::{Answer, Comparison, Enumeration, MAX_RELATIONS, NO_VARIABLE, Value, Verdict};
 
 // The records of a list that holds each relation's width and tuple count.
 fn shape_of(records: &[u16]) -> Shape {
@@ -13,29 +13,20 @@ fn shape_of(records: &[u16]) -> Shape {
         widths: [0; 64],
         tuples: [0; 64],
     };
-    let mut r = 0;
-    while r < 64 {
-        if r < records.len() / 2 {
-            shape.widths[r] = records[2 * r];
-            shape.tuples[r] = records[2 * r + 1];
-        }
-        r += 1;
+    for r in 0..(records.len() / 2).min(MAX_RELATIONS) {
+        shape.widths[r] = records[2 * r];
+        shape.tuples[r] = records[2 * r + 1];
     }
     shape
 }
 
 // The numbers of an answer: kind, subject, left, withdrawn, deleted.
 fn put(answer: Answer, out: &mut [u16; 5]) {
-    let numbers = match answer {
+    *out = match answer {
         Answer::Settled(k) => [0, 64, k.left, k.withdrawn, k.deleted],
         Answer::Emptied(r, k) => [1, r, k.left, k.withdrawn, k.deleted],
         Answer::Refused(f) => [2, f as u16, 0, 0, 0],
     };
-    out[0] = numbers[0];
-    out[1] = numbers[1];
-    out[2] = numbers[2];
-    out[3] = numbers[3];
-    out[4] = numbers[4];
 }
 
 #[unsafe(no_mangle)]

@@ -17,8 +17,8 @@ use Rattle.narrowing.specs.Narrows.{KeptIds, Dead, Narrowed, Bare, Others}
 use Rattle.spreading.proofs.Relations.{kept-both, kept-inside, kept-outside}
 use Rattle.spreading.proofs.Kept.{differ}
 use Rattle.support.specs.Search.{place_behind}
-use Rattle.together.specs.Together.{Joint, net_of, tuple_at, size_at, own_size, own_at, SoundJoint, SeekAt, ChooseAt, AgreesAll, Completes, NoneLeft, Taken, Seeks}
-use Rattle.together.proofs.Places.{ids_at, behind, completes-own, completes-all}
+use Rattle.together.specs.Together.{Joint, net_of, tuple_at, size_at, own_size, own_at, SoundJoint, SeekAt, ChooseAt, Completes, NoneLeft, Taken, Seeks}
+use Rattle.together.proofs.Places.{ids_at, behind, completes-own}
 
 module _ {Q : Joint} {index : List ℕ} {k : ℕ} {chosen : List ℕ} {y : ℕ} (A : ChooseAt Q index k chosen y) (sized : length chosen ≡ 4) where
   abbrev N : Network
@@ -60,9 +60,6 @@ module _ {Q : Joint} {index : List ℕ} {k : ℕ} {chosen : List ℕ} {y : ℕ} 
     Keeping before after =
         ((g : ℕ) → is_live after g ≡ true → is_live before g ≡ true)
         × ((j z : ℕ) → j < length c → z < size_at Q j → (j ≡ Q.place → is_live pending (tuple_at Q j z) ≡ true) → agree N (tuple_at Q k y) (tuple_at Q j z) ≡ true → is_live before (tuple_at Q j z) ≡ true → is_live after (tuple_at Q j z) ≡ true)
-
-    pub keeping_none : (words : List ℕ) → Keeping words words
-    keeping_none words = (λ g e. e, λ j z h l p a e. e)
 
     -- the seeking member narrowed to the tuples that seek
     pub keeping-pending : (start end : ℕ) (before after : List ℕ) → start ≡ tuple_at Q Q.place 0 → end ≡ tuple_at Q Q.place (own_size Q) → KeptIds (row_bit pending 0) start end before after → Keeping before after
@@ -154,6 +151,3 @@ module _ {Q : Joint} {index : List ℕ} {k : ℕ} {chosen : List ℕ} {y : ℕ} 
                 lowest = λ us C. t.lowest us (completes-kept x us h l b C);
                 held = t.held;
               }
-
-    pub none-unfit : (AgreesAll Q k chosen k y → ⊥) → (before : List ℕ) → NoneLeft Q on more before pending
-    none-unfit n before x is h l p C = n (completes-all Q k chosen y k-in T.other before x is C T.inside)

@@ -4,7 +4,7 @@ use mathlib.Core.Path.{◌≡◌, refl, sym, ◌∙◌, ap, ap₂, subst}
 use mathlib.Core.Bool.{Bool, true, false, cond}
 use mathlib.Core.List.{List, [], ◌∷◌, ◌++◌}
 use mathlib.Core.Logic.{◌⊎◌, inl, inr}
-use Prim.Native.Nat.{ℕ, suc, ◌+◌, ◌≤◌, ◌<◌}
+use Prim.Native.Nat.{ℕ, suc, ◌+◌, ◌-◌, ◌*◌, ◌≤◌, ◌<◌}
 use native.Mathlib.Decide.{ℕ_discrete}
 use native.Mathlib.Omega.{arith}
 use borrow.Author.Tests.{eqb-true, eqb-false}
@@ -16,8 +16,10 @@ use Rattle.model.specs.Agreement.{agree}
 use Rattle.model.specs.LiveWords.{is_live}
 use Rattle.model.proofs.Lists.{earlier-above, later-append, later-earlier}
 use Rattle.model.proofs.Agreement.{agree-sym}
+use Rattle.live.proofs.Ahead.{Ahead, NextLive}
 use Rattle.layout.specs.Starts.{tuple_start}
 use Rattle.layout.proofs.SoundStarts.{tuple-start, tuple-end, ids-few}
+use Rattle.narrowing.specs.Narrows.{Long}
 use Rattle.spreading.proofs.Kept.{member_below}
 use Rattle.support.specs.Search.{place_behind}
 use Rattle.together.specs.Together.{Joint, joint, net_of, tuple_at, size_at, SoundJoint, Before, Chosen, AgreesAll, Completes}
@@ -68,6 +70,29 @@ ids_at {Q} S j h =
       stop = e;
       few = omega (arith, e, ids-few S.laid.framed r b);
     }
+
+-- The ids from first on and below end are those of the member at j.
+pub record Span (Q : Joint) (j first end : ℕ) : Type 0 where
+  pub begin : first ≡ tuple_at Q j 0
+  pub stop : end ≡ tuple_at Q j (size_at Q j)
+  pub few : end ≤ 4096
+
+pub span : {Q : Joint} {index : List ℕ} → SoundJoint Q index → (j : ℕ) → j < length Q.members → (first end : ℕ) → first ≡ tuple_start Q.lists.starts (get_or Q.members j 0) → end ≡ tuple_start Q.lists.starts (get_or Q.members j 0 + 1) → Span Q j first end
+span S j h first end low high =
+    let ids = ids_at S j h in
+    record { begin = low ∙ ids.begin; stop = high ∙ ids.stop; few = omega (arith, high, ids.stop, ids.few) }
+
+module _ {Q : Joint} {j first end : ℕ} (I : Span Q j first end) where
+  -- what a loop over its live ids asks, and what it has first
+  pub span-asked : (words : List ℕ) → Long words → (first ≤ end) × (end ≤ 64 * length words) × (end ≤ 4096)
+  span-asked words long = (omega (arith, I.begin, I.stop), omega (arith, I.few, long), I.few)
+
+  pub span-ahead : {words words' : List ℕ} {at end' : ℕ} → words' ≡ words → at ≡ first → end' ≡ end → Ahead words first end words' at end'
+  span-ahead w a e = record { same_words = w; same_end = e; from = omega (arith, a); to_end = omega (arith, a, I.begin, I.stop) }
+
+  -- the index of the tuple that comes next
+  pub span-id : {words words' : List ℕ} {at end' g at' : ℕ} → Ahead words first end words' at end' → NextLive words end at g at' → (tuple_at Q j (g - first) ≡ g) × (g - first < size_at Q j)
+  span-id A N = (omega (arith, I.begin, A.from, N.from), omega (arith, I.begin, I.stop, A.from, N.from, N.below))
 
 -- ---- The place behind
 

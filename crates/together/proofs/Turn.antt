@@ -1,16 +1,16 @@
 -- Laws of the two walks: over the tuples of a member, each chosen in turn, and over the seeking tuples at the last member.
 -- From the laws of one tuple more chosen, of steps one after the other, and of the order.
-use mathlib.Core.Path.{◌≡◌, refl, sym, ◌∙◌, ap, subst}
+use mathlib.Core.Path.{◌≡◌, sym, ◌∙◌, ap, subst}
 use mathlib.Core.Bool.{true, false}
 use mathlib.Core.List.{List}
-use Prim.Native.Nat.{ℕ, ◌+◌, ◌-◌, ◌≤◌, ◌<◌}
+use Prim.Native.Nat.{ℕ, ◌≤◌, ◌<◌}
 use native.Mathlib.Decide.{ℕ_discrete, dec_lt}
 use native.Mathlib.Omega.{arith}
 use lib.ListN.{length, get_or, set}
 use Rattle.model.specs.Lists.{earlier}
 use Rattle.model.specs.LiveWords.{is_live}
 use Rattle.model.proofs.Bools.{not-both}
-use Rattle.model.proofs.Lists.{First}
+use Rattle.live.proofs.Ahead.{NextLive}
 use Rattle.narrowing.specs.Narrows.{Long}
 use Rattle.support.specs.Search.{place_behind}
 use Rattle.together.specs.Together.{Joint, tuple_at, size_at, own_size, own_at, SoundJoint, SeekAt, Completes, Taken, Takes, TakesOne, Seeks, SeeksWith}
@@ -18,29 +18,19 @@ use Rattle.together.proofs.Places.{earlier-past, completes-own, completes-less, 
 use Rattle.together.proofs.Frames.{takes_none, takes-on}
 
 module _ (Q : Joint) (start k : ℕ) (chosen words pending₀ numbers₀ : List ℕ) where
-  -- The walk has come to id g, a live one unless it is at its end: the tuples that still seek have no support with a tuple before.
-  pub record Reached (left g : ℕ) (pending numbers : List ℕ) : Type 0 where
+  -- The walk has come to id `at`: if steps are left, the tuples that still seek have no support with a tuple before.
+  pub record Reached (left at : ℕ) (pending numbers : List ℕ) : Type 0 where
     pub takes : Takes Q start k chosen words pending₀ pending numbers₀ numbers
-    pub from_first : tuple_at Q k 0 ≤ g
-    pub to_end : g ≤ tuple_at Q k (size_at Q k)
-    pub lives : g < tuple_at Q k (size_at Q k) → is_live words g ≡ true
-    pub none : (left ≡ 0 → ⊥) → (x : ℕ) (is : List ℕ) → x < own_size Q → is_live words (own_at Q x) ≡ true → is_live pending (own_at Q x) ≡ true → Completes Q k chosen words x is → tuple_at Q k (get_or is k 0) < g → ⊥
+    pub none : (left ≡ 0 → ⊥) → (x : ℕ) (is : List ℕ) → x < own_size Q → is_live words (own_at Q x) ≡ true → is_live pending (own_at Q x) ≡ true → Completes Q k chosen words x is → tuple_at Q k (get_or is k 0) < at → ⊥
 
-  -- The walk has come to id g, a live one unless it is at its end: the tuples before that still seek have no support.
-  pub record Passed (g : ℕ) (pending numbers : List ℕ) : Type 0 where
+  -- The walk has come to id `at`: the tuples before that still seek have no support.
+  pub record Passed (at : ℕ) (pending numbers : List ℕ) : Type 0 where
     pub takes : Takes Q start k chosen words pending₀ pending numbers₀ numbers
-    pub from_first : own_at Q 0 ≤ g
-    pub to_end : g ≤ own_at Q (own_size Q)
-    pub lives : g < own_at Q (own_size Q) → is_live words g ≡ true
-    pub none : (x : ℕ) (is : List ℕ) → x < own_size Q → is_live words (own_at Q x) ≡ true → is_live pending (own_at Q x) ≡ true → Completes Q k chosen words x is → own_at Q x < g → ⊥
+    pub none : (x : ℕ) (is : List ℕ) → x < own_size Q → is_live words (own_at Q x) ≡ true → is_live pending (own_at Q x) ≡ true → Completes Q k chosen words x is → own_at Q x < at → ⊥
 
-module _ {Q : Joint} {index : List ℕ} {k : ℕ} {chosen : List ℕ} (T : SeekAt Q index k chosen) (sized : length chosen ≡ 4) (start : ℕ) (words pending₀ numbers₀ : List ℕ) where
+module _ {Q : Joint} {index : List ℕ} {k : ℕ} {chosen : List ℕ} (T : SeekAt Q index k chosen) (start : ℕ) (words pending₀ numbers₀ : List ℕ) where
   abbrev S : SoundJoint Q index
   S = T.sound
-
-  -- a walk that has run out of steps promises no more
-  pub seeks-out : (pending numbers : List ℕ) → Takes Q start k chosen words pending₀ pending numbers₀ numbers → Seeks Q start k chosen words pending₀ pending numbers₀ numbers 0
-  seeks-out pending numbers t = record { takes = t; none = λ n. absurd (n refl) }
 
   -- ---- Over the tuples of member k
 
@@ -48,17 +38,20 @@ module _ {Q : Joint} {index : List ℕ} {k : ℕ} {chosen : List ℕ} (T : SeekA
   living : (x : ℕ) (is : List ℕ) → Completes Q k chosen words x is → is_live words (tuple_at Q k (get_or is k 0)) ≡ true
   living x is C = C.behind k (omega arith) T.inside T.other
 
-  pub reached-first : (left g : ℕ) → Long pending₀ → First (is_live words) (tuple_at Q k 0) (tuple_at Q k (size_at Q k)) g → Reached Q start k chosen words pending₀ numbers₀ left g pending₀ numbers₀
-  reached-first left g long F =
-      record {
-        takes = takes_none Q start k chosen words pending₀ numbers₀ long;
-        from_first = F.from-i;
-        to_end = F.to_end;
-        lives = F.passes;
-        none = λ n x is h l p C b. not-both (living x is C) (F.none_before (tuple_at Q k (get_or is k 0)) (omega arith) b);
-      }
+  pub reached-first : (left at : ℕ) → Long pending₀ → at ≡ tuple_at Q k 0 → Reached Q start k chosen words pending₀ numbers₀ left at pending₀ numbers₀
+  reached-first left at long e =
+      record { takes = takes_none Q start k chosen words pending₀ numbers₀ long; none = λ n x is h l p C b. absurd (omega (arith, e, b)) }
 
-  module _ (left g : ℕ) (pending numbers : List ℕ) (R : Reached Q start k chosen words pending₀ numbers₀ left g pending numbers) (more-steps : left ≡ 0 → ⊥) (inside : g < tuple_at Q k (size_at Q k)) (y : ℕ) (id-y : tuple_at Q k y ≡ g) {left' : ℕ} {pending' numbers' : List ℕ} (W : SeeksWith Q start k chosen y words pending pending' numbers numbers' left') where
+  -- ids that are not live are passed over
+  reached_on : {left at : ℕ} {pending numbers : List ℕ} → Reached Q start k chosen words pending₀ numbers₀ left at pending numbers → (g : ℕ) → ((i : ℕ) → at ≤ i → i < g → is_live words i ≡ false) → Reached Q start k chosen words pending₀ numbers₀ left g pending numbers
+  reached_on {left} {at} {pending} {numbers} R g dead =
+      record { takes = R.takes; none = λ n x is h l p C b. go n x is h l p C b (dec_lt (tuple_at Q k (get_or is k 0)) at) }
+    where
+      go : (left ≡ 0 → ⊥) → (x : ℕ) (is : List ℕ) → x < own_size Q → is_live words (own_at Q x) ≡ true → is_live pending (own_at Q x) ≡ true → Completes Q k chosen words x is → tuple_at Q k (get_or is k 0) < g → Dec (tuple_at Q k (get_or is k 0) < at) → ⊥
+      go n x is h l p C b (yes a) = R.none n x is h l p C a
+      go n x is h l p C b (no a) = not-both (living x is C) (dead (tuple_at Q k (get_or is k 0)) (omega arith) b)
+
+  module _ (sized : length chosen ≡ 4) {left at g at' end : ℕ} {pending numbers : List ℕ} (R : Reached Q start k chosen words pending₀ numbers₀ left at pending numbers) (more-steps : left ≡ 0 → ⊥) (N : NextLive words end at g at') (y : ℕ) (id-y : tuple_at Q k y ≡ g) {left' : ℕ} {pending' numbers' : List ℕ} (W : SeeksWith Q start k chosen y words pending pending' numbers numbers' left') where
     abbrev on : ℕ
     on = place_behind Q.place k
 
@@ -68,13 +61,16 @@ module _ {Q : Joint} {index : List ℕ} {k : ℕ} {chosen : List ℕ} (T : SeekA
     k-in : k < length chosen
     k-in = omega (arith, sized, T.inside, S.members.few)
 
+    up-to : Reached Q start k chosen words pending₀ numbers₀ left g pending numbers
+    up-to = reached_on R g N.none_before
+
     -- what a tuple takes with y is the first of all
     module _ (x : ℕ) (h : x < own_size Q) (seeks : is_live pending (own_at Q x) ≡ true) (t : Taken Q start on more words x numbers') where
       own_is : get_or t.support k 0 ≡ y
       own_is = completes-own Q k chosen y k-in T.other words x t.support t.completes
 
       y-lives : is_live words (tuple_at Q k y) ≡ true
-      y-lives = ap (is_live words) id-y ∙ R.lives inside
+      y-lives = ap (is_live words) id-y ∙ N.live
 
       less : Completes Q k chosen words x t.support
       less = completes-less Q k chosen y k-in T.other words x t.support y-lives t.completes
@@ -89,7 +85,7 @@ module _ {Q : Joint} {index : List ℕ} {k : ℕ} {chosen : List ℕ} (T : SeekA
             go (no d) = C.before j (record { below = l; other = d }) ∙ sym (less.before j (record { below = l; other = d }))
 
         lowest : Dec (get_or us k 0 < y) → Dec (get_or us k 0 ≡ y) → earlier us t.support ≡ false
-        lowest (yes l) d = absurd (R.none more-steps x us h t.lives seeks C (omega (arith, id-y)))
+        lowest (yes l) d = absurd (up-to.none more-steps x us h t.lives seeks C (omega (arith, id-y)))
         lowest (no l) (yes q) = t.lowest us (completes-more Q k chosen y k-in T.other words x us q C)
         lowest (no l) (no d) = earlier-past us t.support k (omega (arith, C.long, T.inside)) (omega (arith, less.long, T.inside)) same (omega (arith, own_is))
 
@@ -106,53 +102,51 @@ module _ {Q : Joint} {index : List ℕ} {k : ℕ} {chosen : List ℕ} (T : SeekA
     step : Takes Q start k chosen words pending pending' numbers numbers'
     step = record { frames = W.takes.frames; taken = λ x h b a. taken x h b (W.takes.taken x h b a) }
 
-    pub reached-next : (g' : ℕ) → First (is_live words) (g + 1) (tuple_at Q k (size_at Q k)) g' → Reached Q start k chosen words pending₀ numbers₀ left' g' pending' numbers'
-    reached-next g' F =
+    pub reached-next : Reached Q start k chosen words pending₀ numbers₀ left' at' pending' numbers'
+    reached-next =
         record {
           takes = takes-on Q start k chosen words R.takes step;
-          from_first = omega (arith, R.from_first, F.from-i);
-          to_end = F.to_end;
-          lives = F.passes;
           none = λ n x is h l p C b. go n x is h l p C b (dec_lt (get_or is k 0) y) (ℕ_discrete (get_or is k 0) y);
         }
       where
-        go : (left' ≡ 0 → ⊥) → (x : ℕ) (is : List ℕ) → x < own_size Q → is_live words (own_at Q x) ≡ true → is_live pending' (own_at Q x) ≡ true → Completes Q k chosen words x is → tuple_at Q k (get_or is k 0) < g' → Dec (get_or is k 0 < y) → Dec (get_or is k 0 ≡ y) → ⊥
-        go n x is h l p C b (yes a) d = R.none more-steps x is h l (W.takes.frames.inside (own_at Q x) p) C (omega (arith, id-y))
+        go : (left' ≡ 0 → ⊥) → (x : ℕ) (is : List ℕ) → x < own_size Q → is_live words (own_at Q x) ≡ true → is_live pending' (own_at Q x) ≡ true → Completes Q k chosen words x is → tuple_at Q k (get_or is k 0) < at' → Dec (get_or is k 0 < y) → Dec (get_or is k 0 ≡ y) → ⊥
+        go n x is h l p C b (yes a) d = up-to.none more-steps x is h l (W.takes.frames.inside (own_at Q x) p) C (omega (arith, id-y))
         go n x is h l p C b (no a) (yes q) = W.none n x is h l p (completes-more Q k chosen y k-in T.other words x is q C)
-        go n x is h l p C b (no a) (no d) = not-both (living x is C) (F.none_before (tuple_at Q k (get_or is k 0)) (omega (arith, id-y)) b)
+        go n x is h l p C b (no a) (no d) = omega (arith, id-y, N.behind, b)
 
-  pub reached-end : (left g : ℕ) (pending numbers : List ℕ) → Reached Q start k chosen words pending₀ numbers₀ left g pending numbers → tuple_at Q k (size_at Q k) ≤ g → Seeks Q start k chosen words pending₀ pending numbers₀ numbers left
-  reached-end left g pending numbers R l =
-      record { takes = R.takes; none = λ n x is h i p C. R.none n x is h i p C (omega (arith, C.within k T.inside)) }
+  pub reached-end : {left at : ℕ} {pending numbers : List ℕ} → Reached Q start k chosen words pending₀ numbers₀ left at pending numbers → (end : ℕ) → end ≡ tuple_at Q k (size_at Q k) → ((i : ℕ) → at ≤ i → i < end → is_live words i ≡ false) → Seeks Q start k chosen words pending₀ pending numbers₀ numbers left
+  reached-end R end e dead =
+      record { takes = R.takes; none = λ n x is h i p C. (reached_on R end dead).none n x is h i p C (omega (arith, e, C.within k T.inside)) }
 
   -- ---- Over the seeking tuples, at the last member
 
-  pub passed_first : (g : ℕ) → Long pending₀ → First (is_live words) (own_at Q 0) (own_at Q (own_size Q)) g → Passed Q start k chosen words pending₀ numbers₀ g pending₀ numbers₀
-  passed_first g long F =
-      record {
-        takes = takes_none Q start k chosen words pending₀ numbers₀ long;
-        from_first = F.from-i;
-        to_end = F.to_end;
-        lives = F.passes;
-        none = λ x is h l p C b. not-both l (F.none_before (own_at Q x) (omega arith) b);
-      }
+  pub passed-first : (at : ℕ) → Long pending₀ → at ≡ own_at Q 0 → Passed Q start k chosen words pending₀ numbers₀ at pending₀ numbers₀
+  passed-first at long e =
+      record { takes = takes_none Q start k chosen words pending₀ numbers₀ long; none = λ x is h l p C b. absurd (omega (arith, e, b)) }
 
-  pub passed-next : (g : ℕ) (pending numbers : List ℕ) → Passed Q start k chosen words pending₀ numbers₀ g pending numbers → (y : ℕ) → own_at Q y ≡ g → {pending' numbers' : List ℕ} → TakesOne Q start k chosen words y pending pending' numbers numbers' → (g' : ℕ) → First (is_live words) (g + 1) (own_at Q (own_size Q)) g' → Passed Q start k chosen words pending₀ numbers₀ g' pending' numbers'
-  passed-next g pending numbers R y id-y {pending'} {numbers'} W g' F =
-      record {
-        takes = takes-on Q start k chosen words R.takes W.takes;
-        from_first = omega (arith, R.from_first, F.from-i);
-        to_end = F.to_end;
-        lives = F.passes;
-        none = λ x is h l p C b. go x is h l p C b (dec_lt x y) (ℕ_discrete y x);
-      }
+  -- ids that are not live are passed over
+  passed_on : {at : ℕ} {pending numbers : List ℕ} → Passed Q start k chosen words pending₀ numbers₀ at pending numbers → (g : ℕ) → ((i : ℕ) → at ≤ i → i < g → is_live words i ≡ false) → Passed Q start k chosen words pending₀ numbers₀ g pending numbers
+  passed_on {at} {pending} {numbers} R g dead =
+      record { takes = R.takes; none = λ x is h l p C b. go x is h l p C b (dec_lt (own_at Q x) at) }
     where
-      go : (x : ℕ) (is : List ℕ) → x < own_size Q → is_live words (own_at Q x) ≡ true → is_live pending' (own_at Q x) ≡ true → Completes Q k chosen words x is → own_at Q x < g' → Dec (x < y) → Dec (y ≡ x) → ⊥
-      go x is h l p C b (yes a) d = R.none x is h l (W.takes.frames.inside (own_at Q x) p) C (omega (arith, id-y))
-      go x is h l p C b (no a) (yes q) =
-          W.none (subst (λ (z : ℕ). is_live pending' (own_at Q z) ≡ true) (sym q) p) is (subst (λ (z : ℕ). Completes Q k chosen words z is) (sym q) C)
-      go x is h l p C b (no a) (no d) = not-both l (F.none_before (own_at Q x) (omega (arith, id-y)) b)
+      go : (x : ℕ) (is : List ℕ) → x < own_size Q → is_live words (own_at Q x) ≡ true → is_live pending (own_at Q x) ≡ true → Completes Q k chosen words x is → own_at Q x < g → Dec (own_at Q x < at) → ⊥
+      go x is h l p C b (yes a) = R.none x is h l p C a
+      go x is h l p C b (no a) = not-both l (dead (own_at Q x) (omega arith) b)
 
-  pub passed-end : (left g : ℕ) (pending numbers : List ℕ) → Passed Q start k chosen words pending₀ numbers₀ g pending numbers → own_at Q (own_size Q) ≤ g → Seeks Q start k chosen words pending₀ pending numbers₀ numbers left
-  passed-end left g pending numbers R l =
-      record { takes = R.takes; none = λ n x is h i p C. R.none x is h i p C (omega (arith, h)) }
+  module _ {at g at' end : ℕ} {pending numbers : List ℕ} (R : Passed Q start k chosen words pending₀ numbers₀ at pending numbers) (N : NextLive words end at g at') (y : ℕ) (id-y : own_at Q y ≡ g) {pending' numbers' : List ℕ} (W : TakesOne Q start k chosen words y pending pending' numbers numbers') where
+    pub passed-next : Passed Q start k chosen words pending₀ numbers₀ at' pending' numbers'
+    passed-next =
+        record {
+          takes = takes-on Q start k chosen words R.takes W.takes;
+          none = λ x is h l p C b. go x is h l p C b (dec_lt x y) (ℕ_discrete y x);
+        }
+      where
+        go : (x : ℕ) (is : List ℕ) → x < own_size Q → is_live words (own_at Q x) ≡ true → is_live pending' (own_at Q x) ≡ true → Completes Q k chosen words x is → own_at Q x < at' → Dec (x < y) → Dec (y ≡ x) → ⊥
+        go x is h l p C b (yes a) d = (passed_on R g N.none_before).none x is h l (W.takes.frames.inside (own_at Q x) p) C (omega (arith, id-y))
+        go x is h l p C b (no a) (yes q) =
+            W.none (subst (λ (z : ℕ). is_live pending' (own_at Q z) ≡ true) (sym q) p) is (subst (λ (z : ℕ). Completes Q k chosen words z is) (sym q) C)
+        go x is h l p C b (no a) (no d) = omega (arith, id-y, N.behind, b)
+
+  pub passed-end : (left : ℕ) {at : ℕ} {pending numbers : List ℕ} → Passed Q start k chosen words pending₀ numbers₀ at pending numbers → (end : ℕ) → end ≡ own_at Q (own_size Q) → ((i : ℕ) → at ≤ i → i < end → is_live words i ≡ false) → Seeks Q start k chosen words pending₀ pending numbers₀ numbers left
+  passed-end left R end e dead =
+      record { takes = R.takes; none = λ n x is h i p C. (passed_on R end dead).none x is h i p C (omega (arith, e, h)) }

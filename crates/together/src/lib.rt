@@ -10,7 +10,8 @@ ghost use Rattle.support.specs.Search.{place_behind};
 ghost use Rattle.together.specs.Together.{joint, tuple_at, Room, BesideAt, AgreesBefore, SoundJoint, SeekAt, LastAt, TakesOne, ChooseAt, Chooses, Seeks, SeeksWith, Together};
 
 use layout::{Starts, put, tuple_start, wide};
-use live::{Words, clear, is_live, next};
+use live::ids::live_ids;
+use live::{Words, clear, is_live};
 use model::{MAX_MEMBERS, Value};
 use narrowing::{keep, narrow_member, narrow_members};
 use network::agreement::tuples_agree;
@@ -34,14 +35,10 @@ fn agrees_before(
     ensures { AgreesBefore (joint entry variables values starts members place) k chosen i x result }
 {
     let r = members[i];
-    let mut j = 0;
-    while j < k {
-        if j != place {
-            if !tuples_agree(variables, values, starts, members[j], chosen[j], r, x) {
-                return false;
-            }
+    for j in 0..k {
+        if j != place && !tuples_agree(variables, values, starts, members[j], chosen[j], r, x) {
+            return false;
         }
-        j += 1;
     }
     true
 }
@@ -112,8 +109,7 @@ fn take_last(
     let first = tuple_start(starts, r);
     let end = tuple_start(starts, r + 1);
     let mut left = steps;
-    let mut g = next(words, first, end);
-    while g < end {
+    for g in live_ids(words, first, end) {
         if left == 0 {
             return 0;
         }
@@ -133,7 +129,6 @@ fn take_last(
             start,
         );
         left -= 1;
-        g = next(words, g + 1, end);
     }
     left
 }
@@ -251,8 +246,7 @@ fn seek(
     let first = tuple_start(starts, r);
     let end = tuple_start(starts, r + 1);
     let mut left = steps;
-    let mut g = next(words, first, end);
-    while g < end {
+    for g in live_ids(words, first, end) {
         if left == 0 {
             return 0;
         }
@@ -272,7 +266,6 @@ fn seek(
             start,
             left - 1,
         );
-        g = next(words, g + 1, end);
     }
     left
 }

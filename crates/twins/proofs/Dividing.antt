@@ -1,9 +1,8 @@
 -- Laws of sides, as the members are put to them one by one.
 -- From the laws of bits.
-use mathlib.Core.Path.{◌≡◌, refl, sym, ◌∙◌, ap, subst}
-use mathlib.Core.Bool.{Bool, true, false, ◌||◌, or-false, true≢false}
-use Prim.Native.Nat.{ℕ, ◌+◌, ◌*◌, ◌%◌, ◌^◌, ◌≤◌, ◌<◌}
-use native.Mathlib.Decide.{ℕ_discrete}
+use mathlib.Core.Path.{◌≡◌, refl, sym, ◌∙◌, ap}
+use mathlib.Core.Bool.{Bool, true, false, ◌||◌, or-false}
+use Prim.Native.Nat.{ℕ, ◌*◌, ◌%◌, ◌^◌, ◌≤◌, ◌<◌}
 use native.Mathlib.Omega.{arith}
 use borrow.Author.Tests.{eq-eqb, ne_eqb}
 use lib.Bits.{bit_and, bit_or}
@@ -63,38 +62,6 @@ pub record Divided (N : Network) (c : Combination) (place j : ℕ) (sides : Side
 module _ (N : Network) (c : Combination) (place : ℕ) where
   pub divided-start : Divided N c place 0 (record { near = 0; far = 0; places = 0 })
   divided-start = record { done = record { nearby = λ i h. absurd (omega arith); beyond = λ i h. absurd (omega arith) }; rest = λ i h. is_set-nought i }
-
-  module _ (j : ℕ) (sides : Sides) (before : Divided N c place j sides) where
-    pub divided-next : (mask : ℕ) → ((v : ℕ) → is_set mask v ≡ elem v (scope_of N (get_or c j 0))) → (after : Sides) → Put sides j mask after → Divided N c place (j + 1) after
-    divided-next mask is after put =
-        record {
-          done = record { nearby = λ i h d e v m. near i h d e v m (ℕ_discrete i j); beyond = λ i h d e v m. far i h d e v m (ℕ_discrete i j) };
-          rest = λ i h. put.same i (λ q. omega arith) ∙ before.rest i (omega arith);
-        }
-      where
-        near : (i : ℕ) → i < j + 1 → (i ≡ place → ⊥) → is_set after.places i ≡ false → (v : ℕ) → elem v (scope_of N (get_or c i 0)) ≡ true → Dec (i ≡ j) → is_set after.near v ≡ true
-        near i h d e v m (yes q) = put.own-near (ap (is_set after.places) (sym q) ∙ e) v (is v ∙ ap (λ (k : ℕ). elem v (scope_of N (get_or c k 0))) (sym q) ∙ m)
-        near i h d e v m (no q) = put.nearer v (before.done.nearby i (omega arith) d (sym (put.same i q) ∙ e) v m)
-
-        far : (i : ℕ) → i < j + 1 → (i ≡ place → ⊥) → is_set after.places i ≡ true → (v : ℕ) → elem v (scope_of N (get_or c i 0)) ≡ true → Dec (i ≡ j) → is_set after.far v ≡ true
-        far i h d e v m (yes q) = put.own-far (ap (is_set after.places) (sym q) ∙ e) v (is v ∙ ap (λ (k : ℕ). elem v (scope_of N (get_or c k 0))) (sym q) ∙ m)
-        far i h d e v m (no q) = put.farther v (before.done.beyond i (omega arith) d (sym (put.same i q) ∙ e) v m)
-
-    -- the one at `place` is passed over
-    pub divided-past : j ≡ place → Divided N c place (j + 1) sides
-    divided-past q =
-        record {
-          done = record { nearby = λ i h d. before.done.nearby i (other i h d (ℕ_discrete i j)) d; beyond = λ i h d. before.done.beyond i (other i h d (ℕ_discrete i j)) d };
-          rest = λ i h. before.rest i (omega arith);
-        }
-      where
-        other : (i : ℕ) → i < j + 1 → (i ≡ place → ⊥) → Dec (i ≡ j) → i < j
-        other i h d (yes e) = absurd (d (e ∙ q))
-        other i h d (no e) = omega arith
-
-  pub divided-end : (n j : ℕ) (sides : Sides) → Divided N c place j sides → n ≤ j → Divides N c n place sides
-  divided-end n j sides all h =
-      record { nearby = λ i l. all.done.nearby i (omega (arith, l, h)); beyond = λ i l. all.done.beyond i (omega (arith, l, h)) }
 
   -- ---- Apart
 

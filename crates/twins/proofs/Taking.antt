@@ -1,7 +1,7 @@
 -- Laws of earlier tuples of a pair's member that are twins: if one lives its numbers are its first support, and x's once x is put in; if it
 -- fell, x has no support; and of two that are twins by sides either gives its part. From what is done and noted, the model's laws of twins,
 -- and the laws of pairs.
-use mathlib.Core.Path.{◌≡◌, refl, sym, ◌∙◌, ap, ap₂, subst}
+use mathlib.Core.Path.{◌≡◌, sym, ◌∙◌, ap, ap₂, subst}
 use mathlib.Core.Bool.{Bool, true, false, cond}
 use mathlib.Core.List.{List}
 use Prim.Native.Nat.{ℕ, ◌+◌, ◌-◌, ◌*◌, ◌%◌, ◌≤◌, ◌<◌}
@@ -84,19 +84,11 @@ module _ {G : Setting} {words numbers : List ℕ} {p x place : ℕ} (A : TwinAt 
         let e : y + (x - y) ≡ x = omega (arith, before) in
         omega (arith, A.begins, add-mul y (x - y) G.m, ap (λ (n : ℕ). n * G.m) e)
 
-    pub back-within : (x - y) * G.m ≤ place
-    back-within =
-        let e : y + (x - y) ≡ x = omega (arith, before) in
-        omega (arith, A.begins, add-mul y (x - y) G.m, ap (λ (n : ℕ). n * G.m) e)
-
     -- its id, and whether that lives
     id-is : tuple_start G.lists.starts (pair_member G.members p) + y ≡ tuple_id G p y
     id-is =
         let b = member_below framed paired p A.at.pair in
         ap (λ (g : ℕ). g + y) (tuple-start framed (pair_member G.members p) (omega (arith, b)))
-
-    pub id-inside : tuple_start G.lists.starts (pair_member G.members p) + y < total N
-    id-inside = omega (arith, id-is, tuple-below A.at.sound p y A.at.pair earlier-in)
 
     pub lives-is : has S (tuple_id G p y) ≡ is_live words (tuple_start G.lists.starts (pair_member G.members p) + y)
     lives-is = living-has (total N) words (tuple_id G p y) (tuple-below A.at.sound p y A.at.pair earlier-in) ∙ ap (is_live words) (sym id-is)

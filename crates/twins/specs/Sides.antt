@@ -1,5 +1,5 @@
 -- Sides: the other members of a pair's combination in two groups that share no variable.
-use Rattle.std.specs.Prelude.{◌≡◌, true, false, List, ℕ, ◌%◌, ◌<◌, length, get_or}
+use Rattle.std.specs.Prelude.{◌≡◌, true, false, ℕ, ◌%◌, ◌<◌, length, get_or}
 use Rattle.model.specs.Lists.{elem}
 use Rattle.model.specs.Network.{Network, scope_of}
 use Rattle.model.specs.Combination.{Combination}

@@ -1,6 +1,6 @@
 -- Twins: an earlier tuple of the same relation, with the same values under every variable that the other members of the combination have;
 -- which tuples were sought in a visit; and what it asks and gives to take a twin's first support, or to fall where it fell.
-use Rattle.std.specs.Prelude.{◌≡◌, true, false, cond, ◌⊎◌, List, ℕ, ◌+◌, ◌*◌, ◌%◌, ◌≤◌, ◌<◌, length, get_or}
+use Rattle.std.specs.Prelude.{◌≡◌, true, false, cond, List, ℕ, ◌+◌, ◌*◌, ◌%◌, ◌≤◌, ◌<◌, length, get_or}
 use Rattle.model.specs.Limits.{no_support, word_bits}
 use Rattle.model.specs.TupleSet.{has}
 use Rattle.model.specs.Network.{size, total, first_id}
@@ -13,7 +13,7 @@ use Rattle.layout.specs.Setting.{Lists, Setting, network, listed, live_in}
 use Rattle.layout.specs.Pairs.{combination_of, size_of, tuple_id, place_of}
 use Rattle.worklist.specs.Supports.{replaced, Supported, Done}
 use Rattle.doubles.specs.Alike.{PairAt, Alike}
-use Rattle.doubles.specs.Doubles.{places, Entered, FirstAlike}
+use Rattle.doubles.specs.Doubles.{places, FirstAlike}
 use Rattle.twins.specs.declared.sides.Sides.{Sides}
 use Rattle.twins.specs.declared.Twin.{Twin}
 use Rattle.twins.specs.declared.Twin.TheVariants as twin

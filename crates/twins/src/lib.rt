@@ -54,10 +54,9 @@ fn agrees_with(
     let base = pair / each * each;
     let place = pair % each;
     let r = members[pair];
-    let mut j = 0;
-    while j < each {
-        if j != place {
-            if !tuples_agree(
+    for j in 0..each {
+        if j != place
+            && !tuples_agree(
                 variables,
                 values,
                 starts,
@@ -65,11 +64,10 @@ fn agrees_with(
                 x,
                 members[base + j],
                 tuples[j],
-            ) {
-                return false;
-            }
+            )
+        {
+            return false;
         }
-        j += 1;
     }
     true
 }
@@ -83,17 +81,12 @@ fn load_sides(numbers: &[u16], near: usize, far: usize, m: usize, places: u64) -
     if places == 0 {
         return load(numbers, near, m);
     }
-    let mut tuples = [0u16; MAX_MEMBERS];
-    let mut j = 0;
-    while j < MAX_MEMBERS {
+    let mut tuples = [0; MAX_MEMBERS];
+    for (j, tuple) in tuples.iter_mut().enumerate() {
         if j < m {
-            let mut start = near;
-            if (places >> j) % 2 == 1 {
-                start = far;
-            }
-            tuples[j] = numbers[start + j];
+            let start = if (places >> j) % 2 == 1 { far } else { near };
+            *tuple = numbers[start + j];
         }
-        j += 1;
     }
     tuples
 }
@@ -182,16 +175,14 @@ pub fn take_twin(
     let r = members[wide(p)];
     let first = tuple_start(starts, r);
     let y = alike_soon(variables, values, starts, sought, r, x, sides.near);
-    let mut z = y;
-    if sides.places != 0 {
-        z = far_twin(
+    let z = if sides.places == 0 {
+        y
+    } else {
+        far_twin(
             variables, values, starts, words, sought, r, first, x, sides.far,
-        );
-    }
-    if x <= y {
-        return Twin::None;
-    }
-    if x <= z {
+        )
+    };
+    if x <= y || x <= z {
         return Twin::None;
     }
     if !is_live(words, first + y) {

@@ -24,19 +24,16 @@ fn put_member(sides: Sides, j: usize, mask: u64) -> Sides
     requires { (j < max_members) × (is_set sides.places j ≡ false) }
     ensures { Put sides j mask result }
 {
-    if sides.near != 0 {
-        if mask & sides.near == 0 {
-            return Sides {
-                near: sides.near,
-                far: sides.far | mask,
-                places: sides.places | (1u64 << j),
-            };
-        }
+    if sides.near != 0 && mask & sides.near == 0 {
+        return Sides {
+            far: sides.far | mask,
+            places: sides.places | (1u64 << j),
+            ..sides
+        };
     }
     Sides {
         near: sides.near | mask,
-        far: sides.far,
-        places: sides.places,
+        ..sides
     }
 }
 
@@ -56,13 +53,11 @@ fn divided(
         far: 0,
         places: 0,
     };
-    let mut j = 0;
-    while j < members.len() {
+    for (j, r) in members.iter().enumerate() {
         if j != place {
-            let mask = variables_of(variables, values, starts, members[j]);
+            let mask = variables_of(variables, values, starts, *r);
             sides = put_member(sides, j, mask);
         }
-        j += 1;
     }
     sides
 }

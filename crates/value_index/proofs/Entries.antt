@@ -4,7 +4,7 @@ use mathlib.Core.Path.{◌≡◌, refl, sym, ◌∙◌, ap, ap₂, subst}
 use mathlib.Core.Bool.{Bool, true, false, ◌||◌, or-false}
 use mathlib.Core.List.{List, Memᴰ}
 use Prim.Native.Nat.{ℕ, suc, ◌+◌, ◌-◌, ◌*◌, ◌/◌, ◌%◌, ◌^◌, ◌≤◌, ◌<◌}
-use native.Mathlib.Nat.{mul-le-mul_left, mul_comm, mul-suc}
+use native.Mathlib.Nat.{mul_comm, mul-suc}
 use native.Mathlib.Omega.{arith}
 use native.Mathlib.Decide.{ℕ_discrete, dec_lt}
 use borrow.Author.Count.{below_more}
@@ -12,11 +12,11 @@ use borrow.Author.Tests.{eqb-true, eqb-false, eq-eqb, ne_eqb}
 use lib.Bits.{bit_or}
 use lib.Dec.{eqb}
 use lib.ListN.{length, get_or, set}
-use Rattle.model.specs.Lists.{from, all}
+use Rattle.model.specs.Lists.{from}
 use Rattle.model.specs.Network.{Network, width, size, total, first_id, values_at}
 use Rattle.model.specs.LiveWords.{is_set, is_live}
 use Rattle.model.proofs.Bools.{or_left, or_right}
-use Rattle.model.proofs.Lists.{all-at, all-intro, from-mem, mem-from}
+use Rattle.model.proofs.Lists.{all-at, all-intro, from-mem}
 use Rattle.model.proofs.LiveWords.{is_live-at}
 use Rattle.live.proofs.Bits.{is_set-or, is_set-pow, one_shl}
 use Rattle.live.proofs.Stores.{is_live-set-same, is_live-set-other}
@@ -26,7 +26,6 @@ use Rattle.layout.proofs.Places.{exists, value-at, below-limit}
 use Rattle.layout.proofs.SoundStarts.{columns-few}
 use Rattle.value_index.specs.Plan.{index_words, column_start, digit_count, row_at, any_row, SamePlan}
 use Rattle.value_index.specs.Index.{row_bit, is_indexed, IndexedBy, IndexedAt, Indexed, Raises, Grows, Laid, Entered, EnteredAt, EntersColumn, EntersColumns, IndexesTuples}
-use Rattle.value_index.proofs.Products.{piece-within}
 use Rattle.value_index.proofs.ValueRows.{columns-same, digits_same, row_same, any_same, sound-same}
 
 -- ---- One word
@@ -49,26 +48,23 @@ module _ (ws : List ℕ) (i w h : ℕ) (inside : i < length ws) where
 
 -- ---- One bit
 
--- the bit at place p is set, and no other changes
-pub entered-one : (ws : List ℕ) (p h : ℕ) → p / 64 < length ws → is_live (set ws (p / 64) (bit_or (get_or ws (p / 64) 0) (1 * 2 ^ (p % 64) % 2 ^ 64))) h ≡ (is_live ws h || eqb p h)
-entered-one ws p h inside = rw (one_shl (p % 64) (omega arith)) (go (ℕ_discrete (h / 64) (p / 64)))
+-- the bit of id g in the row that begins at word `row` is set, which is in word i, and no other changes
+pub entered-one : (ws : List ℕ) (row g i h : ℕ) → i ≡ row + g / 64 → i < length ws → is_live (set ws i (bit_or (get_or ws i 0) (1 * 2 ^ (g % 64) % 2 ^ 64))) h ≡ (is_live ws h || eqb (64 * row + g) h)
+entered-one ws row g i h at inside = rw (one_shl (g % 64) (omega arith)) (go (ℕ_discrete (h / 64) i))
   where
-    same : (x : Bool) → eqb p h ≡ x → h / 64 ≡ p / 64 → eqb (p % 64) (h % 64) ≡ x
-    same true e q = let d = eqb-true p h e in eq-eqb (p % 64) (h % 64) (omega arith)
-    same false e q = let d = eqb-false p h e in ne_eqb (p % 64) (h % 64) (λ f. d (omega arith))
+    same : (x : Bool) → eqb (64 * row + g) h ≡ x → h / 64 ≡ i → eqb (g % 64) (h % 64) ≡ x
+    same true e q = let d = eqb-true (64 * row + g) h e in eq-eqb (g % 64) (h % 64) (omega arith)
+    same false e q = let d = eqb-false (64 * row + g) h e in ne_eqb (g % 64) (h % 64) (λ f. d (omega arith))
 
-    go : Dec (h / 64 ≡ p / 64) → is_live (set ws (p / 64) (bit_or (get_or ws (p / 64) 0) (2 ^ (p % 64)))) h ≡ (is_live ws h || eqb p h)
+    go : Dec (h / 64 ≡ i) → is_live (set ws i (bit_or (get_or ws i 0) (2 ^ (g % 64)))) h ≡ (is_live ws h || eqb (64 * row + g) h)
     go (yes e) =
-        joined_same ws (p / 64) (2 ^ (p % 64)) h inside e
-        ∙ ap (λ (y : Bool). is_live ws h || y) (is_set-pow (p % 64) (h % 64) ∙ same (eqb p h) refl e)
+        joined_same ws i (2 ^ (g % 64)) h inside e
+        ∙ ap (λ (y : Bool). is_live ws h || y) (is_set-pow (g % 64) (h % 64) ∙ same (eqb (64 * row + g) h) refl e)
     go (no d) =
-        is_live-set-other ws (p / 64) (bit_or (get_or ws (p / 64) 0) (2 ^ (p % 64))) h d
-        ∙ sym (ap (λ (x : Bool). is_live ws h || x) (ne_eqb p h (λ e. d (ap (λ (n : ℕ). n / 64) (sym e)))) ∙ or-false (is_live ws h))
+        is_live-set-other ws i (bit_or (get_or ws i 0) (2 ^ (g % 64))) h d
+        ∙ sym (ap (λ (x : Bool). is_live ws h || x) (ne_eqb (64 * row + g) h (λ e. d (omega arith))) ∙ or-false (is_live ws h))
 
 -- ---- No bit is lost
-
-pub grows_none : (index : List ℕ) → Grows index index
-grows_none index = record { keeps = λ p e. e; same = λ k h. refl }
 
 pub grows_one : (before after : List ℕ) (p : ℕ) → SamePlan before after → Raises before after p → Grows before after
 grows_one before after p s f = record { keeps = λ h e. f h ∙ or_left (eqb p h) e; same = s }

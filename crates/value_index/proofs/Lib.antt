@@ -1,5 +1,4 @@
 -- The laws that the proofs of the functions cite.
-pub mod Products
 pub mod Planning
 pub mod ValueRows
 pub mod Entries

@@ -3,20 +3,20 @@
 use mathlib.Core.Path.{◌≡◌, refl, sym, ◌∙◌, ap, subst}
 use mathlib.Core.Bool.{Bool, true, false}
 use mathlib.Core.List.{List}
-use Prim.Native.Nat.{ℕ, ◌+◌, ◌-◌, ◌*◌, ◌/◌, ◌%◌, ◌≤◌, ◌<◌}
+use Prim.Native.Nat.{ℕ, ◌+◌, ◌*◌, ◌/◌, ◌%◌, ◌≤◌, ◌<◌}
 use native.Mathlib.Omega.{arith}
 use native.Mathlib.Decide.{dec_lt}
 use lib.Bits.{bit_or}
 use lib.ListN.{length, get_or, set}
 use lib.Seq.{get_or-set_other}
-use Rattle.model.specs.Agreement.{is_any, fit}
+use Rattle.model.specs.Agreement.{is_any}
 use Rattle.model.specs.LiveWords.{is_set, is_live}
 use Rattle.model.proofs.Bools.{or_right}
 use Rattle.model.proofs.LiveWords.{is_live-at}
 use Rattle.model.proofs.Agreement.{fit-equal}
 use Rattle.live.proofs.Bits.{is_set-nought}
-use Rattle.value_index.specs.Plan.{plan_words, hashes, column_start, row_words, digit_count, digit_rows, hash_at, row_of, row_at, any_row, SoundPlan}
-use Rattle.value_index.specs.Index.{row_bit, is_indexed, IndexedBy, IndexedAt, Grows, Entered, EnteredAt, NoneIn, JoinsRow, SpreadsAny, SpreadsColumns}
+use Rattle.value_index.specs.Plan.{plan_words, hashes, column_start, row_words, digit_count, digit_rows, hash_at, row_at, any_row, SoundPlan}
+use Rattle.value_index.specs.Index.{row_bit, is_indexed, IndexedAt, Grows, Entered, EnteredAt, NoneIn, JoinsRow, SpreadsAny, SpreadsColumns}
 use Rattle.value_index.proofs.ValueRows.{hash-below, rows_before, any_same, columns-same}
 use Rattle.value_index.proofs.Entries.{joined_same, joined_keeps, value_on, rows_all}
 

@@ -4,15 +4,9 @@ use mathlib.Core.Path.{◌≡◌, refl, sym, ◌∙◌, ap, ap₂, subst}
 use mathlib.Core.List.{List}
 use mathlib.Core.Logic.{◌⊎◌, inl, inr}
 use Prim.Native.Nat.{ℕ, zero, suc, ◌+◌, ◌*◌, ◌/◌, ◌%◌, ◌≤◌, ◌<◌}
-use native.Mathlib.Nat.{mul-le-mul, mul-le-mul_right}
+use native.Mathlib.Nat.{mul-le-mul, mul-le-mul_left, mul-le-mul_right, mul_comm, mul-suc}
 use native.Mathlib.Omega.{arith}
-use lib.ListN.{length, get_or}
-use Rattle.value_index.specs.Plan.{plan_words, index_words, hashes, column_start, row_words, digit_count, digit_rows, factor, mixes, column_words, row_plan, any_row, folded, mixed, mixed_if, hash_behind, hash_at, row_of, row_at, ColumnRows, SoundPlan, SamePlan}
-use Rattle.value_index.proofs.Products.{piece-within}
-
-pub mixed-is : (hash : ℕ) → mixed hash ≡ folded 8192 (folded 32768 hash * 2246822507 % hashes)
-unfolding mixed
-mixed-is hash = refl
+use Rattle.value_index.specs.Plan.{plan_words, index_words, hashes, column_start, row_words, digit_count, digit_rows, factor, mixes, column_words, row_plan, any_row, mixed, mixed_if, hash_behind, hash_at, row_of, row_at, ColumnRows, SoundPlan, SamePlan}
 
 pub mixed-below : (hash : ℕ) → mixed hash < hashes
 unfolding mixed
@@ -46,6 +40,12 @@ module _ (index : List ℕ) (v : ℕ) where
   unfolding hash_at
   hash-next i = let e : i + 1 ≡ suc i = omega arith in ap (hash_at index v) e
 
+-- the i-th of n pieces of w each ends within them
+pub piece-within : (i n w : ℕ) → i < n → i * w + w ≤ n * w
+piece-within i n w h =
+    let l : w * suc i ≤ w * n = mul-le-mul_left w h in
+    omega (arith, l, mul-suc w i, mul_comm w i, mul_comm w n)
+
 -- the rows of a column, of which the last is that of any, lie within the index
 pub nth-within : {index : List ℕ} {start : ℕ} → ColumnRows index start → (k : ℕ) → k ≤ digit_count index * digit_rows index → start + k * row_words index + row_words index ≤ index_words
 nth-within {index} rows k h =
@@ -63,18 +63,10 @@ module _ {index : List ℕ} (sound : SoundPlan index) (hash : ℕ) (below : hash
       let p = mul-le-mul_right (digit_rows index) h in
       omega (arith, p, sound.some)
 
-  pub hash-fits : hash * digit_rows index ≤ 39582418599936
-  hash-fits =
-      let h : hash ≤ hashes = omega (arith, below) in
-      mul-le-mul h sound.short
-
   module _ (i : ℕ) (h : i < digit_count index) where
     -- the rows before it, of this digit and those before it
     pub rows_before : i * digit_rows index + hash * digit_rows index / hashes < digit_count index * digit_rows index
     rows_before = omega (arith, digit-below, piece-within i (digit_count index) (digit_rows index) h)
-
-    pub rows_few : i * digit_rows index + hash * digit_rows index / hashes < 36865
-    rows_few = omega (arith, rows-many sound, rows_before)
 
     module _ {start : ℕ} (rows : ColumnRows index start) where
       pub row_within : row_of index start hash i + row_words index ≤ index_words

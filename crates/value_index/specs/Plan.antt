@@ -1,6 +1,6 @@
 -- How the value index tells values apart. Its first words say where each column's rows begin, how many words a row has, and which rows are
 -- a value's: one for each digit of its hash. Only this file knows where in the index these words stand.
-use Rattle.std.specs.Prelude.{◌≡◌, ◌⊎◌, List, ℕ, zero, suc, ◌+◌, ◌*◌, ◌/◌, ◌%◌, ◌≤◌, ◌<◌, length, get_or}
+use Rattle.std.specs.Prelude.{◌≡◌, ◌⊎◌, List, ℕ, zero, suc, ◌+◌, ◌*◌, ◌/◌, ◌%◌, ◌≤◌, ◌<◌, get_or}
 use Rattle.std.specs.Int.Bits.{bit_xor}
 use Rattle.model.specs.Limits.{max_relations, max_width}
 use Rattle.value_index.specs.declared.digits.RowPlan.{RowPlan}

@@ -1,6 +1,6 @@
 // The row of any: a column has one more row, behind those of the digits. A tuple whose value there is any is entered in it, and it is then
 // spread over the column's other rows, a word at a time.
-ghost use Rattle.std.specs.Prelude.{◌≡◌, false, ℕ, ◌+◌, ◌*◌, ◌≤◌, ◌<◌};
+ghost use Rattle.std.specs.Prelude.{◌≡◌, false, ◌+◌, ◌*◌, ◌≤◌, ◌<◌};
 ghost use Rattle.model.specs.Limits.{max_relations, max_width, word_bits};
 ghost use Rattle.value_index.specs.Plan.{plan_words, index_words, row_words, any_row, ColumnRows, SoundPlan};
 ghost use Rattle.value_index.specs.Index.{Full, Laid, Grows, NoneIn, JoinsRow, SpreadsAny, SpreadsColumns};
@@ -23,10 +23,8 @@ fn has_some(index: &Index, row: usize, from: usize, to: usize) -> bool
     ensures { result ≡ false → NoneIn index.now row (word_bits * from) (word_bits * to) }
 {
     let mut some = 0;
-    let mut i = from;
-    while i < to {
-        some = some | index[row + i];
-        i += 1;
+    for i in from..to {
+        some |= index[row + i];
     }
     some != 0
 }
@@ -36,10 +34,8 @@ fn join_row(index: &mut Index, row: usize, other: usize, from: usize, to: usize)
     requires { Full index.old × ((plan_words ≤ other) × ((row + to ≤ index_words) × (other + to ≤ index_words))) }
     ensures { Full index.new × (Grows index.old index.new × JoinsRow row other (word_bits * from) (word_bits * to) index.old index.new) }
 {
-    let mut i = from;
-    while i < to {
-        index[other + i] = index[other + i] | index[row + i];
-        i += 1;
+    for i in from..to {
+        index[other + i] |= index[row + i];
     }
 }
 
@@ -58,10 +54,8 @@ fn spread_any(index: &mut Index, start: usize, from: usize, to: usize)
     }
     let rows = index[DIGITS] * index[DIGIT_ROWS];
     let words = index[ROW_WORDS];
-    let mut k: u64 = 0;
-    while k < rows {
+    for k in 0..rows {
         join_row(index, any, start + (k * words) as usize, from, to);
-        k += 1;
     }
 }
 
@@ -72,9 +66,7 @@ pub fn spread_columns(index: &mut Index, r: u16, width: u16, start: u16, end: u1
 {
     let from = wide(start / 64);
     let to = words_for(end);
-    let mut c: u16 = 0;
-    while c < width {
+    for c in 0..width {
         spread_any(index, column_start(index, r, c), from, to);
-        c += 1;
     }
 }

@@ -34,6 +34,7 @@ pub fn row_plan(index: &Index) -> RowPlan
 }
 
 // A hash mixed: its high bits go into the low ones, the factor takes those up again, and the high ones go into the low once more.
+#[tactic(auto, unfolding(crate::specs::Plan::mixed))]
 pub fn mix(hash: u64) -> u64
     ensures { result ≡ mixed hash }
 {

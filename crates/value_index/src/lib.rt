@@ -3,7 +3,7 @@
 // column fits a value are in all of its rows, and where the digits tell all values apart, no other tuple is.
 #![tactic(auto)]
 
-ghost use Rattle.std.specs.Prelude.{◌≡◌, true, ℕ, ◌+◌, ◌-◌, ◌*◌, ◌≤◌, ◌<◌, length};
+ghost use Rattle.std.specs.Prelude.{◌≡◌, true, ◌+◌, ◌-◌, ◌*◌, ◌≤◌, ◌<◌, length};
 ghost use Rattle.model.specs.Limits.{max_relations, max_width, word_bits};
 ghost use Rattle.layout.specs.Loan.{entry};
 ghost use Rattle.layout.specs.Setting.{lists, network_in, SoundLists};
@@ -100,7 +100,7 @@ fn enter(index: &mut Index, row: usize, g: u16)
     ensures { Full index.new × (SamePlan index.old index.new × Raises index.old index.new (word_bits * row + g)) }
 {
     let i = row + wide(g / 64);
-    index[i] = index[i] | (1u64 << (g % 64));
+    index[i] |= 1u64 << (g % 64);
 }
 
 // The tuple with id g is in every row of the value, among the rows that begin at `start`; no bit is lost.
@@ -108,13 +108,10 @@ fn enter_value(index: &mut Index, plan: RowPlan, start: usize, value: Value, g: 
     requires { (Laid index.old (g + 1) × ColumnRows index.old start) × (plan ≡ row_plan index.old) }
     ensures { Full index.new × (Grows index.old index.new × (is_indexed index.new start value g ≡ true)) }
 {
-    let count = plan.digits;
     let mut hash = digits::hash_of(index, plan, value);
-    let mut i: u64 = 0;
-    while i < count {
+    for i in 0..plan.digits {
         enter(index, digits::row_of(index, plan, start, hash, i), g);
         hash = digits::hash_behind(index, plan, hash);
-        i += 1;
     }
 }
 
@@ -151,11 +148,9 @@ fn enter_column(
         return;
     }
     let plan = row_plan(index);
-    let mut g = first;
     let mut p = at + wide(c);
-    while g < end {
+    for g in first..end {
         enter_cell(index, plan, start, values[p], g);
-        g += 1;
         p += wide(width);
     }
 }
@@ -174,11 +169,9 @@ fn enter_tuples(
     requires start_le_end { (start ≤ end) × (at + (end - start) * width ≤ length values.now) }
     ensures { Full index.new × (Grows index.old index.new × EntersTuples values.now at r width start end index.new) }
 {
-    let mut c: u16 = 0;
-    while c < width {
+    for c in 0..width {
         let rows = column_start(index, r, c);
         enter_column(values, at, width, c, rows, start, end, index);
-        c += 1;
     }
 }
 
@@ -206,9 +199,7 @@ pub fn index_all(variables: &[u16], values: &[Value], starts: &Starts, index: &m
     ensures { Full index.new × Indexed (network_in (lists entry variables values starts)) index.new }
 {
     lay_out(variables, values, starts, index);
-    let relations = relation_count(starts);
-    let mut r: u16 = 0;
-    while r < relations {
+    for r in 0..relation_count(starts) {
         let width = (variable_start(starts, r + 1) - variable_start(starts, r)) as u16;
         index_tuples(
             values,
@@ -219,6 +210,5 @@ pub fn index_all(variables: &[u16], values: &[Value], starts: &Starts, index: &m
             tuple_start(starts, r + 1),
             index,
         );
-        r += 1;
     }
 }

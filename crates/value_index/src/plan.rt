@@ -1,6 +1,6 @@
 // How values are told apart: which columns have rows, how many, and by which digits. Whatever these functions choose, a tuple is in all rows
 // of its values; the better they choose, the fewer others are.
-ghost use Rattle.std.specs.Prelude.{ℕ, ◌*◌, ◌≤◌, ◌<◌, length};
+ghost use Rattle.std.specs.Prelude.{◌*◌, ◌≤◌, ◌<◌, length};
 ghost use Rattle.model.specs.Limits.{max_relations, max_width, max_tuples, word_bits};
 ghost use Rattle.model.specs.Network.{total};
 ghost use Rattle.layout.specs.Loan.{entry};
@@ -14,7 +14,7 @@ use super::{
     DIGIT_ROWS, DIGITS, FACTOR, HASHES, INDEX, Index, MAX_DIGITS, MIXES, PLAN, ROW_WORDS, ROWS,
     SCOPES,
 };
-use layout::{Starts, relation_count, tuple_count, variable_start, wide};
+use layout::{Starts, tuple_count, variable_start, wide};
 use live::words_for;
 use model::{ANY_VALUE, MAX_RELATIONS, MAX_WIDTH, Value};
 
@@ -40,44 +40,27 @@ struct Digits {
 fn shared_variables(variables: &[u16]) -> u64 {
     let mut once: u64 = 0;
     let mut shared: u64 = 0;
-    let mut i = 0;
-    while i < variables.len() {
-        let bit = 1u64 << (variables[i] % 64);
-        shared = shared | (once & bit);
-        once = once | bit;
-        i += 1;
+    for variable in variables {
+        let bit = 1u64 << (*variable % 64);
+        shared |= once & bit;
+        once |= bit;
     }
     shared
 }
 
-// 1 if the variable is one of these, and otherwise 0.
-fn is_shared(shared: u64, variable: u16) -> u64
-    ensures { result ≤ 1 }
-{
-    (shared >> (variable % 64)) % 2
-}
-
-// The larger of two numbers.
-fn larger(a: u64, b: u64) -> u64
-    ensures { (a ≤ result) × ((m : ℕ) → a ≤ m → b ≤ m → result ≤ m) }
-{
-    if a < b {
-        return b;
-    }
-    a
+// Whether the variable is one of these.
+fn is_shared(shared: u64, variable: u16) -> bool {
+    (shared >> (variable % 64)) % 2 == 1
 }
 
 // How many variables of the scope are shared.
 fn shared_columns(scope: &[u16], shared: u64) -> u64
     ensures { result ≤ length scope.now }
 {
-    let mut n = 0;
-    let mut c = 0;
-    while c < scope.len() {
-        n += is_shared(shared, scope[c]);
-        c += 1;
-    }
-    n
+    scope
+        .iter()
+        .filter(|variable| is_shared(shared, **variable))
+        .count() as u64
 }
 
 // The most shared variables of any relation, and at least 1.
@@ -86,39 +69,17 @@ fn most_columns(variables: &[u16], starts: &Starts, shared: u64) -> u64
     ensures { 0 < result }
 {
     let mut most: u64 = 1;
-    let mut r: u16 = 0;
-    while wide(r) < MAX_RELATIONS {
+    for r in 0..MAX_RELATIONS as u16 {
         let scope = variable_start(starts, r);
         let scope_end = variable_start(starts, r + 1);
-        most = larger(most, shared_columns(&variables[scope..scope_end], shared));
-        r += 1;
+        most = most.max(shared_columns(&variables[scope..scope_end], shared));
     }
     most
 }
 
 // One more than a value, and 0 for any, which is the last of its width.
 fn above(value: Value) -> Value {
-    ((value as u64 + 1) % HASHES) as Value
-}
-
-// The larger of two values.
-fn larger_value(a: Value, b: Value) -> Value
-    ensures { result < hashes }
-{
-    if a < b {
-        return b;
-    }
-    a
-}
-
-// The lesser of two values; any is the largest.
-fn lesser_value(a: Value, b: Value) -> Value
-    ensures { result < hashes }
-{
-    if b < a {
-        return b;
-    }
-    a
+    value.wrapping_add(1)
 }
 
 // How many numbers there are from the least value to the largest other than any, and at least 1.
@@ -127,11 +88,9 @@ fn value_range(values: &[Value]) -> u64
 {
     let mut least: Value = ANY_VALUE;
     let mut most: Value = 0;
-    let mut i = 0;
-    while i < values.len() {
-        least = lesser_value(least, values[i]);
-        most = larger_value(most, above(values[i]));
-        i += 1;
+    for value in values {
+        least = least.min(*value);
+        most = most.max(above(*value));
     }
     if most <= least {
         return 1;
@@ -144,13 +103,11 @@ fn tells(rows: u64, digits: u64, classes: u64) -> bool
     requires { (rows ≤ most_rows) × (classes ≤ hashes) }
 {
     let mut reached: u64 = 1;
-    let mut i = 0;
-    while i < digits {
-        reached = reached * rows;
+    for _ in 0..digits {
+        reached *= rows;
         if classes <= reached {
             return true;
         }
-        i += 1;
     }
     false
 }
@@ -161,8 +118,9 @@ fn fewer_rows(rows: u64, digits: u64, classes: u64) -> u64
     ensures { (0 < result) × (result ≤ rows) }
 {
     let mut fewer = rows;
+    // stays a while: it goes by halves
     while 2 <= fewer && tells(fewer / 2, digits, classes) {
-        fewer = fewer / 2;
+        fewer /= 2;
     }
     fewer
 }
@@ -175,8 +133,7 @@ fn digits_for(rows: u64, range: u64) -> Digits
 {
     let factor = HASHES / range;
     let classes = (HASHES - 1) / factor + 1;
-    let mut count: u64 = 1;
-    while count <= MAX_DIGITS as u64 {
+    for count in 1..=MAX_DIGITS as u64 {
         let each = rows / count;
         if tells(each, count, classes) {
             let fewer = fewer_rows(each, count, classes);
@@ -195,7 +152,6 @@ fn digits_for(rows: u64, range: u64) -> Digits
                 mixes: 1,
             };
         }
-        count += 1;
     }
     Digits {
         count: MAX_DIGITS as u64,
@@ -226,12 +182,8 @@ fn column_at(scope: &[u16], c: usize, shared: u64, start: usize, size: usize) ->
     requires { (plan_words ≤ start) × (start ≤ index_words) }
     ensures { Begins start size result }
 {
-    if c < scope.len() {
-        if size <= INDEX - start {
-            if is_shared(shared, scope[c]) == 1 {
-                return start;
-            }
-        }
+    if c < scope.len() && size <= INDEX - start && is_shared(shared, scope[c]) {
+        return start;
     }
     0
 }
@@ -254,12 +206,10 @@ fn lay_relation(scope: &[u16], shared: u64, r: u16, size: usize, index: &mut Ind
 {
     let own = wide(r) * MAX_WIDTH;
     let mut start = PLAN;
-    let mut c = 0;
-    while c < MAX_WIDTH {
+    for c in 0..MAX_WIDTH {
         let begin = column_at(scope, c, shared, start, size);
         index[own + c] = begin as u64;
         start = behind(start, size, begin);
-        c += 1;
     }
 }
 
@@ -268,22 +218,18 @@ fn lay_relations(variables: &[u16], starts: &Starts, shared: u64, size: usize, i
     requires { Full index.old × ScopesWithin starts.now variables.now }
     ensures { Full index.new × LaysRelations size max_relations index.old index.new }
 {
-    let mut r: u16 = 0;
-    while wide(r) < MAX_RELATIONS {
+    for r in 0..MAX_RELATIONS as u16 {
         let scope = variable_start(starts, r);
         let scope_end = variable_start(starts, r + 1);
         lay_relation(&variables[scope..scope_end], shared, r, size, index);
-        r += 1;
     }
 }
 
 // The variables of a scope, a bit for each.
 fn bits_of(scope: &[u16]) -> u64 {
     let mut bits: u64 = 0;
-    let mut c = 0;
-    while c < scope.len() {
-        bits = bits | (1u64 << (scope[c] % 64));
-        c += 1;
+    for variable in scope {
+        bits |= 1u64 << (*variable % 64);
     }
     bits
 }
@@ -293,12 +239,10 @@ fn lay_scopes(variables: &[u16], starts: &Starts, index: &mut Index)
     requires { Full index.old × ScopesWithin starts.now variables.now }
     ensures { Full index.new }
 {
-    let mut r: u16 = 0;
-    while wide(r) < MAX_RELATIONS {
+    for r in 0..MAX_RELATIONS as u16 {
         let scope = variable_start(starts, r);
         let scope_end = variable_start(starts, r + 1);
         index[SCOPES + wide(r)] = bits_of(&variables[scope..scope_end]);
-        r += 1;
     }
 }
 
@@ -307,11 +251,7 @@ fn words_of_row(starts: &Starts) -> usize
     requires { tuple_start starts.now max_relations ≤ max_tuples }
     ensures { (0 < result) × (result ≤ 64) × (tuple_start starts.now max_relations ≤ word_bits * result) }
 {
-    let words = words_for(tuple_count(starts));
-    if words == 0 {
-        return 1;
-    }
-    words
+    words_for(tuple_count(starts)).max(1)
 }
 
 // The index gets its plan.

@@ -2,13 +2,14 @@
 -- encoded. All over the number k of bytes of an entry.
 use mathlib.Core.Path.{◌≡◌, refl, sym, ap, ◌∙◌}
 use mathlib.Core.List.{List, [], ◌∷◌, ◌++◌, append_assoc, append-nil}
-use Prim.Native.Nat.{ℕ, zero, suc, ◌+◌, ◌*◌, ◌/◌, ◌%◌, ◌^◌, ◌≤◌, ◌<◌, min}
-use native.Mathlib.Nat.{zero-add, suc-add, add_comm, add_assoc, mul-zero, mul-suc, mul_comm, mul_assoc, mul_left_comm, add-mul, mul-le-mul_left, div-one, div-div-eq-div-mul, mul-div-le, pow-zero, pow-suc, pow-succ', one-le-pow, le_trans, not-suc-le-zero}
+use Prim.Native.Nat.{ℕ, zero, suc, ◌+◌, ◌-◌, ◌*◌, ◌/◌, ◌%◌, ◌^◌, ◌≤◌, ◌<◌, min}
+use native.Mathlib.Nat.{zero-add, add-zero, suc-add, add_comm, add_assoc, mul-zero, mul-suc, mul_comm, mul_assoc, mul_left_comm, add-mul, mul-le-mul_left, div-one, div-div-eq-div-mul, mul-div-le, pow-zero, pow-suc, pow-succ', one-le-pow, le_trans, not-suc-le-zero}
 use native.Mathlib.Numerals.{add-one}
 use native.Mathlib.Omega.{arith}
 use lib.Arith.{mod-mul}
-use lib.ListN.{length, take, drop, get_or, set, length-append, length-drop, length-set, take-append-drop, drop_of_length-le}
-use lib.Seq.{drop-cons, drop-nil, drop-drop, drop_at, take-nil, take-suc, take-take, take_at, take-length, take_all, length-take-le, get_or-drop, set_at, sets-eq}
+use lib.ListN.{length, take, drop, get_or, set, length-append, length-drop, take-append-drop, drop_of_length-le}
+use lib.Seq.{take-append-le, drop-cons, drop-nil, drop-drop, drop_at, take-nil, take-suc, take-take, take_at, take_all, length-take-le, get_or-drop, set_at}
+use Rattle.wire.specs.Laws.{behind}
 use Rattle.wire.specs.Entries.{Bytes, value, bytes_of, entry_at, entries, bytes, entries16, entries32, entries64, Filled}
 
 -- ---- One entry
@@ -63,10 +64,6 @@ pub bytes-append : (k : ℕ) (xs ys : List ℕ) → bytes k (xs ++ ys) ≡ bytes
 bytes-append k [] ys = refl
 bytes-append k (x ∷ xs) ys = rw (bytes-append k xs ys, append_assoc)
 
--- the bytes behind entry number i of a list without its first entry
-behind : (k i : ℕ) (bs : List ℕ) → drop (k * i) (drop k bs) ≡ drop (k * suc i) bs
-behind k i bs = drop-drop (k * i) k bs ∙ ap (λ (m : ℕ). drop m bs) (add_comm k (k * i) ∙ sym (mul-suc k i))
-
 pub entries_at : (k n : ℕ) (bs : List ℕ) (i : ℕ) → i < n → get_or (entries k n bs) i 0 ≡ entry_at k bs i
 unfolding entry_at
 entries_at k zero bs i h = omega arith
@@ -92,21 +89,6 @@ entries16-at bs i h = entries_at 2 (length bs / 2) bs i h
 pub entries32-at : (bs : List ℕ) (i : ℕ) → i < length bs / 4 → get_or (entries32 bs) i 0 ≡ entry_at 4 bs i
 unfolding entries32
 entries32-at bs i h = entries_at 4 (length bs / 4) bs i h
-
-pub entries_next : (k n : ℕ) (bs : List ℕ) → entries k (n + 1) bs ≡ entries k n bs ++ (entry_at k bs n ∷ [])
-unfolding entry_at
-entries_next k zero bs = rw mul-zero
-entries_next k (suc n) bs =
-    rw (add-one (suc n))
-    (ap (λ (r : List ℕ). value (take k bs) ∷ r)
-    (rw add-one at (entries_next k n (drop k bs)) ∙ ap (λ (d : List ℕ). entries k n (drop k bs) ++ (value (take k d) ∷ [])) (behind k n bs)))
-
--- as many entries as there are, or as there is room for
-pub entries-front : (k n q m : ℕ) (bs : List ℕ) → n ≡ min q m → entries k n bs ≡ take m (entries k q bs)
-entries-front k n zero m bs e = let none : n ≡ 0 = omega arith in rw none (sym (take_all m [] (omega arith)))
-entries-front k n (suc q) zero bs e = let none : n ≡ 0 = omega arith in rw none
-entries-front k zero (suc q) (suc m) bs e = let none : suc m ≤ 0 = omega arith in absurd (not-suc-le-zero none)
-entries-front k (suc n) (suc q) (suc m) bs e = ap (λ (r : List ℕ). value (take k bs) ∷ r) (entries-front k n q m (drop k bs) (omega arith))
 
 -- ---- Both ways
 
@@ -218,9 +200,9 @@ next-at k i = rw (add-one, mul-suc)
 twice-at : (k i : ℕ) → (k + k) * i ≡ k * (2 * i)
 twice-at k i = rw (add-mul, mul_left_comm) (omega arith)
 
--- an entry is written behind the bytes of those before it
-put-behind : (k i x : ℕ) (p q : List ℕ) → length p ≡ k * i → put k i x (p ++ q) ≡ p ++ bytes_of k x ++ drop k q
-put-behind k i x p q e = rw (take_at p q (k * i) e, ← drop-drop k (k * i) (p ++ q), drop_at p q (k * i) e)
+-- what is written behind a list
+put-behind : (k i : ℕ) (w p q : List ℕ) → length p ≡ k * i → take (k * i) (p ++ q) ++ w ++ drop (k * i + k) (p ++ q) ≡ p ++ w ++ drop k q
+put-behind k i w p q e = rw (take_at p q (k * i) e, ← drop-drop k (k * i) (p ++ q), drop_at p q (k * i) e)
 
 -- an entry of one byte, and one of twice the width by its halves
 pub entry-one : (bs : List ℕ) (i : ℕ) → entry_at 1 bs i ≡ get_or bs i 0
@@ -233,10 +215,7 @@ pub entry-halves : (k i low high : ℕ) (bs : List ℕ) → low ≡ entry_at k b
 unfolding entry_at
 entry-halves k i low high bs e e' = rw (e, e', twice-at, next-at, ← drop-drop) (sym (value-add k k (drop (k * (2 * i)) bs)))
 
--- an entry of two bytes is written byte by byte, and one of twice the width by its halves
-pub put_two : (i x : ℕ) (d : List ℕ) → 2 * i + 2 ≤ length d → set (set d (2 * i) (x % 256)) (2 * i + 1) (x / 256 % 256) ≡ put 2 i x d
-put_two i x d h = simp add-one (sets-eq (bytes_of 2 x) d (2 * i) h)
-
+-- an entry of twice the width is written by its halves
 pub put-halves : (k i x : ℕ) (d d' d'' : List ℕ) → (k + k) * i + (k + k) ≤ length d
     → d' ≡ put k (2 * i) (x % 256 ^ k) d → d'' ≡ put k (2 * i + 1) (x / 256 ^ k) d' → d'' ≡ put (k + k) i x d
 put-halves k i x d d' d'' h first second =
@@ -244,58 +223,64 @@ put-halves k i x d d' d'' h first second =
     let low = bytes_of k (x % 256 ^ k) in
     let high = bytes_of k (x / 256 ^ k) in
     let long : length (take at d ++ low) ≡ k * (2 * i + 1) = simp (length-append, length-take-le at d (omega (arith, twice-at k i)), bytes_of-length, next-at) in
-    rw (second, first, put-behind k (2 * i + 1) (x / 256 ^ k) (take at d ++ low) (drop (at + k) d) long, twice-at, bytes_of-add, drop-drop, append_assoc (take at d) low high, add_assoc)
+    rw (second, first, put-behind k (2 * i + 1) (bytes_of k (x / 256 ^ k)) (take at d ++ low) (drop (at + k) d) long, twice-at, bytes_of-add, drop-drop, append_assoc (take at d) low high, add_assoc)
 
 -- ---- The loops
 
--- d holds the first i of n entries of s, and behind them what it held at the start, d₀
-pub record Loaded (k n i : ℕ) (s d₀ d : List ℕ) : Type 0 where
-  pub within : i ≤ n
-  pub kept : length d ≡ length d₀
-  pub holds : d ≡ entries k i s ++ drop i d₀
+-- Decoding, in any type of entries: from what the first entries of a list of bytes are.
+module _ {A : Type 0} (front : ℕ → List ℕ → List A) (entry : List ℕ → ℕ → A) (none : (s : List ℕ) → front 0 s ≡ []) (next : (n : ℕ) (s : List ℕ) → front (n + 1) s ≡ front n s ++ (entry s n ∷ [])) where
+  -- the first n entries are n
+  pub front-length : (n : ℕ) (s : List ℕ) → length (front n s) ≡ n
+  front-length zero s = ap length (none s)
+  front-length (suc n) s = rw (← add-one n, next n s, length-append, front-length n s)
 
-pub loaded-start : (k n : ℕ) (s d : List ℕ) → Loaded k n 0 s d d
-loaded-start k n s d = record { within = omega arith; kept = refl; holds = refl }
+  -- the first entries of more are the same
+  pub front-take : (n m : ℕ) (s : List ℕ) → take n (front (n + m) s) ≡ front n s
+  front-take n zero s = rw add-zero (take_all n (front n s) (omega (arith, front-length n s)))
+  front-take n (suc m) s =
+      let e : n + suc m ≡ n + m + 1 = omega arith in
+      rw (e, next (n + m) s) (take-append-le n (front (n + m) s) (entry s (n + m) ∷ []) (omega (arith, front-length (n + m) s)) ∙ front-take n m s)
 
-pub loaded-next : (k n i x : ℕ) (s d₀ d : List ℕ) → Loaded k n i s d₀ d → i < n → n ≤ length d₀ → x ≡ entry_at k s i → Loaded k n (i + 1) s d₀ (set d i x)
-loaded-next k n i x s d₀ d l more room e =
-    let h : i < length d₀ = omega arith in
-    record {
-      within = omega arith;
-      kept = length-set d i x ∙ l.kept;
-      holds =
-          rw (l.holds, e, drop-cons d₀ i 0 h, set_at (entries k i s) (get_or d₀ i 0) (drop (suc i) d₀) (entry_at k s i) i (entries-length k i s), entries_next, append_assoc, add-one);
-    }
+  -- one entry more
+  pub loaded-next : (i : ℕ) (s : List ℕ) (d₀ d : List A) → i < length d₀ → d ≡ front i s ++ drop i d₀ → set d i (entry s i) ≡ front (i + 1) s ++ drop (i + 1) d₀
+  loaded-next i s d₀ d h holds =
+      rw (holds, drop-cons d₀ i (entry s i) h, set_at (front i s) (get_or d₀ i (entry s i)) (drop (suc i) d₀) (entry s i) i (front-length i s), next, append_assoc, add-one)
 
-pub loaded-end : (k n i : ℕ) (s d₀ d : List ℕ) → Loaded k n i s d₀ d → n ≤ i → n ≡ min (length s / k) (length d₀) → Filled k n s d₀ d
-loaded-end k n i s d₀ d l all least =
-    let same : i ≡ n = omega arith in
-    let front : take n d ≡ entries k n s = rw (l.holds, same) (take_at (entries k n s) (drop n d₀) n (entries-length k n s)) in
-    record {
-      within = omega arith;
-      count = sym (ap length front ∙ entries-length k n s);
-      held = front ∙ entries-front k n (length s / k) (length d₀) s least;
-      most = le_trans (mul-le-mul_left k (omega arith)) (mul-div-le (length s) k);
-    }
+  -- as many entries as there are, or as there is room for
+  front-least : (n more room : ℕ) (s : List ℕ) → n ≡ min (n + more) room → take room (front (n + more) s) ≡ front n s
+  front-least n zero room s e = rw add-zero (take_all room (front n s) (omega (arith, front-length n s)))
+  front-least n (suc more) room s e = let full : room ≡ n = omega arith in rw full (front-take n (suc more) s)
 
--- d holds the bytes of the first i entries of s, and behind them what it held at the start, d₀
-pub record Stored (k i : ℕ) (s d₀ d : List ℕ) : Type 0 where
-  pub within : i ≤ length s
-  pub kept : length d ≡ length d₀
-  pub holds : d ≡ bytes k (take i s) ++ drop (k * i) d₀
+  -- a list into which n entries were decoded, and what stands behind them
+  pub loaded-end : (k n i : ℕ) (s : List ℕ) (d₀ d : List A) → n ≡ min (length s / k) (length d₀) → length (take n d₀) ≤ i → i ≤ length (take n d₀) → d ≡ front i s ++ drop i (take n d₀) → Filled k front n s d₀ (d ++ drop n d₀)
+  loaded-end k n i s d₀ d least all within holds =
+      let long : length (take n d₀) ≡ n = length-take-le n d₀ (omega arith) in
+      let same : i ≡ n = omega arith in
+      let is : d ≡ front n s = holds ∙ rw (same, drop_of_length-le (take n d₀) {i = n} (omega arith)) (append-nil _) in
+      let front_is : take n (d ++ drop n d₀) ≡ front n s = rw is (take_at (front n s) (drop n d₀) n (front-length n s)) in
+      let entries : n + (length s / k - n) ≡ length s / k = omega arith in
+      record {
+        within = simp (is, length-append, front-length) (omega arith);
+        count = sym (ap length front_is ∙ front-length n s);
+        held = front_is ∙ sym (rw entries at (front-least n (length s / k - n) (length d₀) s (omega arith)));
+        most = le_trans (mul-le-mul_left k (omega arith)) (mul-div-le (length s) k);
+      }
 
-pub stored-start : (k : ℕ) (s d : List ℕ) → Stored k 0 s d d
-stored-start k s d = record { within = omega arith; kept = refl; holds = rw mul-zero }
+-- Encoding, in any type of entries: from what the bytes of a list are.
+module _ {A : Type 0} (k : ℕ) (own : A → List ℕ) (all : List A → List ℕ) (none : all [] ≡ []) (more : (x : A) (xs : List A) → all (x ∷ xs) ≡ own x ++ all xs) (count : (x : A) → length (own x) ≡ k) where
+  -- the bytes of all are k for each, and those of one more stand behind
+  pub all-length : (xs : List A) → length (all xs) ≡ k * length xs
+  all-length [] = ap length none ∙ sym (mul-zero k)
+  all-length (x ∷ xs) = rw (more x xs, length-append, count x, all-length xs, mul-suc) (add_comm k (k * length xs))
 
-pub stored_next : (k i : ℕ) (s d₀ d d' : List ℕ) → Stored k i s d₀ d → i < length s → length d' ≡ length d → d' ≡ put k i (get_or s i 0) d → Stored k (i + 1) s d₀ d'
-stored_next k i s d₀ d d' l h same wrote =
-    let long : length (bytes k (take i s)) ≡ k * i = bytes-length k (take i s) ∙ ap (λ (n : ℕ). k * n) (length-take-le i s l.within) in
-    record {
-      within = omega arith;
-      kept = same ∙ l.kept;
-      holds =
-          rw (wrote, l.holds, put-behind k i (get_or s i 0) (bytes k (take i s)) (drop (k * i) d₀) long, drop-drop, next-at, add-one, take-suc s i 0 h, bytes-append, append-nil);
-    }
+  pub all-push : (xs : List A) (y : A) → all (xs ++ (y ∷ [])) ≡ all xs ++ own y
+  all-push [] y = rw (more y [], none, append-nil)
+  all-push (x ∷ xs) y = rw (more x (xs ++ (y ∷ [])), all-push xs y, more x xs, append_assoc)
 
-pub stored-end : (k i : ℕ) (s d₀ d : List ℕ) → Stored k i s d₀ d → length s ≤ i → d ≡ bytes k s ++ drop (k * length s) d₀
-stored-end k i s d₀ d l all = let same : i ≡ length s = omega arith in l.holds ∙ rw (same, take-length)
+  -- one entry more
+  pub stored-next : (i : ℕ) (x : A) (s : List A) (d₀ d d' : List ℕ) → i < length s → x ≡ get_or s i x → d ≡ all (take i s) ++ drop (k * i) d₀
+      → d' ≡ take (k * i) d ++ own x ++ drop (k * i + k) d → d' ≡ all (take (i + 1) s) ++ drop (k * (i + 1)) d₀
+  stored-next i x s d₀ d d' h here holds wrote =
+      let long : length (all (take i s)) ≡ k * i = all-length (take i s) ∙ ap (λ (n : ℕ). k * n) (length-take-le i s (omega arith)) in
+      let push : all (take (i + 1) s) ≡ all (take i s) ++ own x = rw (add-one, take-suc s i x h, ← here) (all-push (take i s) x) in
+      rw (wrote, holds, put-behind k i (own x) (all (take i s)) (drop (k * i) d₀) long, drop-drop, next-at, push)

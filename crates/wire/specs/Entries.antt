@@ -40,9 +40,10 @@ unfoldable pub entries64 : List ℕ → List ℕ
 entries64 bs = entries 8 (length bs / 8) bs
 
 -- The first n entries of s were decoded to the front of a list, which held d₀ and holds d: all of them, or as many as there is
--- room for. The first two parts are what lending `&d[..n]` asks.
-pub record Filled (k n : ℕ) (s d₀ d : List ℕ) : Type 0 where
+-- room for. An entry has k bytes, and `front` gives the first entries of a list of bytes. The first two parts are what lending
+-- `&d[..n]` asks.
+pub record Filled {A : Type 0} (k : ℕ) (front : ℕ → List ℕ → List A) (n : ℕ) (s : List ℕ) (d₀ d : List A) : Type 0 where
   pub within : n ≤ length d
   pub count : n ≡ length (take n d)
-  pub held : take n d ≡ take (length d₀) (entries k (length s / k) s)
+  pub held : take n d ≡ take (length d₀) (front (length s / k) s)
   pub most : k * n ≤ length s

@@ -1,2 +1,3 @@
--- The definitions that the contracts cite.
+-- The definitions that the contracts cite, and a law.
 pub mod Entries
+pub mod Laws

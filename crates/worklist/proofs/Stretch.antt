@@ -2,6 +2,8 @@
 -- replacing them one by one.
 -- From the logic's laws of lists.
 use mathlib.Core.Path.{◌≡◌, refl, sym, ◌∙◌, ap}
+use mathlib.Core.Bool.{cond}
+use lib.Dec.{ltb}
 use mathlib.Core.List.{List, ◌∷◌, ◌++◌, append_assoc}
 use mathlib.Core.Logic.{◌⊎◌, ⊎_elim}
 use Prim.Native.Nat.{ℕ, zero, suc, ◌+◌, ◌-◌, ◌≤◌, ◌<◌}
@@ -9,7 +11,7 @@ use native.Mathlib.Nat.{sub-zero, zero-sub, suc-sub-suc}
 use native.Mathlib.Numerals.{add-one}
 use native.Mathlib.Omega.{arith}
 use lib.ListN.{length, get_or, set, take, drop, replicate, length-set, length-append, length-drop, take-append-drop}
-use lib.Seq.{length-take-le, take_at, drop_at, take-append-le, drop-append-le, take-add, drop-drop, paste, paste-zero, paste-suc}
+use lib.Seq.{length-take-le, take_at, drop_at, take-append-le, drop-append-le, take-add, drop-drop, paste, paste-suc}
 pub use Rattle.worklist.specs.Supports.{replaced}
 
 pub take-replicate {ℓ} : {A : Type ℓ} (m n : ℕ) (x : A) → m ≤ n → take m (replicate n x) ≡ replicate m x
@@ -22,14 +24,15 @@ drop-replicate zero n x = rw (sub-zero n)
 drop-replicate (suc m) zero x = rw (zero-sub (suc m))
 drop-replicate (suc m) (suc n) x = drop-replicate m n x ∙ ap (λ (k : ℕ). replicate k x) (sym (suc-sub-suc n m))
 
+-- how many of the first j places are among the first m
+abbrev pub upto : ℕ → ℕ → ℕ
+upto j m = cond (ltb j m) j m
+
 -- ---- One by one
 
 -- `after` is the list with the first j elements of `new` in place of those from `at` on
 abbrev pub Copied : List ℕ → ℕ → List ℕ → ℕ → List ℕ → Type 0
 Copied list at new j after = (length after ≡ length list) × (after ≡ paste list at new j)
-
-pub copied_none : (list : List ℕ) (at : ℕ) (new : List ℕ) → Copied list at new 0 list
-copied_none list at new = (refl, paste-zero list at new)
 
 pub copied_more : (list : List ℕ) (at : ℕ) (new : List ℕ) (j v : ℕ) (after : List ℕ) → at + j < length list → j < length new → v ≡ get_or new j 0 → Copied list at new j after → Copied list at new (j + 1) (set after (at + j) v)
 copied_more list at new j v after d h e c = (

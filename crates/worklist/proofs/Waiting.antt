@@ -2,17 +2,16 @@
 -- From the model's laws of live words, and the definitions of `others` and `queues`.
 use mathlib.Core.Path.{◌≡◌, refl, sym, ◌∙◌, ap, subst}
 use mathlib.Core.Bool.{Bool, true, false, not, ◌&&◌, ◌||◌, or-false, or_assoc, and-true, and-false}
-use mathlib.Core.List.{List, ◌∷◌}
-use Prim.Native.Nat.{ℕ, suc, ◌+◌, ◌-◌, ◌*◌, ◌/◌, ◌^◌, ◌≤◌, ◌<◌}
-use native.Mathlib.Nat.{div-eq_of_lt-le, le-div_iff_mul-le, zero-div, zero-mul, add-div_right, mul-div_cancel, mul-le-mul_right}
-use native.Mathlib.Numerals.{add-one}
+use mathlib.Core.List.{List}
+use Prim.Native.Nat.{ℕ, ◌+◌, ◌*◌, ◌/◌, ◌^◌, ◌≤◌, ◌<◌}
+use native.Mathlib.Nat.{div-eq_of_lt-le, le-div_iff_mul-le, add-div_right, mul-div_cancel, mul-le-mul_right}
 use native.Mathlib.Decide.{ℕ_discrete, dec_lt}
 use native.Mathlib.Omega.{arith}
 use mir.Val.{Fits}
 use mir.Syntax.{w64}
 use lib.Dec.{ltb, leb, eqb}
 use lib.ListN.{length, get_or, take, drop, replicate, get_or-replicate, drop_of_length-le}
-use lib.Seq.{drop-cons, take-nil}
+use lib.Seq.{take-nil}
 use borrow.Author.Tests.{lt-ltb, le-ltb, le-leb, lt-leb, eq-eqb, ne_eqb}
 use Rattle.model.specs.Limits.{max_pairs}
 use Rattle.model.specs.Lists.{elem}
@@ -78,13 +77,6 @@ wait-then us vs ws f g both a b e q h =
 
 -- ---- The members of one combination
 
--- a part of a list from place q on, by its first element
-pub part-cons : (xs : List ℕ) (q end : ℕ) → q < end → end ≤ length xs → take (end - q) (drop q xs) ≡ get_or xs q 0 ∷ take (end - (q + 1)) (drop (q + 1) xs)
-part-cons xs q end h l =
-    let e : end - q ≡ suc (end - (q + 1)) = omega arith in
-    let i : q < length xs = omega arith in
-    rw (e, drop-cons xs q 0 i, add-one)
-
 module _ (base : ℕ) (members : List ℕ) (r : ℕ) where
   pub others-none : (h : ℕ) → others base base members r h ≡ false
   unfolding others
@@ -126,10 +118,7 @@ visits m members p base = not (eqb (base / m) (p / m)) && elem (pair_member memb
 abbrev pub adds : ℕ → List ℕ → ℕ → ℕ → ℕ → Bool
 adds m members p base h = visits m members p base && others base (base + m) members (pair_member members p) h
 
--- a combination begins at a multiple of m: nought is one, and so is the next after each
-pub multiple-first : (m : ℕ) → 0 / m * m ≡ 0
-multiple-first m = ap (λ (k : ℕ). k * m) (zero-div m) ∙ zero-mul m
-
+-- a combination begins at a multiple of m, and so does the next
 pub multiple-next : (m base : ℕ) → 0 < m → base / m * m ≡ base → (base + m) / m * m ≡ base + m
 multiple-next m base pos e = let q = add-div_right base pos in rw q (omega arith)
 

@@ -23,11 +23,7 @@ pub fn fill(numbers: &mut [u16], n: usize)
     requires { n ≤ length numbers.old }
     ensures { numbers.new ≡ replicate n no_support ++ drop n numbers.old }
 {
-    let mut i = 0;
-    while i < n {
-        numbers[i] = NO_SUPPORT;
-        i += 1;
-    }
+    numbers[..n].fill(NO_SUPPORT);
 }
 
 // The m numbers from `at` on, and noughts behind them. All places are gone through, of which there are few and always as many: so they are
@@ -37,12 +33,10 @@ pub fn load(numbers: &[u16], at: usize, m: usize) -> Indices
     ensures { result ≡ take m (drop at numbers.now) ++ replicate (max_members - m) 0 }
 {
     let mut tuples = [0u16; MAX_MEMBERS];
-    let mut j = 0;
-    while j < MAX_MEMBERS {
+    for j in 0..MAX_MEMBERS {
         if j < m {
             tuples[j] = numbers[at + j];
         }
-        j += 1;
     }
     tuples
 }
@@ -52,11 +46,7 @@ pub fn store(numbers: &mut [u16], at: usize, m: usize, tuples: Indices)
     requires { (at + m ≤ length numbers.old) × (m ≤ max_members) }
     ensures { numbers.new ≡ replaced numbers.old (take m tuples) at m }
 {
-    let mut j = 0;
-    while j < m {
-        numbers[at + j] = tuples[j];
-        j += 1;
-    }
+    numbers[at..at + m].copy_from_slice(&tuples[..m]);
 }
 
 // Sets the m numbers from `at` on to 65,535; all others stay.
@@ -64,11 +54,7 @@ pub fn blank(numbers: &mut [u16], at: usize, m: usize)
     requires { (at + m ≤ length numbers.old) × (m ≤ max_members) }
     ensures { numbers.new ≡ replaced numbers.old (replicate m no_support) at m }
 {
-    let mut j = 0;
-    while j < m {
-        numbers[at + j] = NO_SUPPORT;
-        j += 1;
-    }
+    numbers[at..at + m].fill(NO_SUPPORT);
 }
 
 // Where each pair's numbers begin in the support list, and behind the last pair how many numbers there are.
@@ -77,12 +63,9 @@ pub fn pair_starts(starts: &Starts, members: &[u16], m: u16) -> PairStarts
     ensures { PairsBegin starts.now m members.now result }
 {
     let mut begins = [0u16; PAIR_STARTS];
-    let mut p = 0;
-    while p < members.len() {
-        let r = members[p];
-        let size = tuple_start(starts, r + 1) - tuple_start(starts, r);
+    for (p, r) in members.iter().enumerate() {
+        let size = tuple_start(starts, *r + 1) - tuple_start(starts, *r);
         begins[p + 1] = begins[p] + size * m;
-        p += 1;
     }
     begins
 }
@@ -99,13 +82,11 @@ pub fn all_live(
     requires { Chosen words.now starts.now members.now base m tuples }
     ensures { result ≡ all_live words.now starts.now members.now base m tuples }
 {
-    let mut k = 0;
-    while k < m {
+    for k in 0..m {
         let first = tuple_start(starts, members[base + k]);
         if !is_live(words, first + tuples[k]) {
             return false;
         }
-        k += 1;
     }
     true
 }

@@ -1,7 +1,6 @@
 // The queue (document 01: the waiting list): the pairs of combination and member that wait for a visit, each at most once.
-ghost use Rattle.std.specs.Prelude.{◌≡◌, cond, ℕ, ◌+◌, ◌≤◌, ◌<◌, ltb, length, take, drop};
+ghost use Rattle.std.specs.Prelude.{◌≡◌, cond, ℕ, ◌+◌, ◌≤◌, ◌<◌, ltb, length};
 ghost use Rattle.model.specs.Limits.{max_pairs};
-ghost use Rattle.model.specs.Lists.{elem};
 ghost use Rattle.model.specs.LiveWords.{is_live, next_live, cleared, raised};
 ghost use Rattle.layout.specs.Setting.{Whole};
 ghost use Rattle.worklist.specs.Pairs.{WaitToo, others, queues};
@@ -31,10 +30,8 @@ impl Queue {
         ensures { (q : ℕ) → q < max_pairs → is_live result.words q ≡ ltb q pairs }
     {
         let mut words = [0u64; QUEUE_WORDS];
-        let mut next: u16 = 0;
-        while next < pairs {
-            live::set(&mut words, next);
-            next += 1;
+        for pair in 0..pairs {
+            live::set(&mut words, pair);
         }
         Queue { words }
     }
@@ -66,35 +63,16 @@ impl Queue {
     }
 }
 
-// Whether relation r is one of the m members from `base` on.
-fn holds(members: &[u16], base: usize, m: usize, r: u16) -> bool
-    requires { base + m ≤ length members.now }
-    ensures { result ≡ elem r (take m (drop base members.now)) }
-{
-    let end = base + m;
-    let mut q = base;
-    while q < end {
-        if members[q] == r {
-            return true;
-        }
-        q += 1;
-    }
-    false
-}
-
 // Of the m pairs from `base` on, adds each one whose member is another relation than r.
 fn put_others(queue: Queue, members: &[u16], base: usize, m: usize, r: u16) -> Queue
     requires { (base + m ≤ length members.now) × (length members.now ≤ max_pairs) }
     ensures { WaitToo queue.words (others base (base + m) members.now r) result.words }
 {
-    let end = base + m;
     let mut queue = queue;
-    let mut q = base;
-    while q < end {
+    for q in base..base + m {
         if members[q] != r {
             queue = queue.put(q as u16);
         }
-        q += 1;
     }
     queue
 }
@@ -111,14 +89,10 @@ pub fn requeue(queue: Queue, members: &[u16], m: u16, p: u16) -> Queue
     let r = members[p];
     let own = p / m * m;
     let mut queue = queue;
-    let mut base = 0;
-    while base < members.len() {
-        if base != own {
-            if holds(members, base, m, r) {
-                queue = put_others(queue, members, base, m, r);
-            }
+    for base in (0..members.len()).step_by(m) {
+        if base != own && members[base..base + m].contains(&r) {
+            queue = put_others(queue, members, base, m, r);
         }
-        base += m;
     }
     queue
 }

@@ -3,12 +3,11 @@
 use mathlib.Core.Path.{◌≡◌, refl, sym, ◌∙◌, ap, subst}
 use mathlib.Core.Bool.{Bool, true, false}
 use mathlib.Core.List.{List, ◌∷◌, Memᴰ}
-use mathlib.Core.Logic.{◌⊎◌, ⊎_elim}
-use Prim.Native.Nat.{ℕ, ◌+◌, ◌-◌, ◌*◌, ◌≤◌, ◌<◌}
+use mathlib.Core.Logic.{⊎_elim}
+use Prim.Native.Nat.{ℕ, ◌+◌, ◌-◌, ◌≤◌, ◌<◌}
 use native.Mathlib.Omega.{arith}
 use native.Mathlib.Decide.{dec_lt, ℕ_discrete}
-use lib.ListN.{length, get_or}
-use borrow.Author.Rules.{rules}
+use lib.ListN.{get_or}
 use Rattle.model.specs.Network.{Network, size, first_id}
 use Rattle.model.specs.Agreement.{agree}
 use Rattle.model.specs.LiveWords.{is_live}
@@ -18,7 +17,7 @@ use Rattle.layout.specs.Setting.{Lists, network_in}
 use Rattle.narrowing.specs.TupleRows.{FirstRows, RowFor, Within, in_rows, NextInRows}
 use Rattle.narrowing.proofs.Narrowing.{IdsOf, ids-of}
 use Rattle.narrowing.proofs.TupleRows.{rows-for-within, agreeing-rows}
-use Rattle.support.specs.Search.{id_at, chosen_ids, fits, FittingAt, ComesFrom, FirstFitting}
+use Rattle.support.specs.Search.{id_at, chosen_ids, fits, FittingAt, ComesFrom}
 use Rattle.support.proofs.Chosen.{chosen-mem, fits-clash}
 use Rattle.support.proofs.first_fitting.Statement.{statement}
 use Rattle.support.proofs.first_fitting.Tie as tie

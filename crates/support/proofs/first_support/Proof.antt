@@ -1,6 +1,6 @@
 -- `first_support` narrows the live words for the seeking tuple, if it is live, and members through others, and searches over these; what a long
 -- search came to is noted. From the laws of members, of narrowed words, of the search's two ends, and of what is spent.
-use mathlib.Core.Path.{◌≡◌, refl, sym, ◌∙◌, ap, subst}
+use mathlib.Core.Path.{◌≡◌, sym, ◌∙◌, ap, subst}
 use mathlib.Core.Bool.{true}
 use mathlib.Core.List.{List, ◌++◌}
 use mathlib.Core.Logic.{⊎_elim}
@@ -24,7 +24,7 @@ use Rattle.layout.specs.Starts.{tuple_start}
 use Rattle.narrowing.specs.Narrows.{Long, Narrowed}
 use Rattle.support.specs.declared.Found.{Found}
 use Rattle.support.specs.declared.Stage.{Stage}
-use Rattle.support.specs.Search.{Search, net_of, live_of, seeker, SoundSearch, place_behind, is_found, sought, FindsFirst}
+use Rattle.support.specs.Search.{Search, net_of, live_of, seeker, place_behind, is_found, sought, FindsFirst}
 use Rattle.support.specs.Spent.{Notes, MeetsIn}
 use Rattle.support.proofs.Walking.{few-tuples, member_below, member-start}
 use Rattle.support.proofs.Narrow.{others, on_words, Fewer, put-few, put-alike, fewer-put, put-long, meets-narrowed, sought-none, Root, root-narrowed, root-spread, root-all}

@@ -1,16 +1,12 @@
 -- `search_fresh` narrows members through fresh tuples and through others, and begins the search.
 -- From what narrowing through fresh tuples keeps, and the laws of narrowed words.
-use mathlib.Core.Path.{◌≡◌, refl, sym, ◌∙◌, ap}
+use mathlib.Core.Path.{refl, sym, ◌∙◌}
 use mathlib.Core.List.{List}
-use Prim.Native.Nat.{ℕ, ◌+◌, ◌<◌, ◌≤◌}
-use native.Mathlib.Omega.{arith}
-use borrow.Author.Rules.{rules}
+use Prim.Native.Nat.{ℕ}
 use borrow.Author.Tests.{not-true}
-use Rattle.support.specs.Search.{Search, net_of, seeker}
+use Rattle.support.specs.Search.{Search}
 use Rattle.support.specs.Spent.{Rooted}
-use Rattle.support.proofs.Walking.{few-tuples, member_below, member-start}
-use Rattle.support.proofs.Narrow.{on_words, sought-none, Root, root-spread, root-all}
-use Rattle.support.proofs.Ends.{seeker-below}
+use Rattle.support.proofs.Narrow.{sought-none, Root, root-spread, root-all}
 use Rattle.support.proofs.search_fresh.Statement.{statement}
 use Rattle.support.proofs.search_fresh.Tie as tie
 

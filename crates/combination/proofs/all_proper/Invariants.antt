@@ -1,0 +1,14 @@
+-- The combinations not yet passed decide, and the list goes on with the next.
+use Rattle.std.proofs.Common.{◌≡◌, ◌*◌, drop, length}
+use Rattle.std.specs.Slice.Iter.{chunks_exact_rest, chunks_exact_size}
+use Rattle.model.specs.Lists.{all}
+use Rattle.model.specs.Combination.{combinations}
+use Rattle.combination.specs.Proper.{proper}
+use Rattle.combination.proofs.all_proper.Given as goal
+
+abbrev pub invariant-loop-c : goal.invariant-loop-c
+invariant-loop-c l = record {
+  rest : chunks_exact_rest l.c-iterator ≡ drop (length l.yielded * l.fn.m) l.fn.members;
+  size : chunks_exact_size l.c-iterator ≡ l.fn.m;
+  left : all (proper l.count) (drop (length l.yielded) (combinations l.fn.m l.fn.members)) ≡ all (proper l.count) (combinations l.fn.m l.fn.members);
+}

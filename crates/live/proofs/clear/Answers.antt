@@ -1,0 +1,17 @@
+-- `live::clear` meets its contract: the word that is stored has the definition's bits.
+-- From the law of the word's bits.
+use mathlib.Core.Path.{ap}
+use Prim.Native.Nat.{◌/◌, ◌%◌}
+use native.Mathlib.Omega.{arith}
+use lib.ListN.{get_or, set}
+use Rattle.model.specs.LiveWords.{cleared}
+use Rattle.live.proofs.Bits.{word-clear}
+use borrow.Author.Rules.{rules}
+use Rattle.live.proofs.clear.Goals as goal
+
+pub returns : goal.returns
+unfolding cleared
+returns c =
+    let ws = c.args.words.now in
+    let g = c.args.g in
+    ap (set ws (g / 64)) (word-clear (get_or ws (g / 64) 0) (g % 64) (search rules) (omega arith))

@@ -1,0 +1,8 @@
+-- The first i values are written.
+use Rattle.std.proofs.Common.{◌≡◌}
+use Rattle.model.specs.Moves.{widened}
+use Rattle.model.proofs.Lists.{overlaid}
+use Rattle.moves.proofs.put_widened.Given as goal
+
+abbrev pub invariant-loop-i : goal.invariant-loop-i
+invariant-loop-i l = l.target ≡ overlaid widened l.values l.initial.target l.i

@@ -1,0 +1,8 @@
+-- The words passed are narrowed, and `any` is what is left of them.
+use Rattle.std.proofs.Common.{◌*◌}
+use Rattle.narrowing.specs.Narrows.{Keeps}
+use Rattle.narrowing.specs.TupleRows.{four, in_rows}
+use Rattle.narrowing.proofs.kept.keep_four.Given as goal
+
+abbrev pub invariant-loop-i : goal.invariant-loop-i
+invariant-loop-i l = Keeps (in_rows l.index (four l.a l.b l.c l.d) 4) (64 * l.from) (64 * l.i) l.initial.words l.words l.any

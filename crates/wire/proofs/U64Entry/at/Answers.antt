@@ -1,0 +1,7 @@
+-- The two halves of an entry, by their law.
+use Rattle.std.proofs.Common.{rules}
+use Rattle.wire.proofs.Entries.{entry-halves}
+use Rattle.wire.proofs.U64Entry.at.Goals as goal
+
+pub returns : goal.returns
+returns c = search (rules, entry-halves 4)
