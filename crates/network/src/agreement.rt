@@ -1,13 +1,11 @@
 // Where tuples clash, and which agree.
 ghost use Rattle.std.specs.Prelude.{◌≡◌};
-ghost use Rattle.std.proofs.Math.Option.{some};
-ghost use Rattle.model.specs.Lists.{lesser};
 ghost use Rattle.model.specs.Agreement.{cells, first_clashing, clash_number};
 ghost use Rattle.layout.specs.Loan.{entry};
 ghost use Rattle.layout.specs.Setting.{lists};
 ghost use Rattle.network.specs.Tuples.{Columns, Two, clash_at, agree_at};
 
-use layout::{Starts, column_of, fit, place_of};
+use layout::{Starts, fit, place_of};
 use model::{NO_VARIABLE, Value};
 
 // The lowest variable of both scopes whose values do not fit; 64 where there is none.
@@ -17,9 +15,13 @@ pub fn first_clash(scope_a: &[u16], a: &[Value], scope_b: &[u16], b: &[Value]) -
 {
     let mut lowest = NO_VARIABLE;
     for (i, x) in scope_a.iter().enumerate() {
-        let j = column_of(scope_b, *x);
-        if j < scope_b.len() && !fit(a[i], b[j]) {
-            lowest = lowest.min(*x);
+        'shared: for (j, y) in scope_b.iter().enumerate() {
+            if *x == *y {
+                if !fit(a[i], b[j]) {
+                    lowest = lowest.min(*x);
+                }
+                break 'shared;
+            }
         }
     }
     lowest

@@ -1,5 +1,5 @@
 // The faults of a network, in checking order.
-ghost use Rattle.std.specs.Prelude.{◌≡◌, [], map, ℕ, ◌≤◌, ltb, length, drop, replicate};
+ghost use Rattle.std.specs.Prelude.{◌≡◌, [], map, ℕ, ◌≤◌, ltb, length, replicate};
 ghost use Rattle.model.specs.Limits.{max_relations, variable_count};
 ghost use Rattle.model.specs.Lists.{from, sum, all, pairwise};
 ghost use Rattle.model.specs.Network.{variables_in, tuples_in, values_in};
