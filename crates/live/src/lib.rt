@@ -99,10 +99,13 @@ pub fn copied(words: &[u64], n: usize) -> Words
     copy
 }
 
-// The first n words are those of the copy, and all others stay.
+// The first n words are those of the copy, and all others stay. By a loop of its own: a slice's method would be a call of memmove in support,
+// and the archive for C needs memcpy and memset alone.
 pub fn put_back(copy: &Words, words: &mut [u64], n: usize)
     requires { (length copy.now ≡ 64) × ((n ≤ 64) × (n ≤ length words.old)) }
     ensures { words.new ≡ take n copy.now ++ drop n words.old }
 {
-    words[..n].copy_from_slice(&copy[..n]);
+    for i in 0..n {
+        words[i] = copy[i];
+    }
 }

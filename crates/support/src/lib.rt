@@ -2,7 +2,7 @@
 // the tuples that may agree with it, but for the last one, whose tuples are tried at once.
 #![tactic(auto)]
 
-ghost use Rattle.std.specs.Prelude.{◌≡◌, true, ◌+◌, ◌≤◌, ◌<◌, ◌++◌, length, take, drop};
+ghost use Rattle.std.specs.Prelude.{◌≡◌, true, ◌+◌, ◌≤◌, ◌<◌, length};
 ghost use Rattle.model.specs.Limits.{max_relations, max_members};
 ghost use Rattle.doubles.specs.Alike.{MembersIn};
 ghost use Rattle.doubles.specs.Doubles.{places};
@@ -17,7 +17,7 @@ use doubles::alike::variables_from;
 use doubles::{PLACES, Table, first_alike};
 use layout::{Starts, put, tuple_count, tuple_start};
 use live::ids::live_ids;
-use live::{WORDS, Words, clear, is_live, next, words_for};
+use live::{WORDS, Words, clear, is_live, next, put_back, words_for};
 use model::{MAX_MEMBERS, MAX_WIDTH, NO_SUPPORT, Value};
 use narrowing::narrow_members;
 use narrowing::rows::{TUPLE_ROWS, next_in_rows, rows_for};
@@ -1017,17 +1017,6 @@ fn search_fresh(
     search_all(
         variables, values, starts, index, &fewer, members, place, own, low, spare,
     )
-}
-
-// The first n words are those of the copy, and all others stay. It is live's, by a loop of its own: made by a slice's method it would
-// be a call of memmove here, and the archive for C needs memcpy and memset alone.
-fn put_back(copy: &Words, words: &mut [u64], n: usize)
-    requires { (length copy.now ≡ 64) × ((n ≤ 64) × (n ≤ length words.old)) }
-    ensures { words.new ≡ take n copy.now ++ drop n words.old }
-{
-    for i in 0..n {
-        words[i] = copy[i];
-    }
 }
 
 // These steps, or none where members are narrowed through fresh tuples first.

@@ -1,6 +1,6 @@
 -- The words before i are put back, and all others are as at entry.
 use Rattle.std.proofs.Common.{◌≡◌, ◌++◌, length, take, drop}
-use Rattle.support.proofs.put_back.Given as goal
+use Rattle.live.proofs.put_back.Given as goal
 
 abbrev pub invariant-loop-i : goal.invariant-loop-i
 invariant-loop-i l = record {
