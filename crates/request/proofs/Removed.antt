@@ -11,8 +11,8 @@ use native.Mathlib.Decide.{dec_lt}
 use native.Mathlib.Omega.{arith}
 use lib.Bits.{bit_and, and_le_l}
 use lib.Dec.{eqb, leb, ltb}
-use lib.ListN.{length, get_or, drop, replicate, get_or-replicate, drop_of_length-le}
-use lib.Seq.{drop-cons}
+use lib.ListN.{length, get_or, set, drop, replicate, length-set, get_or-replicate, drop_of_length-le}
+use lib.Seq.{drop-cons, get_or-set_same, get_or-set_other}
 use borrow.Author.Tests.{lt-ltb, le-ltb, ltb-true, ltb-false, le-leb, leb-true, eqb-true, ne_eqb}
 use Rattle.model.specs.Limits.{max_tuples, word_bits}
 use Rattle.model.specs.Lists.{elem}
@@ -169,7 +169,25 @@ pub record Cut (words₀ removed words : List ℕ) (i : ℕ) : Type 0 where
   pub left : (j : ℕ) → i ≤ j → get_or words j 0 ≡ get_or words₀ j 0
 
 module _ (words₀ removed : List ℕ) where
+  pub cut-start : Cut words₀ removed words₀ 0
+  cut-start = record { long = refl; done = λ j h. absurd (omega arith); left = λ j h. refl }
+
   module _ (words : List ℕ) (i : ℕ) (c : Cut words₀ removed words i) where
+    pub cut-next : i < length words → Cut words₀ removed (set words i (cut (get_or words i 0) (get_or removed i 0))) (i + 1)
+    cut-next h =
+        let v = cut (get_or words i 0) (get_or removed i 0) in
+        record {
+          long = length-set words i v ∙ c.long;
+          done = λ j l. at j l (dec_lt j i);
+          left = λ j l. get_or-set_other words i j v 0 (λ e. omega arith) ∙ c.left j (omega arith);
+        }
+      where
+        at : (j : ℕ) → j < i + 1 → Dec (j < i) → get_or (set words i (cut (get_or words i 0) (get_or removed i 0))) j 0 ≡ cut (get_or words₀ j 0) (get_or removed j 0)
+        at j l (yes b) = get_or-set_other words i j (cut (get_or words i 0) (get_or removed i 0)) 0 (λ e. omega arith) ∙ c.done j b
+        at j l (no b) =
+            let e : j ≡ i = omega arith in
+            rw e (get_or-set_same words i (cut (get_or words i 0) (get_or removed i 0)) 0 h ∙ ap (λ (w : ℕ). cut w (get_or removed i 0)) (c.left i (omega arith)))
+
     module _ (n : ℕ) (room : Room words₀ removed n) (small : Small words₀) (all : i ≡ (n + 63) / 64) where
       -- a bit of a word that is cut
       bit_cut : (g : ℕ) → g / 64 < i → is_live words g ≡ (is_live words₀ g && not (is_live removed g))
